@@ -113,6 +113,13 @@ module _ {A : Type 0} {p : Reader A} {f : A → List ℕ} {P : A → Type 0} (h 
   counted-accepts : (low high : ℕ) → high < 65536 → (l : List A) → Some low high P l → Accepts (counted low (suc high) p) (countedBytes f l) l
   counted-accepts low high w l e = then-accepts _ (between-accepts low (suc high) 3 (length l) (e .0) (omega (arith, e .1)) w) (many-accepts l (e .2))
 
+pub valued-length : (ds values : List ℕ) → Valued ds values → length values ≡ length ds
+unfolding Valued
+valued-length [] [] h = refl
+valued-length [] (v ∷ values) h = absurd h
+valued-length (x ∷ ds) [] h = absurd h
+valued-length (x ∷ ds) (v ∷ values) h = ap suc (valued-length ds values (h .1))
+
 module _ (d : Dimensions) (few : d .characters ≤ 6) (slim : length (d .domains) ≤ 24) (small : (f : ℕ) → getD (d .domains) f 0 ≤ 128) where
   abbrev C : ℕ
   C = d .characters
@@ -209,13 +216,6 @@ module _ (d : Dimensions) (few : d .characters ≤ 6) (slim : length (d .domains
       let next : (i : ℕ) → getD D ((f + 1) + i) 0 ≡ getD ds i 0 = λ i. let g : (f + 1) + i ≡ f + suc i = omega arith in ap (λ (n : ℕ). getD D n 0) g ∙ e (suc i) in
       (value-accepts f v (omega (arith, h .0)), values-run ds values (f + 1) next (h .1))
 
-  valued-length : (ds values : List ℕ) → Valued ds values → length values ≡ length ds
-  unfolding Valued
-  valued-length [] [] h = refl
-  valued-length [] (v ∷ values) h = absurd h
-  valued-length (x ∷ ds) [] h = absurd h
-  valued-length (x ∷ ds) (v ∷ values) h = ap suc (valued-length ds values (h .1))
-
   values-accepts : (values : List ℕ) → Valued D values → Accepts (runs (valueAt d) (λ f v. f + 1) 0 (length D)) (listBytes numberBytes values) values
   values-accepts values h =
       subst (λ (k : ℕ). Accepts (runs (valueAt d) (λ f v. f + 1) 0 k) (listBytes numberBytes values) values) (valued-length D values h)
@@ -252,7 +252,7 @@ unfolding Each
 each-weak P Q f [] e = tt
 each-weak P Q f (a ∷ l) e = (f a (e .0), each-weak P Q f l (e .1))
 
-sizes-small : (ds : List ℕ) → Each (λ d. (1 ≤ d) × (d ≤ 128)) ds → (f : ℕ) → getD ds f 0 ≤ 128
+pub sizes-small : (ds : List ℕ) → Each (λ d. (1 ≤ d) × (d ≤ 128)) ds → (f : ℕ) → getD ds f 0 ≤ 128
 sizes-small ds h f = each-at (λ d. d ≤ 128) 0 (omega arith) ds (each-weak (λ d. (1 ≤ d) × (d ≤ 128)) (λ d. d ≤ 128) (λ d g. g .1) ds h) f
 
 module _ (p : Pack) (h : PackFits p) where
