@@ -1,3 +1,4 @@
 pub mod Reading
 pub mod Accepts
 pub mod Exact
+pub mod Table

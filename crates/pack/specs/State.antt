@@ -29,27 +29,27 @@ Valid C (c ∷ chain) = (c < C) × Valid C chain
 abbrev pub nowhere : Node
 nowhere = record { values = []; beliefs = [] }
 
+abbrev pub node : List Node → ℕ → Node
+node t n = getD t n nowhere
+
+-- the node that n's belief for c names: "one belief edge per character"
+abbrev pub target : List Node → ℕ → ℕ → ℕ
+target t n c = getD (node t n .beliefs) c 0
+
+-- the state that node n means; a character that isn't there finds nothing
 module _ (C : ℕ) (t : List Node) where
-  abbrev pub node : ℕ → Node
-  node n = getD t n nowhere
-
-  -- the node that n's belief for c names: "one belief edge per character"
-  abbrev pub target : ℕ → ℕ → ℕ
-  target n c = getD (node n .beliefs) c 0
-
-  -- the state that node n means; a character that isn't there finds nothing
   unfoldable pub meaning : ℕ → State
-  meaning n [] = node n .values
-  meaning n (c ∷ chain) = cond (ltb c C) (meaning (target n c) chain) []
+  meaning n [] = node t n .values
+  meaning n (c ∷ chain) = cond (ltb c C) (meaning (target t n c) chain) []
 
-  -- every belief names a node
-  abbrev pub Closed : Type 0
-  Closed = (n c : ℕ) → n < length t → c < C → target n c < length t
+-- the node where a chain from node n leads
+unfoldable pub walk : List Node → ℕ → List ℕ → ℕ
+walk t n [] = n
+walk t n (c ∷ chain) = walk t (target t n c) chain
 
-  -- the node where a chain from node n leads
-  unfoldable pub walk : ℕ → List ℕ → ℕ
-  walk n [] = n
-  walk n (c ∷ chain) = walk (target n c) chain
+-- every belief names a node
+abbrev pub Closed : ℕ → List Node → Type 0
+Closed C t = (n c : ℕ) → n < length t → c < C → target t n c < length t
 
 -- each node has a value for each fluent
 abbrev pub Sized : ℕ → List Node → Type 0

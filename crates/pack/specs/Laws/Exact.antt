@@ -478,11 +478,11 @@ each-in P x (a ∷ l) e (suc i) h = each-in P x l (e .1) i (omega arith)
 
 -- A chart that is read is a table: its beliefs name its nodes, and each node has a value for each fluent
 module _ (C : ℕ) (D : List ℕ) (t : List Node) (h : ChartFits C D t) where
-  fits-node : (n : ℕ) → n < length t → NodeFits C D (length t) (node C t n)
+  fits-node : (n : ℕ) → n < length t → NodeFits C D (length t) (node t n)
   fits-node = each-in (NodeFits C D (length t)) nowhere t (h .2)
 
   pub fits-closed : Closed C t
-  fits-closed n c l g = let r = fits-node n l in each-in (λ b. b < length t) 0 (node C t n .beliefs) (r .beliefs) c (omega (arith, r .believers))
+  fits-closed n c l g = let r = fits-node n l in each-in (λ b. b < length t) 0 (node t n .beliefs) (r .beliefs) c (omega (arith, r .believers))
 
   pub fits-sized : Sized (length D) t
-  fits-sized n l = valued-length D (node C t n .values) (fits-node n l .values)
+  fits-sized n l = valued-length D (node t n .values) (fits-node n l .values)
