@@ -1,0 +1,8 @@
+pub mod Changed
+pub mod Quiet
+pub mod Settled
+pub mod Tabled
+pub mod Decided
+pub mod Wide
+pub mod Stepping
+pub mod Step

@@ -1,0 +1,76 @@
+-- Step's function is its relation over chains; it depends on what the table means alone, and what it gives is a table again. Assumes nothing.
+use Prim.Native.Nat.{ℕ, _≤_}
+use mathlib.Core.Path.{_≡_, refl, sym, subst}
+use mathlib.Core.Logic.{_↔_}
+use mathlib.Core.List.{List}
+use lib.ListN.{length}
+use Rattle.pack.specs.State.{State, meaning}
+use Rattle.pack.specs.Syntax.{Theory, Node}
+use Rattle.chart.specs.Chart.{Written}
+use Rattle.chart.specs.Laws.Answers.{written-table, written-sized}
+use Rattle.chart.specs.Laws.Charted.{chart}
+use Rattle.chart.specs.Laws.Counted.{counted}
+use Rattle.chart.specs.Laws.Tables.{IsTable, IsFull, wide-table, on-table}
+use Rattle.chart.specs.Laws.Unique.{ordered-reached, some}
+use Rattle.transition.specs.Answers.{stepTable}
+use Rattle.transition.specs.Happening.{Plays}
+use Rattle.transition.specs.Step.{Outcome, leaves, refused, Steps}
+use Rattle.transition.specs.Laws.Settled.{settles-few}
+use Rattle.transition.specs.Laws.Stepping.{stepOf, steps, steps-one}
+use Rattle.transition.specs.Laws.Wide.{wide-plays}
+
+-- The function over any list of nodes
+module _ (p : Theory) (t : List Node) (r : IsTable (p .characters) t) where
+  abbrev means0 : State
+  means0 = meaning (p .characters) t 0
+
+  pub step-table : (a : ℕ) → Steps p means0 a (stepTable p t a)
+  unfolding stepTable
+  step-table a = on-table (p .characters) t (λ x. stepOf p x a) (refused 0) (Steps p means0 a) r (λ x. steps p x a)
+
+  pub step-table-iff : (a : ℕ) (o : Outcome) → Steps p means0 a o ↔ (stepTable p t a ≡ o)
+  step-table-iff a o = (λ y. steps-one (step-table a) y, λ e. subst (Steps p means0 a) e (step-table a))
+
+-- two tables with one meaning
+module _ (p : Theory) (t u : List Node) (r : IsTable (p .characters) t) (q : IsTable (p .characters) u) (e : meaning (p .characters) t 0 ≡ meaning (p .characters) u 0) where
+  pub step-table-same : (a : ℕ) → stepTable p t a ≡ stepTable p u a
+  step-table-same a = step-table-iff p t r a (stepTable p u a) .0 (subst (λ (s : State). Steps p s a (stepTable p u a)) (sym e) (step-table p u q a))
+
+unfoldable pub IsLeaves : Outcome → List Node → Type 0
+IsLeaves (leaves v) u = v ≡ u
+IsLeaves (refused n) u = ⊥
+
+pub leaves-only : (o : Outcome) (u : List Node) → o ≡ leaves u → IsLeaves o u
+unfolding IsLeaves
+leaves-only o u e = subst (λ (o : Outcome). IsLeaves o u) (sym e) refl
+
+-- Step gives a chart exactly where the action is playable, and then that of the state it leaves
+pub step-leaves : (p : Theory) (t : List Node) → IsTable (p .characters) t → (a : ℕ) (u : List Node)
+    → (stepTable p t a ≡ leaves u) ↔ (Written (p .characters) u × Plays p (meaning (p .characters) t 0) a (meaning (p .characters) u 0))
+unfolding IsLeaves
+step-leaves p t r a u = (λ e. go (leaves u) (step-table-iff p t r a (leaves u) .1 e) u refl, λ x. step-table-iff p t r a (leaves u) .0 (Steps.left (x .0) (x .1)))
+  where
+    Left : List Node → Type 0
+    Left u = Written (p .characters) u × Plays p (meaning (p .characters) t 0) a (meaning (p .characters) u 0)
+
+    go : (o : Outcome) → Steps p (meaning (p .characters) t 0) a o → (u : List Node) → o ≡ leaves u → Left u
+    go o (Steps.left {rows = v} w x) u e = subst Left (leaves-only _ u e) (w, x)
+    go o (Steps.failed l x) u e = absurd (leaves-only _ u e)
+    go o (Steps.missing l) u e = absurd (leaves-only _ u e)
+
+module _ (p : Theory) (t : List Node) (r : IsFull (p .characters) (length (p .domains)) t) where
+  module _ (a : ℕ) (u : List Node) (e : stepTable p t a ≡ leaves u) where
+    left : Written (p .characters) u × Plays p (meaning (p .characters) t 0) a (meaning (p .characters) u 0)
+    left = step-leaves p t (r .0) a u .0 e
+
+    pub step-full : IsFull (p .characters) (length (p .domains)) u
+    step-full = (
+      written-table (p .characters) u (left .0),
+      written-sized (p .characters) (length (p .domains)) u (left .0)
+          (wide-plays p (length (p .domains)) (meaning (p .characters) t 0) a (meaning (p .characters) u 0) (left .1) (wide-table (p .characters) (length (p .domains)) t (r .0 .0) (r .1) (r .0 .1))),
+    )
+
+    pub step-few : length u ≤ 32
+    step-few =
+        let w = left .0 .ordered in
+        counted (p .characters) u (ordered-reached (p .characters) u w) (w .closed) (some u (w .whole)) (left .0 .apart) 32 .0 (settles-few p 16 _ (meaning (p .characters) u 0) (left .1 .settles))

@@ -1,0 +1,87 @@
+-- An action on a state that a table means, and a round from it, give such a state. Assumes nothing.
+use Prim.Native.Nat.{ℕ, zero, suc, _<_, _≤_}
+use mathlib.Core.Path.{_≡_, refl, sym, ap, subst}
+use mathlib.Core.Bool.{Bool, true, false, cond}
+use mathlib.Core.Logic.{⊎-elim}
+use mathlib.Core.List.{List, [], _∷_, _++_, map, List·Memᴰ, List·Memᴰ·head, List·Memᴰ·tail, List·Memᴰ·cases-cons, List·Memᴰ·append-cases, Memᴰ·append-left, Memᴰ·append-right}
+use lib.ListN.{length}
+use native.Mathlib.Nat.{eq-or-lt-of-le, le-of-suc-le-suc}
+use native.Mathlib.Omega.{arith}
+use Rattle.pack.specs.State.{State, meaning, target, Closed}
+use Rattle.pack.specs.Syntax.{Action, Trigger, Effect, Node}
+use Rattle.pack.specs.Laws.Table.{means}
+use Rattle.chart.specs.Laws.Built.{Family}
+use Rattle.chart.specs.Laws.Lists.{below, map-in, map-out, below-in, below-out}
+use Rattle.chart.specs.Laws.Tabled.{enumerated, tabled-same, Tabled}
+use Rattle.transition.specs.Happening.{act, round, observes, fires}
+use Rattle.transition.specs.Laws.Changed.{Member, root, edge, old, There, sem, valuesOf, next, acted, rounded}
+
+-- the members of a change: the root, every edge, every old row
+edges : ℕ → ℕ → List Member
+edges C zero = []
+edges C (suc m) = map (edge m) (below C) ++ edges C m
+
+edges-in : (C n m c : ℕ) → m < n → c < C → List·Memᴰ (edge m c) (edges C n)
+unfolding edges
+edges-in C zero m c h g = absurd (omega arith)
+edges-in C (suc n) m c h g =
+    ⊎-elim (λ (e : m ≡ n). Memᴰ·append-left (edges C n) (subst (λ (x : ℕ). List·Memᴰ (edge m c) (map (edge x) (below C))) e (map-in (edge m) (below C) c (below-in C c g))))
+    (λ (l : m < n). Memᴰ·append-right (map (edge n) (below C)) (edges-in C n m c l g)) (eq-or-lt-of-le (le-of-suc-le-suc h))
+
+module _ (C N : ℕ) where
+  In : Member → Type 0
+  In root = Unit {0}
+  In (edge m c) = (m < N) × (c < C)
+  In (old m) = m < N
+
+  edges-out : (n : ℕ) → n ≤ N → (k : Member) → List·Memᴰ k (edges C n) → In k
+  unfolding edges In
+  edges-out zero h k m = elim m [ ]
+  edges-out (suc n) h k m =
+      ⊎-elim (λ (m : List·Memᴰ k (map (edge n) (below C))). let (c, i, e) = map-out (edge n) (below C) k m in subst In (sym e) (h, below-out C c i))
+      (λ (m : List·Memᴰ k (edges C n)). edges-out n (omega arith) k m) (List·Memᴰ·append-cases (map (edge n) (below C)) m)
+
+  rest : List Member
+  rest = map old (below N) ++ edges C N
+
+  listed : (k : Member) → List·Memᴰ k (root ∷ rest) → In k
+  unfolding In rest
+  listed k m =
+      ⊎-elim (λ (e : k ≡ root). subst In (sym e) tt)
+      (λ (m : List·Memᴰ k rest). ⊎-elim (λ (m : List·Memᴰ k (map old (below N))). let (n, i, e) = map-out old (below N) k m in subst In (sym e) (below-out N n i))
+      (λ (m : List·Memᴰ k (edges C N)). edges-out N (omega arith) k m) (List·Memᴰ·append-cases (map old (below N)) m)) (List·Memᴰ·cases-cons m)
+
+  whole : (k : Member) → In k → List·Memᴰ k (root ∷ rest)
+  unfolding In rest
+  whole root h = List·Memᴰ·head refl
+  whole (edge m c) h = List·Memᴰ·tail (Memᴰ·append-right (map old (below N)) (edges-in C N m c (h .0) (h .1)))
+  whole (old m) h = List·Memᴰ·tail (Memᴰ·append-left (edges C N) (map-in old (below N) m (below-in N m h)))
+
+module _ (C : ℕ) (t : List Node) (closed : Closed C t) (some : 0 < length t) (effects : State → List Effect) (takes : State → ℕ → Bool) (f : State → State)
+    (fam : Family C (There C) (sem C t f) (valuesOf effects takes C t) (next effects takes C t)) where
+  abbrev Has : Member → Type 0
+  Has = In C (length t)
+
+  has-real : (k : Member) → Has k → There C k
+  unfolding In
+  has-real root h = tt
+  has-real (edge m c) h = h .1
+  has-real (old m) h = tt
+
+  has-next : (k : Member) → Has k → (c : ℕ) → c < C → Has (next effects takes C t k c)
+  unfolding In
+  has-next root h d l = (some, l)
+  has-next (edge m c) h d l =
+      let n = target t m c in
+      let ln : n < length t = closed m c (h .0) (h .1) in
+      elim (takes (meaning C t m) c) as (λ b. Has (cond b (edge n d) (old (target t n d)))) [ true ↦ (ln, l) | false ↦ closed n d ln l ]
+  has-next (old m) h d l = closed m d h l
+
+  tabled-change : Tabled C (f (meaning C t 0))
+  tabled-change = enumerated C fam Has has-real has-next root (rest C (length t)) (listed C (length t)) (whole C (length t))
+
+pub tabled-act : {C : ℕ} {s : State} → Tabled C s → (a : Action) → Tabled C (act a s)
+tabled-act {C} x a = tabled-same (ap (act a) (x .means)) (tabled-change C (x .table) (x .closed) (x .some) (λ s. a .effects) (observes a) (act a) (acted C (x .table) a))
+
+pub tabled-round : {C : ℕ} {s : State} → Tabled C s → (ts : List Trigger) → Tabled C (round ts s)
+tabled-round {C} x ts = tabled-same (ap (round ts) (x .means)) (tabled-change C (x .table) (x .closed) (x .some) (fires ts) (λ s c. true) (round ts) (rounded C (x .table) ts))

@@ -1,0 +1,4 @@
+pub mod Happening
+pub mod Step
+pub mod Laws
+pub mod Answers
