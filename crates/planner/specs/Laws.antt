@@ -1,0 +1,5 @@
+pub mod Leads
+pub mod Explaining
+pub mod Searching
+pub mod Answers
+pub mod Played

@@ -1,0 +1,50 @@
+-- Explained's and Search's functions are their relations over chains, and depend on what the table means alone. Assumes nothing.
+use Prim.Native.Nat.{ℕ}
+use mathlib.Core.Path.{_≡_, refl, sym, subst}
+use mathlib.Core.Bool.{Bool, true, false, true≢false}
+use mathlib.Core.Logic.{_↔_}
+use mathlib.Core.List.{List}
+use Rattle.pack.specs.State.{State, meaning}
+use Rattle.pack.specs.Syntax.{Theory, Node}
+use Rattle.chart.specs.Laws.Tables.{on-table, IsTable}
+use Rattle.planner.specs.Answers.{says, explainedTable, searchTable}
+use Rattle.planner.specs.Ending.{Explained}
+use Rattle.planner.specs.Search.{Answer, Searched, none}
+use Rattle.planner.specs.Laws.Explaining.{explained?}
+use Rattle.planner.specs.Laws.Searching.{searchOf, searched, searched-one}
+
+pub says-iff : {A : Type 0} (d : Dec A) → (says d ≡ true) ↔ A
+unfolding says
+says-iff (yes x) = (λ e. x, λ y. refl)
+says-iff (no x) = (λ e. absurd (true≢false (sym e)), λ y. absurd (x y))
+
+-- The functions over any list of nodes
+module _ (p : Theory) (t : List Node) (r : IsTable (p .characters) t) where
+  abbrev means0 : State
+  means0 = meaning (p .characters) t 0
+
+  pub search-table : (K T E : ℕ) → Searched p K T E means0 (searchTable p K T E t)
+  unfolding searchTable
+  search-table K T E = on-table (p .characters) t (searchOf p K T E) none (Searched p K T E means0) r (searched p K T E)
+
+  pub explained-table-iff : (K e c a : ℕ) → (explainedTable p K e c a t ≡ true) ↔ Explained p K e c a means0
+  unfolding explainedTable
+  explained-table-iff K e c a = on-table (p .characters) t (λ x. says (explained? p K e c a means0 x)) false (λ b. (b ≡ true) ↔ Explained p K e c a means0) r (λ x. says-iff (explained? p K e c a means0 x))
+
+  pub search-table-iff : (K T E : ℕ) (o : Answer) → Searched p K T E means0 o ↔ (searchTable p K T E t ≡ o)
+  search-table-iff K T E o = (λ y. searched-one p K T E means0 (searchTable p K T E t) o (search-table K T E) y, λ e. subst (Searched p K T E means0) e (search-table K T E))
+
+-- two tables with one meaning
+module _ (p : Theory) (t u : List Node) (r : IsTable (p .characters) t) (q : IsTable (p .characters) u) (e : meaning (p .characters) t 0 ≡ meaning (p .characters) u 0) where
+  pub search-table-same : (K T E : ℕ) → searchTable p K T E t ≡ searchTable p K T E u
+  search-table-same K T E = search-table-iff p t r K T E (searchTable p K T E u) .0 (subst (λ (s : State). Searched p K T E s (searchTable p K T E u)) (sym e) (search-table p u q K T E))
+
+  pub explained-table-same : (K n c a : ℕ) → explainedTable p K n c a t ≡ explainedTable p K n c a u
+  explained-table-same K n c a = bools (explainedTable p K n c a t) (explainedTable p K n c a u)
+      (λ x. explained-table-iff p u q K n c a .1 (subst (λ (s : State). Explained p K n c a s) e (explained-table-iff p t r K n c a .0 x)))
+      (λ x. explained-table-iff p t r K n c a .1 (subst (λ (s : State). Explained p K n c a s) (sym e) (explained-table-iff p u q K n c a .0 x)))
+    where
+      bools : (a b : Bool) → (a ≡ true → b ≡ true) → (b ≡ true → a ≡ true) → a ≡ b
+      bools true b f g = sym (f refl)
+      bools false true f g = g refl
+      bools false false f g = refl

@@ -1,0 +1,4 @@
+pub mod Ending
+pub mod Search
+pub mod Laws
+pub mod Answers
