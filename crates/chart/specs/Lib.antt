@@ -4,3 +4,6 @@ pub mod Earliest
 pub mod Compare
 pub mod Laws
 pub mod Answers
+pub mod Call
+pub mod Replies
+pub mod Promises

@@ -1,4 +1,4 @@
--- How many states chains lead to, and that each finds a value for each fluent.
+-- How many states chains lead to, and what holds wherever they lead.
 use Prim.Native.Nat.{ℕ, _≤_}
 use mathlib.Core.Path.{_≡_}
 use mathlib.Core.List.{List, List·Memᴰ}
@@ -11,6 +11,10 @@ AtMost n C s =
     (reached : List (List ℕ)) × (length reached ≤ n)
     × ((chain : List ℕ) → Valid C chain → (r : List ℕ) × List·Memᴰ r reached × (after s chain ≡ after s r))
 
+-- every chain finds values of which P holds
+abbrev pub Everywhere : ℕ → (List ℕ → Type 0) → State → Type 0
+Everywhere C P s = (chain : List ℕ) → Valid C chain → P (s chain)
+
 -- each chain finds a value for each of F fluents: "the fluent values found where it leads"
 abbrev pub Wide : ℕ → ℕ → State → Type 0
-Wide C F s = (chain : List ℕ) → Valid C chain → length (s chain) ≡ F
+Wide C F = Everywhere C (λ values. length values ≡ F)

@@ -2,3 +2,5 @@ pub mod Ending
 pub mod Search
 pub mod Laws
 pub mod Answers
+pub mod Replies
+pub mod Promises

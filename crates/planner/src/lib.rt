@@ -1,1 +1,13 @@
-// The planner layer.
+// The planner layer: explanations and endings. What it promises stands in specs/; here are the answers that its public calls hand back.
+
+// What Explained hands back: yes or no, or a refusal's number and place.
+pub enum Judged {
+    Verdict(bool),
+    Refused(u8, usize),
+}
+
+// What Search hands back: the length of the list and the author's utility ("worth") at the start and at the list's end; 13 is a refusal's number, "no ending".
+pub enum Found {
+    Ending(usize, u32, u32),
+    Refused(u8, usize),
+}

@@ -2,3 +2,5 @@ pub mod Happening
 pub mod Step
 pub mod Laws
 pub mod Answers
+pub mod Replies
+pub mod Promises

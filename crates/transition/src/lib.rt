@@ -1,1 +1,1 @@
-// The transition layer.
+// The transition layer: what actions and triggers make of a state. What it promises stands in specs/; Step hands back chart's `Charted`.
