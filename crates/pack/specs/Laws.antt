@@ -1,4 +1,5 @@
 pub mod Reading
+pub mod Table
+pub mod Fits
 pub mod Accepts
 pub mod Exact
-pub mod Table

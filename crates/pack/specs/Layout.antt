@@ -85,19 +85,19 @@ Valued [] (v ∷ values) = ⊥
 Valued (d ∷ domains) [] = ⊥
 Valued (d ∷ domains) (v ∷ values) = (v < d) × Valued domains values
 
-module _ (C : ℕ) (domains : List ℕ) where
-  -- a fluent that is there, and one of its values
-  abbrev pub OfFluent : (fluent value : ℕ) → Type 0
-  OfFluent fluent value = (fluent < length domains) × (value < getD domains fluent 0)
+-- a fluent that is there, and one of its values
+abbrev pub OfFluent : (domains : List ℕ) (fluent value : ℕ) → Type 0
+OfFluent domains fluent value = (fluent < length domains) × (value < getD domains fluent 0)
 
+module _ (C : ℕ) (domains : List ℕ) where
   abbrev pub TestFits : Test → Type 0
-  TestFits t = Some 0 4 (λ c. c < C) (t .chain) × OfFluent (t .fluent) (t .value)
+  TestFits t = Some 0 4 (λ c. c < C) (t .chain) × OfFluent domains (t .fluent) (t .value)
 
   abbrev pub ConditionFits : Condition → Type 0
   ConditionFits = Some 0 8 (Some 0 8 TestFits)
 
   abbrev pub EffectFits : Effect → Type 0
-  EffectFits e = (e .whom ≤ C) × OfFluent (e .fluent) (e .value)
+  EffectFits e = (e .whom ≤ C) × OfFluent domains (e .fluent) (e .value)
 
   pub record ActionFits (a : Action) : Type 0 where
     pub condition : ConditionFits (a .condition)

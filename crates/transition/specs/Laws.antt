@@ -3,6 +3,6 @@ pub mod Quiet
 pub mod Settled
 pub mod Tabled
 pub mod Decided
-pub mod Wide
+pub mod Kept
 pub mod Stepping
 pub mod Step

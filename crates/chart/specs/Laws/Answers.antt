@@ -5,17 +5,19 @@ use mathlib.Core.Logic.{dite, _↔_}
 use mathlib.Core.List.{List, []}
 use lib.ListN.{length}
 use native.Mathlib.Omega.{arith}
-use Rattle.pack.specs.State.{State, Valid, meaning, Closed, node, walk, after, Sized}
+use Rattle.pack.specs.State.{State, Valid, meaning, Closed, nowhere, node, walk, after}
 use Rattle.pack.specs.Syntax.{Node}
+use Rattle.pack.specs.Layout.{Valued, NodeFits, ChartFits}
+use Rattle.pack.specs.Laws.Fits.{each-from, fits-node, fits-closed, fits-sized}
 use Rattle.pack.specs.Laws.Table.{same-valid, finds-walk, walk-inside, after-walk}
 use Rattle.chart.specs.Answers.{startTable, compareTable}
 use Rattle.chart.specs.Chart.{Written, Starts}
 use Rattle.chart.specs.Compare.{Compared, Verdict, same, differ}
-use Rattle.chart.specs.States.{Wide}
+use Rattle.chart.specs.States.{Everywhere}
 use Rattle.chart.specs.Laws.Charted.{chart}
 use Rattle.chart.specs.Laws.Comparing.{compareOf, compared, compared-one, compare-short}
 use Rattle.chart.specs.Laws.Count.{all, count-all, count-inj}
-use Rattle.chart.specs.Laws.Tables.{IsTable, tabled, IsFull, wide-table, on-table, full?, full}
+use Rattle.chart.specs.Laws.Tables.{IsTable, tabled, IsFull, everywhere-table, on-table, full?, full}
 use Rattle.chart.specs.Laws.Unique.{unique, ordered-reached, some}
 
 pub starts-one : (C : ℕ) (s : State) (t u : List Node) → Starts C s t → Starts C s u → t ≡ u
@@ -45,11 +47,23 @@ one-meaning C t u h = same-valid C t u 0 0 .1 h
 pub written-table : (C : ℕ) (t : List Node) → Written C t → IsTable C t
 written-table C t w = (w .ordered .closed, some t (w .ordered .whole))
 
--- its rows are as wide as its state
-pub written-sized : (C F : ℕ) (t : List Node) → Written C t → Wide C F (meaning C t 0) → Sized F t
-written-sized C F t w h n l =
+-- what holds wherever chains lead holds of each of its rows
+pub written-everywhere : (C : ℕ) (P : List ℕ → Type 0) (t : List Node) → Written C t → Everywhere C P (meaning C t 0) → (n : ℕ) → n < length t → P (node t n .values)
+written-everywhere C P t w h n l =
     let (chain, v, e) = ordered-reached C t (w .ordered) n l in
-    ap (λ (n : ℕ). length (node t n .values)) (sym e) ∙ ap length (sym (finds-walk C t chain 0 v)) ∙ h chain v
+    subst (λ (n : ℕ). P (node t n .values)) e (subst P (finds-walk C t chain 0 v) (h chain v))
+
+-- and so a written chart of values within their domains, with at most 32 rows, is one that is read
+pub written-fits : (C : ℕ) (D : List ℕ) (t : List Node) → Written C t → Everywhere C (Valued D) (meaning C t 0) → length t ≤ 32 → ChartFits C D t
+written-fits C D t w h few = (
+  some t (w .ordered .whole),
+  few,
+  each-from (NodeFits C D (length t)) nowhere t (λ n l. record {
+    values = written-everywhere C (Valued D) t w h n l;
+    believers = w .ordered .wide n l;
+    beliefs = each-from (λ b. b < length t) 0 (node t n .beliefs) (λ c g. w .ordered .closed n c l (omega (arith, w .ordered .wide n l)));
+  }),
+)
 
 -- it has no more rows than any table of its state
 pub written-short : (C : ℕ) (t u : List Node) → Written C t → Closed C u → 0 < length u → meaning C t 0 ≡ meaning C u 0 → length t ≤ length u
@@ -64,18 +78,25 @@ written-short C t u w closed pos e =
           (λ i j k l h _ x y. w .apart i j l h (x ∙ sym y)),
     )
 
-module _ (C F : ℕ) (t : List Node) (r : IsFull C F t) where
-  -- Start
-  pub start-full : IsFull C F (startTable C t)
-  start-full =
-      let (w, e) = start-table-iff C t (r .0) (startTable C t) .1 refl in (
-        written-table C (startTable C t) w,
-        written-sized C F (startTable C t) w
-            (subst (Wide C F) (sym e) (wide-table C F t (r .0 .0) (r .1) (r .0 .1))),
-      )
+-- a chart that is read is a table
+pub fits-table : (C : ℕ) (D : List ℕ) (t : List Node) → ChartFits C D t → IsTable C t
+fits-table C D t h = (fits-closed C D t h, h .0)
 
+pub fits-full : (C : ℕ) (D : List ℕ) (t : List Node) → ChartFits C D t → IsFull C (length D) t
+fits-full C D t h = (fits-table C D t h, fits-sized C D t h)
+
+pub fits-everywhere : (C : ℕ) (D : List ℕ) (t : List Node) → ChartFits C D t → Everywhere C (Valued D) (meaning C t 0)
+fits-everywhere C D t h = everywhere-table C (Valued D) t (fits-closed C D t h) (h .0) (λ n l. fits-node C D t h n l .values)
+
+-- What Start gives is a chart that is read, with no more rows
+module _ (C : ℕ) (D : List ℕ) (t : List Node) (h : ChartFits C D t) where
   pub start-short : length (startTable C t) ≤ length t
-  start-short = let (w, e) = start-table-iff C t (r .0) (startTable C t) .1 refl in written-short C (startTable C t) t w (r .0 .0) (r .0 .1) e
+  start-short = let (w, e) = start-table C t (fits-table C D t h) in written-short C (startTable C t) t w (fits-closed C D t h) (h .0) e
+
+  pub start-fits : ChartFits C D (startTable C t)
+  start-fits =
+      let (w, e) = start-table C t (fits-table C D t h) in
+      written-fits C D (startTable C t) w (subst (Everywhere C (Valued D)) (sym e) (fits-everywhere C D t h)) (omega (arith, start-short, h .1))
 
 module _ (C F : ℕ) (t u : List Node) (r : IsFull C F t) (q : IsFull C F u) where
   abbrev Said : Verdict → Type 0

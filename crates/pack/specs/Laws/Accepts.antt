@@ -14,6 +14,7 @@ use Rattle.pack.specs.Syntax.{Kind, is, isNot, atLeast, Test, Condition,
 use Rattle.pack.specs.Reading.{Reading, done, refused, Reader, pick, bind, mapped, runs, many, Reply, gives, refuses, whole, ended}
 use Rattle.pack.specs.Number.{numberAt, between, item, counted, beliefAt, risingAt}
 use Rattle.pack.specs.Grammar.{Dimensions, headAt, fluentAt, valueAt, nodeAt, nodesAt, kindOf, testAt, conditionAt, effectAt, effectsAt, consentersAt, actionAt, triggerAt, ruleAt, rulesAt, theoryAt, packAt, packOf, chartOf, dimensions, inChart}
+use Rattle.pack.specs.Laws.Fits.{valued-length, sizes-small}
 use Rattle.pack.specs.Layout.{numberBytes, listBytes, countedBytes, kindNumber, testBytes, conditionBytes, effectBytes, actionBytes, triggerBytes, ruleBytes, nodeBytes, chartBytes, headBytes, theoryBytes, packBytes, Each, Some, Rising, Valued, OfFluent, TestFits, ConditionFits, EffectFits, ActionFits, TriggerFits, RuleFits, NodeFits, ChartFits, PackFits}
 
 -- wherever these bytes stand, the value is read and the place after them
@@ -112,13 +113,6 @@ module _ {A : Type 0} {p : Reader A} {f : A → List ℕ} {P : A → Type 0} (h 
 
   counted-accepts : (low high : ℕ) → high < 65536 → (l : List A) → Some low high P l → Accepts (counted low (suc high) p) (countedBytes f l) l
   counted-accepts low high w l e = then-accepts _ (between-accepts low (suc high) 3 (length l) (e .0) (omega (arith, e .1)) w) (many-accepts l (e .2))
-
-pub valued-length : (ds values : List ℕ) → Valued ds values → length values ≡ length ds
-unfolding Valued
-valued-length [] [] h = refl
-valued-length [] (v ∷ values) h = absurd h
-valued-length (x ∷ ds) [] h = absurd h
-valued-length (x ∷ ds) (v ∷ values) h = ap suc (valued-length ds values (h .1))
 
 module _ (d : Dimensions) (few : d .characters ≤ 6) (slim : length (d .domains) ≤ 24) (small : (f : ℕ) → getD (d .domains) f 0 ≤ 128) where
   abbrev C : ℕ
@@ -239,21 +233,6 @@ module _ (d : Dimensions) (few : d .characters ≤ 6) (slim : length (d .domains
   nodes-accepts : (t : List Node) → ChartFits C D t → Accepts (nodesAt d) (chartBytes t) t
   unfolding nodesAt
   nodes-accepts t h = then-accepts _ (between-accepts 1 33 3 (length t) (h .0) (omega (arith, h .1)) (omega arith)) (many-accepts (node-accepts (length t) (h .1)) t (h .2))
-
--- each at its place
-pub each-at : {A : Type 0} (P : A → Type 0) (x : A) → P x → (l : List A) → Each P l → (i : ℕ) → P (getD l i x)
-unfolding Each
-each-at P x h [] e i = h
-each-at P x h (a ∷ l) e zero = e .0
-each-at P x h (a ∷ l) e (suc i) = each-at P x h l (e .1) i
-
-each-weak : {A : Type 0} (P Q : A → Type 0) → ((a : A) → P a → Q a) → (l : List A) → Each P l → Each Q l
-unfolding Each
-each-weak P Q f [] e = tt
-each-weak P Q f (a ∷ l) e = (f a (e .0), each-weak P Q f l (e .1))
-
-pub sizes-small : (ds : List ℕ) → Each (λ d. (1 ≤ d) × (d ≤ 128)) ds → (f : ℕ) → getD ds f 0 ≤ 128
-sizes-small ds h f = each-at (λ d. d ≤ 128) 0 (omega arith) ds (each-weak (λ d. (1 ≤ d) × (d ≤ 128)) (λ d. d ≤ 128) (λ d g. g .1) ds h) f
 
 module _ (p : Pack) (h : PackFits p) where
   abbrev T : Theory

@@ -17,8 +17,8 @@ use Rattle.pack.specs.Reading.{Reading, done, refused, Reader, pick, bin
 use Rattle.pack.specs.Number.{numberAt, between, item, counted, beliefAt, risingAt}
 use Rattle.pack.specs.Grammar.{Dimensions, headAt, fluentAt, valueAt, nodeAt, nodesAt, kindOf, testAt, conditionAt, effectAt, effectsAt, consentersAt, actionAt, triggerAt, ruleAt, rulesAt, theoryAt, packAt, packOf, chartOf, dimensions, inChart}
 use Rattle.pack.specs.Layout.{numberBytes, listBytes, countedBytes, kindNumber, testBytes, conditionBytes, effectBytes, actionBytes, triggerBytes, ruleBytes, nodeBytes, chartBytes, headBytes, theoryBytes, packBytes, Each, Some, Rising, Valued, OfFluent, TestFits, ConditionFits, EffectFits, ActionFits, TriggerFits, RuleFits, NodeFits, ChartFits, PackFits}
-use Rattle.pack.specs.State.{nowhere, node, Closed, Sized}
-use Rattle.pack.specs.Laws.Accepts.{valued-length, sizes-small, pack-back, chart-back}
+use Rattle.pack.specs.Laws.Accepts.{pack-back, chart-back}
+use Rattle.pack.specs.Laws.Fits.{sizes-small}
 use Rattle.pack.specs.Laws.Reading.{never, never-gives, same-value, same-place, same-gift, Both, both, Mapped, unmapped, passed, failed, ended-gives}
 
 -- these bytes stand in s from a place on
@@ -468,21 +468,3 @@ chart-exactly p w bytes b t = (
     plain : (x : Reply (List Node)) → inChart x ≡ gives t → x ≡ gives t
     plain (gives u) e = e
     plain (refuses k n) e = never-gives e
-
--- Each member, by its place
-pub each-in : {A : Type 0} (P : A → Type 0) (x : A) (l : List A) → Each P l → (i : ℕ) → i < length l → P (getD l i x)
-unfolding Each
-each-in P x [] e i h = absurd (omega arith)
-each-in P x (a ∷ l) e zero h = e .0
-each-in P x (a ∷ l) e (suc i) h = each-in P x l (e .1) i (omega arith)
-
--- A chart that is read is a table: its beliefs name its nodes, and each node has a value for each fluent
-module _ (C : ℕ) (D : List ℕ) (t : List Node) (h : ChartFits C D t) where
-  fits-node : (n : ℕ) → n < length t → NodeFits C D (length t) (node t n)
-  fits-node = each-in (NodeFits C D (length t)) nowhere t (h .2)
-
-  pub fits-closed : Closed C t
-  fits-closed n c l g = let r = fits-node n l in each-in (λ b. b < length t) 0 (node t n .beliefs) (r .beliefs) c (omega (arith, r .believers))
-
-  pub fits-sized : Sized (length D) t
-  fits-sized n l = valued-length D (node t n .values) (fits-node n l .values)

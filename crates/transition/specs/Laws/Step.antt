@@ -5,19 +5,19 @@ use mathlib.Core.Logic.{_↔_}
 use mathlib.Core.List.{List}
 use lib.ListN.{length}
 use Rattle.pack.specs.State.{State, meaning}
-use Rattle.pack.specs.Syntax.{Theory, Node}
+use Rattle.pack.specs.Syntax.{Theory, Node, Pack}
 use Rattle.chart.specs.Chart.{Written}
-use Rattle.chart.specs.Laws.Answers.{written-table, written-sized}
-use Rattle.chart.specs.Laws.Charted.{chart}
+use Rattle.pack.specs.Layout.{PackFits, ChartFits}
+use Rattle.chart.specs.Laws.Answers.{written-fits, fits-table, fits-everywhere}
 use Rattle.chart.specs.Laws.Counted.{counted}
-use Rattle.chart.specs.Laws.Tables.{IsTable, IsFull, wide-table, on-table}
+use Rattle.chart.specs.Laws.Tables.{IsTable, on-table}
 use Rattle.chart.specs.Laws.Unique.{ordered-reached, some}
 use Rattle.transition.specs.Answers.{stepTable}
 use Rattle.transition.specs.Happening.{Plays}
 use Rattle.transition.specs.Step.{Outcome, leaves, refused, Steps}
 use Rattle.transition.specs.Laws.Settled.{settles-few}
 use Rattle.transition.specs.Laws.Stepping.{stepOf, steps, steps-one}
-use Rattle.transition.specs.Laws.Wide.{wide-plays}
+use Rattle.transition.specs.Laws.Kept.{valued-plays}
 
 -- The function over any list of nodes
 module _ (p : Theory) (t : List Node) (r : IsTable (p .characters) t) where
@@ -58,19 +58,18 @@ step-leaves p t r a u = (λ e. go (leaves u) (step-table-iff p t r a (leaves u) 
     go o (Steps.failed l x) u e = absurd (leaves-only _ u e)
     go o (Steps.missing l) u e = absurd (leaves-only _ u e)
 
-module _ (p : Theory) (t : List Node) (r : IsFull (p .characters) (length (p .domains)) t) where
-  module _ (a : ℕ) (u : List Node) (e : stepTable p t a ≡ leaves u) where
-    left : Written (p .characters) u × Plays p (meaning (p .characters) t 0) a (meaning (p .characters) u 0)
-    left = step-leaves p t (r .0) a u .0 e
+-- What Step gives is a chart that is read: at most 32 rows, values within their domains
+module _ (p : Pack) (fit : PackFits p) (t : List Node) (h : ChartFits (p .theory .characters) (p .theory .domains) t) (a : ℕ) (u : List Node) (e : stepTable (p .theory) t a ≡ leaves u) where
+  abbrev C : ℕ
+  C = p .theory .characters
 
-    pub step-full : IsFull (p .characters) (length (p .domains)) u
-    step-full = (
-      written-table (p .characters) u (left .0),
-      written-sized (p .characters) (length (p .domains)) u (left .0)
-          (wide-plays p (length (p .domains)) (meaning (p .characters) t 0) a (meaning (p .characters) u 0) (left .1) (wide-table (p .characters) (length (p .domains)) t (r .0 .0) (r .1) (r .0 .1))),
-    )
+  left : Written C u × Plays (p .theory) (meaning C t 0) a (meaning C u 0)
+  left = step-leaves (p .theory) t (fits-table C (p .theory .domains) t h) a u .0 e
 
-    pub step-few : length u ≤ 32
-    step-few =
-        let w = left .0 .ordered in
-        counted (p .characters) u (ordered-reached (p .characters) u w) (w .closed) (some u (w .whole)) (left .0 .apart) 32 .0 (settles-few p 16 _ (meaning (p .characters) u 0) (left .1 .settles))
+  pub step-few : length u ≤ 32
+  step-few =
+      let w = left .0 .ordered in
+      counted C u (ordered-reached C u w) (w .closed) (some u (w .whole)) (left .0 .apart) 32 .0 (settles-few (p .theory) 16 _ (meaning C u 0) (left .1 .settles))
+
+  pub step-fits : ChartFits C (p .theory .domains) u
+  step-fits = written-fits C (p .theory .domains) u (left .0) (valued-plays p fit (meaning C t 0) a (meaning C u 0) (left .1) (fits-everywhere C (p .theory .domains) t h)) step-few
