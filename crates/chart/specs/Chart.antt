@@ -6,6 +6,7 @@ use mathlib.Core.List.{List, [], _∷_}
 use lib.ListN.{length}
 use Rattle.pack.specs.Syntax.{Node}
 use Rattle.pack.specs.State.{State, node, meaning, Closed}
+use Rattle.pack.specs.Layout.{chartBytes, ChartFits}
 
 -- k nodes are met; how many are once these beliefs are read, "characters in rising order"
 unfoldable pub meets : ℕ → List ℕ → ℕ
@@ -44,3 +45,10 @@ pub record Written (C : ℕ) (t : List Node) : Type 0 where
 -- the written chart of a state
 abbrev pub Starts : ℕ → State → List Node → Type 0
 Starts C s rows = Written C rows × (meaning C rows 0 ≡ s)
+
+-- These bytes are the written chart of s, over the domains D
+pub record ChartOf (C : ℕ) (D : List ℕ) (s : State) (bytes : List ℕ) : Type 0 where
+  pub rows : List Node
+  pub starts : Starts C s rows
+  pub fits : ChartFits C D rows
+  pub bytewise : bytes ≡ chartBytes rows

@@ -16,3 +16,4 @@ pub mod Seek
 pub mod Tables
 pub mod Comparing
 pub mod Answers
+pub mod Replies

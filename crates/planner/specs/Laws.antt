@@ -3,3 +3,4 @@ pub mod Explaining
 pub mod Searching
 pub mod Answers
 pub mod Played
+pub mod Replies

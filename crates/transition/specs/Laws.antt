@@ -6,3 +6,4 @@ pub mod Decided
 pub mod Kept
 pub mod Stepping
 pub mod Step
+pub mod Replies

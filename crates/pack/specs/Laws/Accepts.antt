@@ -6,7 +6,7 @@ use mathlib.Core.List.{List, [], _∷_, _++_, append-assoc, append-nil}
 use native.Mathlib.Nat.{add-zero}
 use native.Mathlib.Numerals.{add-one}
 use native.Mathlib.Omega.{arith}
-use lib.ListN.{length, getD, length-append}
+use lib.ListN.{length, getD, replicate, length-append, length-replicate}
 use lib.Seq.{getD-append-add, getD-append-seam}
 use lib.Dec.{ltb, leb, eqb}
 use borrow.Author.Tests.{ltb-true, ltb-false, lt-ltb, le-ltb, le-leb, lt-leb, ne-eqb, eq-eqb}
@@ -14,7 +14,8 @@ use Rattle.pack.specs.Syntax.{Kind, is, isNot, atLeast, Test, Condition,
 use Rattle.pack.specs.Reading.{Reading, done, refused, Reader, pick, bind, mapped, runs, many, Reply, gives, refuses, whole, ended}
 use Rattle.pack.specs.Number.{numberAt, between, item, counted, beliefAt, risingAt}
 use Rattle.pack.specs.Grammar.{Dimensions, headAt, fluentAt, valueAt, nodeAt, nodesAt, kindOf, testAt, conditionAt, effectAt, effectsAt, consentersAt, actionAt, triggerAt, ruleAt, rulesAt, theoryAt, packAt, packOf, chartOf, dimensions, inChart}
-use Rattle.pack.specs.Laws.Fits.{valued-length, sizes-small}
+use Rattle.pack.specs.Laws.Fits.{valued-length, sizes-small, widest, widest-small, fits-widest}
+use Rattle.pack.specs.Laws.Reading.{same-gift}
 use Rattle.pack.specs.Layout.{numberBytes, listBytes, countedBytes, kindNumber, testBytes, conditionBytes, effectBytes, actionBytes, triggerBytes, ruleBytes, nodeBytes, chartBytes, headBytes, theoryBytes, packBytes, Each, Some, Rising, Valued, OfFluent, TestFits, ConditionFits, EffectFits, ActionFits, TriggerFits, RuleFits, NodeFits, ChartFits, PackFits}
 
 -- wherever these bytes stand, the value is read and the place after them
@@ -281,3 +282,14 @@ pub chart-back : (p : Theory) → p .characters ≤ 6 → length (p .domains) �
     → (t : List Node) → ChartFits (p .characters) (p .domains) t → chartOf p (chartBytes t) ≡ gives t
 unfolding chartOf
 chart-back p few slim small t h = ap inChart (whole-accepts (nodesAt (dimensions p)) (chartBytes t) t (nodes-accepts (dimensions p) few slim small t h))
+
+-- Charts over equally many characters and fluents that are written in the same bytes are the same rows
+pub chart-bytes-one : (C : ℕ) (D D′ : List ℕ) → C ≤ 6 → length D ≤ 24 → length D ≡ length D′ → ((f : ℕ) → getD D f 0 ≤ 128) → ((f : ℕ) → getD D′ f 0 ≤ 128)
+    → (t u : List Node) → ChartFits C D t → ChartFits C D′ u → chartBytes t ≡ chartBytes u → t ≡ u
+chart-bytes-one C D D′ few slim e small small′ t u ft fu same = same-gift (sym (back t (fits-widest C D small t ft)) ∙ ap (whole (nodesAt d)) same ∙ back u (subst (λ (n : ℕ). ChartFits C (replicate n 128) u) (sym e) (fits-widest C D′ small′ u fu)))
+  where
+    d : Dimensions
+    d = record { characters = C; domains = widest D }
+
+    back : (t : List Node) → ChartFits C (widest D) t → whole (nodesAt d) (chartBytes t) ≡ gives t
+    back t h = whole-accepts (nodesAt d) (chartBytes t) t (nodes-accepts d few (omega (arith, length-replicate {A = ℕ} (length D) 128)) (widest-small D) t h)

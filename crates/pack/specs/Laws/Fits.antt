@@ -4,7 +4,7 @@ use mathlib.Core.Path.{_≡_, refl, sym, ap, _∙_, subst}
 use mathlib.Core.List.{List, [], _∷_, _++_}
 use native.Mathlib.Nat.{mul-le-mul, zero-mul, suc-mul}
 use native.Mathlib.Omega.{arith}
-use lib.ListN.{length, getD, set, length-append}
+use lib.ListN.{length, getD, set, replicate, length-append}
 use lib.Dec.{ltb}
 use borrow.Author.Tests.{lt-ltb}
 use Rattle.pack.specs.Syntax.{Effect, Action, Trigger, Theory, Node, Pack}
@@ -110,3 +110,26 @@ module _ (C : ℕ) (D : List ℕ) (small : (f : ℕ) → getD D f 0 ≤ 128) whe
   chart-short few slim t h =
       let wide : length D + C ≤ 30 = omega arith in
       omega (arith, chart-length t h, mul-le-mul (h .1) wide)
+
+-- Domains of 128 values each hold all that smaller ones do
+abbrev pub widest : List ℕ → List ℕ
+widest D = replicate (length D) 128
+
+pub widest-small : (D : List ℕ) (f : ℕ) → getD (widest D) f 0 ≤ 128
+widest-small [] f = omega arith
+widest-small (d ∷ D) zero = omega arith
+widest-small (d ∷ D) (suc f) = widest-small D f
+
+valued-widest : (D values : List ℕ) → ((f : ℕ) → getD D f 0 ≤ 128) → Valued D values → Valued (widest D) values
+unfolding Valued
+valued-widest [] [] small h = tt
+valued-widest [] (v ∷ values) small h = absurd h
+valued-widest (d ∷ D) [] small h = absurd h
+valued-widest (d ∷ D) (v ∷ values) small h = (omega (arith, h .0, small 0), valued-widest D values (λ f. small (suc f)) (h .1))
+
+pub fits-widest : (C : ℕ) (D : List ℕ) → ((f : ℕ) → getD D f 0 ≤ 128) → (t : List Node) → ChartFits C D t → ChartFits C (widest D) t
+fits-widest C D small t h = (
+  h .0,
+  h .1,
+  each-weak (NodeFits C D (length t)) (NodeFits C (widest D) (length t)) (λ n f. record { values = valued-widest D (n .values) small (f .values); believers = f .believers; beliefs = f .beliefs }) t (h .2),
+)
