@@ -4,3 +4,5 @@ pub mod Searching
 pub mod Answers
 pub mod Played
 pub mod Replies
+pub mod Readings
+pub mod Starred

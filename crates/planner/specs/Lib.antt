@@ -4,3 +4,5 @@ pub mod Laws
 pub mod Answers
 pub mod Replies
 pub mod Promises
+pub mod Readings
+pub mod Theorems

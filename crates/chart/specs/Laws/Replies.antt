@@ -50,6 +50,12 @@ both-true x y = rw (x, y)
 pub long-enough : (room : ℕ) (buffer : List ℕ) → room ≤ length buffer → fits room buffer ≡ true
 long-enough room buffer h = le-leb room (length buffer) h
 
+-- Pack and buffers are as they should be
+pub call-ranged : {A : Type 0} (enough : Bool) (inRange : Theory → Bool) (rest : Pack → List (List Node) → Reply A) → enough ≡ true → {pack : List ℕ} {p : Pack} → Given pack p
+    → call pack [] enough inRange rest ≡ pick (inRange (p .theory)) (rest p []) (refuses 9 0)
+unfolding call chartsOf
+call-ranged enough inRange rest long g = rw (g .accepted, long)
+
 -- The checks are passed
 module _ {A : Type 0} (enough : Bool) (inRange : Theory → Bool) (rest : Pack → List (List Node) → Reply A) (yes-enough : enough ≡ true) {pack : List ℕ} {p : Pack} (g : Given pack p) (there : inRange (p .theory) ≡ true) where
   pub call-none : call pack [] enough inRange rest ≡ rest p []
@@ -150,8 +156,7 @@ module _ {pack : List ℕ} {p : Pack} (g : Given pack p) where
   start-writes chart work hc hw =
       let C = p .theory .characters in
       let fit = given-fits g .nodes in
-      let s = start-table C (p .nodes) (fits-table C D (p .nodes) fit) in
-      (
+      let s = start-table C (p .nodes) (fits-table C D (p .nodes) fit) in (
         chartBytes (startTable C (p .nodes)),
         start-says g chart work hc hw (startTable C (p .nodes)) s,
         record { rows = startTable C (p .nodes); starts = s; fits = start-fits C D (p .nodes) fit; bytewise = refl },
