@@ -17,3 +17,5 @@ pub mod Tables
 pub mod Comparing
 pub mod Answers
 pub mod Replies
+pub mod Needed
+pub mod NoVerdict

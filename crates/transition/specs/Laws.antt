@@ -7,3 +7,5 @@ pub mod Kept
 pub mod Stepping
 pub mod Step
 pub mod Replies
+pub mod Missing
+pub mod Stage

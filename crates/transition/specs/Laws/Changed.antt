@@ -67,7 +67,7 @@ module _ (effects : State → List Effect) (takes : State → ℕ → Bool) wher
     next (edge m c) d = let n = target t m c in cond (takes (meaning C t m) c) (edge n d) (old (target t n d))
     next (old m) d = old (target t m d)
 
-    changed : Family C (There C) (sem C t (change effects takes)) valuesOf next
+    pub changed : Family C (There C) (sem C t (change effects takes)) valuesOf next
     unfolding change meaning atRoot
     changed = record { found = found; step = step; real = real; outside = outside }
       where
@@ -100,23 +100,6 @@ module _ (effects : State → List Effect) (takes : State → ℕ → Bool) wher
         outside (edge m c) r d h = out (takes (meaning C t m) c) (belief (meaning C t m) c) d (ap (λ (s : State). belief s d) (belief-in C t m c r) ∙ belief-out C t (target t m c) d h)
         outside (old m) r d h = belief-out C t m d h
 
--- part 1 from the state that row 0 of t means
-module _ (C : ℕ) (t : List Node) (a : Action) where
-  pub acted : Family C (There C) (sem C t (act a)) (valuesOf (λ s. a .effects) (observes a) C t) (next (λ s. a .effects) (observes a) C t)
-  unfolding act
-  acted = (changed (λ s. a .effects) (observes a) C t)
-
-  -- so a table of such rows, the first of them the root's, means what part 1 makes
-  pub act-built : {u : List Node} {key : ℕ → Member} → Rows C u (There C) (valuesOf (λ s. a .effects) (observes a) C t) (next (λ s. a .effects) (observes a) C t) key
-      → 0 < length u → key 0 ≡ root → meaning C u 0 ≡ act a (meaning C t 0)
-  act-built r h e = built acted r 0 h ∙ ap (sem C t (act a)) e
-
--- a round from the state that row 0 of t means
-module _ (C : ℕ) (t : List Node) (ts : List Trigger) where
-  pub rounded : Family C (There C) (sem C t (round ts)) (valuesOf (fires ts) (λ s c. true) C t) (next (fires ts) (λ s c. true) C t)
-  unfolding round
-  rounded = (changed (fires ts) (λ s c. true) C t)
-
-  pub round-built : {u : List Node} {key : ℕ → Member} → Rows C u (There C) (valuesOf (fires ts) (λ s c. true) C t) (next (fires ts) (λ s c. true) C t) key
-      → 0 < length u → key 0 ≡ root → meaning C u 0 ≡ round ts (meaning C t 0)
-  round-built r h e = built rounded r 0 h ∙ ap (sem C t (round ts)) e
+    -- so a table of such rows, the first of them the root's, means what the change makes: part 1 and a round are two instances
+    pub change-built : {u : List Node} {key : ℕ → Member} → Rows C u (There C) valuesOf next key → 0 < length u → key 0 ≡ root → meaning C u 0 ≡ change effects takes (meaning C t 0)
+    change-built r h e = built changed r 0 h ∙ ap (sem C t (change effects takes)) e

@@ -13,8 +13,8 @@ use Rattle.pack.specs.Laws.Table.{means}
 use Rattle.chart.specs.Laws.Built.{Family}
 use Rattle.chart.specs.Laws.Lists.{below, map-in, map-out, below-in, below-out}
 use Rattle.chart.specs.Laws.Tabled.{enumerated, tabled-same, Tabled}
-use Rattle.transition.specs.Happening.{act, round, observes, fires}
-use Rattle.transition.specs.Laws.Changed.{Member, root, edge, old, There, sem, valuesOf, next, acted, rounded}
+use Rattle.transition.specs.Happening.{act, change, fires, observes, round}
+use Rattle.transition.specs.Laws.Changed.{Member, root, edge, old, There, next, changed}
 
 -- the members of a change: the root, every edge, every old row
 edges : ℕ → ℕ → List Member
@@ -57,8 +57,7 @@ module _ (C N : ℕ) where
   whole (edge m c) h = List·Memᴰ·tail (Memᴰ·append-right (map old (below N)) (edges-in C N m c (h .0) (h .1)))
   whole (old m) h = List·Memᴰ·tail (Memᴰ·append-left (edges C N) (map-in old (below N) m (below-in N m h)))
 
-module _ (C : ℕ) (t : List Node) (closed : Closed C t) (some : 0 < length t) (effects : State → List Effect) (takes : State → ℕ → Bool) (f : State → State)
-    (fam : Family C (There C) (sem C t f) (valuesOf effects takes C t) (next effects takes C t)) where
+module _ (C : ℕ) (t : List Node) (closed : Closed C t) (some : 0 < length t) (effects : State → List Effect) (takes : State → ℕ → Bool) where
   abbrev Has : Member → Type 0
   Has = In C (length t)
 
@@ -77,11 +76,16 @@ module _ (C : ℕ) (t : List Node) (closed : Closed C t) (some : 0 < length t) (
       elim (takes (meaning C t m) c) as (λ b. Has (cond b (edge n d) (old (target t n d)))) [ true ↦ (ln, l) | false ↦ closed n d ln l ]
   has-next (old m) h d l = closed m d h l
 
-  tabled-change : Tabled C (f (meaning C t 0))
-  tabled-change = enumerated C fam Has has-real has-next root (rest C (length t)) (listed C (length t)) (whole C (length t))
+  tabled-there : Tabled C (change effects takes (meaning C t 0))
+  tabled-there = enumerated C (changed effects takes C t) Has has-real has-next root (rest C (length t)) (listed C (length t)) (whole C (length t))
+
+tabled-change : {C : ℕ} {s : State} → Tabled C s → (effects : State → List Effect) (takes : State → ℕ → Bool) → Tabled C (change effects takes s)
+tabled-change {C} x effects takes = tabled-same (ap (change effects takes) (x .means)) (tabled-there C (x .table) (x .closed) (x .some) effects takes)
 
 pub tabled-act : {C : ℕ} {s : State} → Tabled C s → (a : Action) → Tabled C (act a s)
-tabled-act {C} x a = tabled-same (ap (act a) (x .means)) (tabled-change C (x .table) (x .closed) (x .some) (λ s. a .effects) (observes a) (act a) (acted C (x .table) a))
+unfolding act
+tabled-act x a = tabled-change x (λ s. a .effects) (observes a)
 
 pub tabled-round : {C : ℕ} {s : State} → Tabled C s → (ts : List Trigger) → Tabled C (round ts s)
-tabled-round {C} x ts = tabled-same (ap (round ts) (x .means)) (tabled-change C (x .table) (x .closed) (x .some) (fires ts) (λ s c. true) (round ts) (rounded C (x .table) ts))
+unfolding round
+tabled-round x ts = tabled-change x (fires ts) (λ s c. true)
