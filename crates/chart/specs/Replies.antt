@@ -1,12 +1,12 @@
 -- What Start, Query and Compare reply to the bytes, numbers and buffers that they are lent.
 use Prim.Native.Nat.{ℕ}
-use mathlib.Core.Bool.{Bool, true, false, _&&_}
+use mathlib.Core.Bool.{Bool, true, _&&_}
 use mathlib.Core.List.{List, [], _∷_}
-use lib.ListN.{length, getD}
+use lib.ListN.{getD}
 use lib.Dec.{ltb}
-use Rattle.pack.specs.Syntax.{Theory, Node, Pack, fluents}
+use Rattle.pack.specs.Syntax.{Node, fluents}
 use Rattle.pack.specs.State.{meaning}
-use Rattle.pack.specs.Reading.{Reply, gives, refuses}
+use Rattle.pack.specs.Reading.{Reply, gives}
 use Rattle.pack.specs.Layout.{chartBytes}
 use Rattle.chart.specs.Compare.{Verdict, same, differ}
 use Rattle.chart.specs.Answers.{startTable, compareTable}

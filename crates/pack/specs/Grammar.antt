@@ -1,10 +1,10 @@
 -- The grammar of a pack and of a chart, as readers. Each reader follows one item of document 01, "The pack", in its order.
 use Prim.Native.Nat.{ℕ, suc, _+_}
-use mathlib.Core.List.{List, [], _∷_}
+use mathlib.Core.List.{List}
 use lib.ListN.{length, getD}
 use lib.Dec.{ltb, eqb}
 use Rattle.pack.specs.Syntax.{Kind, is, isNot, atLeast, Test, Condition, Effect, Action, Trigger, Rule, Theory, Node, Pack}
-use Rattle.pack.specs.Reading.{Reading, done, refused, Reader, pick, bind, mapped, runs, many, Reply, gives, refuses, whole}
+use Rattle.pack.specs.Reading.{Reader, pick, bind, mapped, runs, many, Reply, gives, refuses, whole}
 use Rattle.pack.specs.Number.{numberAt, between, item, counted, beliefAt, risingAt}
 
 -- what the readers of a pack's parts need of its head

@@ -1,10 +1,9 @@
 -- What Explained and Search reply to the bytes, numbers and buffers that they are lent.
 use Prim.Native.Nat.{ℕ}
-use mathlib.Core.Bool.{Bool, true, _&&_}
+use mathlib.Core.Bool.{Bool, _&&_}
 use mathlib.Core.List.{List, [], _∷_}
 use lib.ListN.{length}
 use lib.Dec.{ltb, leb}
-use Rattle.pack.specs.Syntax.{Theory, Pack}
 use Rattle.pack.specs.Reading.{Reply, gives, refuses}
 use Rattle.chart.specs.Call.{listRoom, workRoom, fits, call}
 use Rattle.chart.specs.Replies.{firstOf}

@@ -2,20 +2,20 @@
 use Prim.Native.Nat.{ℕ, _<_, _≤_}
 use mathlib.Core.Path.{_≡_, sym, _∙_, ap, subst, fun-ext}
 use mathlib.Core.Bool.{Bool, true, false, _&&_}
-use mathlib.Core.Logic.{_↔_, _⊎_, inl, inr, ⊎-elim}
-use mathlib.Core.List.{List, [], _∷_}
+use mathlib.Core.Logic.{_↔_, _⊎_, ⊎-elim}
+use mathlib.Core.List.{List}
 use lib.ListN.{length, getD}
 use Rattle.pack.specs.Syntax.{Theory, Node, Pack, fluents}
 use Rattle.pack.specs.State.{State, Valid, meaning}
-use Rattle.pack.specs.Reading.{Reply, gives, refuses, pick}
+use Rattle.pack.specs.Reading.{gives, refuses, pick}
 use Rattle.pack.specs.Grammar.{packOf, chartOf}
 use Rattle.pack.specs.Layout.{packBytes, PackFits, Each}
 use Rattle.pack.specs.Laws.Accepts.{pack-back}
-use Rattle.pack.specs.Laws.Exact.{Bytes, Limits, pack-exactly}
+use Rattle.pack.specs.Laws.Exact.{Bytes, pack-exactly}
 use Rattle.pack.specs.Laws.Reading.{never-gives}
 use Rattle.chart.specs.Chart.{ChartOf}
 use Rattle.chart.specs.Compare.{Verdict, differ, Compared}
-use Rattle.chart.specs.Call.{chartRoom, chainRoom, listRoom, workRoom, fits}
+use Rattle.chart.specs.Call.{fits}
 use Rattle.chart.specs.Replies.{startReply, queryReply, compareReply}
 use Rattle.chart.specs.Laws.Answers.{one-meaning, fits-table}
 use Rattle.chart.specs.Laws.Replies.{Given, Chart, given-fits, both-true, long-enough, call-ranged, start-writes, query-says, compare-says, compare-chain, charts-equal, chart-means, chart-bounded}
@@ -28,7 +28,7 @@ use Rattle.transition.specs.Laws.Replies.{step-writes}
 use Rattle.planner.specs.Ending.{Explained, Ending}
 use Rattle.planner.specs.Search.{Sought, Answer, ending, none, Searched}
 use Rattle.planner.specs.Answers.{searchTable}
-use Rattle.planner.specs.Replies.{storyLimit, foresightLimit, nestingLimit, explainedReply, Plan, answerReply, searchReply}
+use Rattle.planner.specs.Replies.{storyLimit, foresightLimit, nestingLimit, explainedReply, answerReply, searchReply}
 use Rattle.planner.specs.Readings.{starred, Says}
 use Rattle.planner.specs.Laws.Answers.{search-table-same}
 use Rattle.planner.specs.Laws.Searching.{searched-one}

@@ -4,7 +4,6 @@ use mathlib.Core.Bool.{_&&_}
 use mathlib.Core.List.{List, [], _∷_}
 use lib.ListN.{length}
 use lib.Dec.{ltb}
-use Rattle.pack.specs.Syntax.{Theory, Pack}
 use Rattle.pack.specs.Reading.{Reply, gives, refuses}
 use Rattle.pack.specs.Layout.{chartBytes}
 use Rattle.chart.specs.Call.{chartRoom, workRoom, fits, call}

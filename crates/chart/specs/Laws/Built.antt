@@ -3,7 +3,6 @@ use Prim.Native.Nat.{ℕ, _<_, _≤_}
 use mathlib.Core.Path.{_≡_, refl, sym, _∙_, ap}
 use mathlib.Core.List.{List, []}
 use lib.ListN.{length}
-use Rattle.pack.specs.Condition.{holds}
 use Rattle.pack.specs.State.{State, belief, node, meaning, target}
 use Rattle.pack.specs.Syntax.{Node}
 use Rattle.pack.specs.Laws.Table.{means, blank, belief-in, belief-out}

@@ -1,30 +1,29 @@
 -- What the replies of Start, Query and Compare say where the checks are passed. Assumes nothing.
-use Prim.Native.Nat.{ℕ, zero, suc, _+_, _-_, _<_, _≤_}
-use mathlib.Core.Path.{_≡_, refl, sym, _∙_, ap, ap₂, subst}
-use mathlib.Core.Bool.{Bool, true, false, _&&_}
+use Prim.Native.Nat.{ℕ, _-_, _<_, _≤_}
+use mathlib.Core.Path.{_≡_, refl, sym, _∙_, ap}
+use mathlib.Core.Bool.{Bool, true, _&&_}
 use mathlib.Core.Logic.{_↔_}
 use mathlib.Core.List.{List, [], _∷_}
 use lib.ListN.{length, getD}
-use lib.Dec.{leb, ltb}
+use lib.Dec.{ltb}
 use native.Mathlib.Omega.{arith}
 use borrow.Author.Tests.{le-leb, lt-ltb}
 use Rattle.pack.specs.Syntax.{Theory, Node, Pack, fluents}
 use Rattle.pack.specs.State.{State, Valid, meaning}
-use Rattle.pack.specs.Reading.{Reply, gives, refuses, with, pick}
+use Rattle.pack.specs.Reading.{Reply, gives, refuses, pick}
 use Rattle.pack.specs.Grammar.{packOf, chartOf}
 use Rattle.pack.specs.Layout.{chartBytes, ChartFits, PackFits}
 use Rattle.pack.specs.Laws.Reading.{same-gift}
 use Rattle.pack.specs.Laws.Table.{same-valid}
 use Rattle.pack.specs.Laws.Fits.{chart-short}
 use Rattle.pack.specs.Laws.Accepts.{chart-back, chart-bytes-one}
-use Rattle.pack.specs.Laws.Exact.{Bytes, Limits, pack-exactly, chart-exactly, fits-limits}
+use Rattle.pack.specs.Laws.Exact.{Bytes, pack-exactly, chart-exactly, fits-limits}
 use Rattle.chart.specs.Chart.{Starts, ChartOf}
 use Rattle.chart.specs.Compare.{Verdict, same, differ, Compared}
 use Rattle.chart.specs.Answers.{startTable, compareTable}
 use Rattle.chart.specs.Call.{chartRoom, chainRoom, workRoom, fits, chartsOf, call}
 use Rattle.chart.specs.Replies.{startReply, queryReply, compareReply, allBelow}
 use Rattle.chart.specs.Laws.Unique.{unique}
-use Rattle.chart.specs.Laws.Tables.{IsTable, IsFull}
 use Rattle.chart.specs.Laws.Answers.{start-table, start-table-iff, start-fits, compare-table-iff, compare-table-short, fits-table, fits-full}
 
 -- bytes that are accepted as a pack

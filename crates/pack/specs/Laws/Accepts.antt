@@ -1,5 +1,5 @@
 -- Every pack that keeps the layout, written as `packBytes` writes it, is read back; and so is every chart. Assumes nothing.
-use Prim.Native.Nat.{ℕ, zero, suc, _+_, _*_, _/_, _%_, _-_, _<_, _≤_}
+use Prim.Native.Nat.{ℕ, suc, _+_, _*_, _/_, _%_, _-_, _<_, _≤_}
 use mathlib.Core.Path.{_≡_, refl, sym, ap, _∙_, subst}
 use mathlib.Core.Bool.{Bool, true, false}
 use mathlib.Core.List.{List, [], _∷_, _++_, append-assoc, append-nil}
@@ -8,15 +8,15 @@ use native.Mathlib.Numerals.{add-one}
 use native.Mathlib.Omega.{arith}
 use lib.ListN.{length, getD, replicate, length-append, length-replicate}
 use lib.Seq.{getD-append-add, getD-append-seam}
-use lib.Dec.{ltb, leb, eqb}
+use lib.Dec.{ltb}
 use borrow.Author.Tests.{ltb-true, ltb-false, lt-ltb, le-ltb, le-leb, lt-leb, ne-eqb, eq-eqb}
 use Rattle.pack.specs.Syntax.{Kind, is, isNot, atLeast, Test, Condition, Effect, Action, Trigger, Rule, Theory, Node, Pack}
-use Rattle.pack.specs.Reading.{Reading, done, refused, Reader, pick, bind, mapped, runs, many, Reply, gives, refuses, whole, ended}
+use Rattle.pack.specs.Reading.{done, Reader, pick, bind, mapped, runs, many, gives, whole, ended}
 use Rattle.pack.specs.Number.{numberAt, between, item, counted, beliefAt, risingAt}
 use Rattle.pack.specs.Grammar.{Dimensions, headAt, fluentAt, valueAt, nodeAt, nodesAt, kindOf, testAt, conditionAt, effectAt, effectsAt, consentersAt, actionAt, triggerAt, ruleAt, rulesAt, theoryAt, packAt, packOf, chartOf, dimensions, inChart}
 use Rattle.pack.specs.Laws.Fits.{valued-length, sizes-small, widest, widest-small, fits-widest}
 use Rattle.pack.specs.Laws.Reading.{same-gift}
-use Rattle.pack.specs.Layout.{numberBytes, listBytes, countedBytes, kindNumber, testBytes, conditionBytes, effectBytes, actionBytes, triggerBytes, ruleBytes, nodeBytes, chartBytes, headBytes, theoryBytes, packBytes, Each, Some, Rising, Valued, OfFluent, TestFits, ConditionFits, EffectFits, ActionFits, TriggerFits, RuleFits, NodeFits, ChartFits, PackFits}
+use Rattle.pack.specs.Layout.{numberBytes, listBytes, countedBytes, kindNumber, testBytes, conditionBytes, effectBytes, actionBytes, triggerBytes, ruleBytes, nodeBytes, chartBytes, headBytes, theoryBytes, packBytes, Each, Some, Rising, Valued, TestFits, ConditionFits, EffectFits, ActionFits, TriggerFits, RuleFits, NodeFits, ChartFits, PackFits}
 
 -- wherever these bytes stand, the value is read and the place after them
 pub record Accepts {A : Type 0} (p : Reader A) (bytes : List ℕ) (a : A) : Type 0 where

@@ -11,15 +11,15 @@ use lib.ListN.{length, getD, length-append}
 use lib.Seq.{ext-getD}
 use lib.Arith.{digits-div, digits-mod}
 use lib.Dec.{ltb, leb, eqb}
-use borrow.Author.Tests.{ltb-true, ltb-false, leb-true, leb-false, eqb-true, eqb-false, lt-ltb, le-ltb, eq-eqb, ne-eqb}
-use Rattle.pack.specs.Syntax.{Kind, is, isNot, atLeast, Test, Condition, Effect, Action, Trigger, Rule, Theory, Node, Pack}
-use Rattle.pack.specs.Reading.{Reading, done, refused, Reader, pick, bind, mapped, runs, many, Reply, gives, refuses, whole, ended}
+use borrow.Author.Tests.{ltb-true, ltb-false, leb-true, leb-false, eqb-false, lt-ltb, le-ltb}
+use Rattle.pack.specs.Syntax.{Theory, Node, Pack}
+use Rattle.pack.specs.Reading.{done, refused, Reader, pick, bind, mapped, runs, many, Reply, gives, refuses, whole}
 use Rattle.pack.specs.Number.{numberAt, between, item, counted, beliefAt, risingAt}
-use Rattle.pack.specs.Grammar.{Dimensions, headAt, fluentAt, valueAt, nodeAt, nodesAt, kindOf, testAt, conditionAt, effectAt, effectsAt, consentersAt, actionAt, triggerAt, ruleAt, rulesAt, theoryAt, packAt, packOf, chartOf, dimensions, inChart}
-use Rattle.pack.specs.Layout.{numberBytes, listBytes, countedBytes, kindNumber, testBytes, conditionBytes, effectBytes, actionBytes, triggerBytes, ruleBytes, nodeBytes, chartBytes, headBytes, theoryBytes, packBytes, Each, Some, Rising, Valued, OfFluent, TestFits, ConditionFits, EffectFits, ActionFits, TriggerFits, RuleFits, NodeFits, ChartFits, PackFits}
+use Rattle.pack.specs.Grammar.{Dimensions, headAt, valueAt, nodeAt, nodesAt, kindOf, testAt, conditionAt, effectAt, effectsAt, consentersAt, actionAt, triggerAt, ruleAt, rulesAt, theoryAt, packAt, packOf, chartOf, dimensions, inChart}
+use Rattle.pack.specs.Layout.{numberBytes, listBytes, countedBytes, kindNumber, testBytes, conditionBytes, effectBytes, actionBytes, triggerBytes, ruleBytes, nodeBytes, chartBytes, headBytes, theoryBytes, packBytes, Each, Some, Rising, Valued, TestFits, ConditionFits, EffectFits, ActionFits, TriggerFits, RuleFits, NodeFits, ChartFits, PackFits}
 use Rattle.pack.specs.Laws.Accepts.{pack-back, chart-back}
 use Rattle.pack.specs.Laws.Fits.{sizes-small}
-use Rattle.pack.specs.Laws.Reading.{never, never-gives, same-value, same-place, same-gift, Both, both, Mapped, unmapped, passed, failed, ended-gives}
+use Rattle.pack.specs.Laws.Reading.{never, never-gives, same-value, same-place, both, unmapped, passed, failed, ended-gives}
 
 -- these bytes stand in s from a place on
 unfoldable pub Stands : List ℕ → ℕ → List ℕ → Type 0

@@ -1,16 +1,14 @@
 -- What fits the layout: members by their places, the rows of a table, and how long a chart's bytes are. Assumes nothing.
 use Prim.Native.Nat.{ℕ, zero, suc, _+_, _*_, _<_, _≤_}
-use mathlib.Core.Path.{_≡_, refl, sym, ap, _∙_, subst}
-use mathlib.Core.List.{List, [], _∷_, _++_}
+use mathlib.Core.Path.{_≡_, refl, ap}
+use mathlib.Core.List.{List, [], _∷_}
 use native.Mathlib.Nat.{mul-le-mul, zero-mul, suc-mul}
 use native.Mathlib.Omega.{arith}
 use lib.ListN.{length, getD, set, replicate, length-append}
-use lib.Dec.{ltb}
 use borrow.Author.Tests.{lt-ltb}
-use Rattle.pack.specs.Syntax.{Effect, Action, Trigger, Theory, Node, Pack}
-use Rattle.pack.specs.State.{nowhere, node, target, Closed, Sized}
-use Rattle.pack.specs.Condition.{write}
-use Rattle.pack.specs.Layout.{numberBytes, listBytes, nodeBytes, chartBytes, Each, Valued, OfFluent, EffectFits, NodeFits, ChartFits}
+use Rattle.pack.specs.Syntax.{Node}
+use Rattle.pack.specs.State.{nowhere, node, Closed, Sized}
+use Rattle.pack.specs.Layout.{numberBytes, listBytes, nodeBytes, chartBytes, Each, Valued, OfFluent, NodeFits, ChartFits}
 
 -- Members by their places
 pub each-in : {A : Type 0} (P : A → Type 0) (x : A) (l : List A) → Each P l → (i : ℕ) → i < length l → P (getD l i x)

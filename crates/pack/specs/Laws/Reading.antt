@@ -1,12 +1,11 @@
 -- Laws of readings: how they compose, and how one that gave a value is taken apart. Assumes nothing.
-use Prim.Native.Nat.{ℕ, zero, suc, _+_, _-_, _<_, _≤_}
-use mathlib.Core.Path.{_≡_, refl, sym, ap, _∙_}
+use Prim.Native.Nat.{ℕ, _-_}
+use mathlib.Core.Path.{_≡_, refl, ap}
 use mathlib.Core.Bool.{Bool, true, false}
-use mathlib.Core.List.{List, [], _∷_}
 use native.Mathlib.Omega.{arith}
 use lib.Dec.{eqb}
 use borrow.Author.Tests.{eqb-true}
-use Rattle.pack.specs.Reading.{Reading, done, refused, Reader, pick, bind, mapped, Reply, gives, refuses, with, ended}
+use Rattle.pack.specs.Reading.{Reading, done, refused, pick, bind, mapped, Reply, gives, refuses, ended}
 
 pub mapped-mapped : {A B C : Type 0} (f : B → C) (g : A → B) (x : Reading A) → mapped f (mapped g x) ≡ mapped (λ a. f (g a)) x
 mapped-mapped f g (done a n) = refl

@@ -1,16 +1,16 @@
 -- What a table's nodes mean, by one step of belief, and where a chain leads. Assumes nothing.
-use Prim.Native.Nat.{ℕ, zero, suc, _<_, _≤_}
+use Prim.Native.Nat.{ℕ, _<_, _≤_}
 use mathlib.Core.Path.{_≡_, refl, sym, _∙_, ap, fun-ext}
 use mathlib.Core.Bool.{cond}
 use mathlib.Core.Logic.{_↔_, by-cases}
 use mathlib.Core.List.{List, [], _∷_}
-use lib.ListN.{getD, length}
+use lib.ListN.{length}
 use lib.Dec.{ltb}
 use borrow.Author.Tests.{lt-ltb, le-ltb}
 use native.Mathlib.Decide.{decLt}
 use native.Mathlib.Omega.{arith}
 use Rattle.pack.specs.Syntax.{Node}
-use Rattle.pack.specs.State.{State, belief, after, Valid, node, target, meaning, Closed, walk, Sized}
+use Rattle.pack.specs.State.{State, belief, after, Valid, node, target, meaning, Closed, walk}
 
 -- nothing is found at the end of any chain
 abbrev pub blank : State

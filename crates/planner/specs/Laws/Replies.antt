@@ -1,26 +1,25 @@
 -- What the replies of Explained and Search say where the checks are passed. Assumes nothing.
 use Prim.Native.Nat.{ℕ, _<_, _≤_}
-use mathlib.Core.Path.{_≡_, refl, sym, _∙_, ap, subst}
+use mathlib.Core.Path.{_≡_, refl, sym, _∙_, ap}
 use mathlib.Core.Bool.{Bool, true, false, _&&_, true≢false}
 use mathlib.Core.Logic.{_↔_}
-use mathlib.Core.List.{List, [], _∷_}
-use native.Mathlib.Omega.{arith}
+use mathlib.Core.List.{List, []}
 use lib.ListN.{length, getD}
 use lib.Dec.{ltb, leb}
 use borrow.Author.Tests.{lt-ltb, le-leb}
-use Rattle.pack.specs.Syntax.{Theory, Node, Pack}
+use Rattle.pack.specs.Syntax.{Node, Pack}
 use Rattle.pack.specs.State.{State, meaning}
-use Rattle.pack.specs.Reading.{Reply, gives, refuses}
+use Rattle.pack.specs.Reading.{gives}
 use Rattle.pack.specs.Laws.Reading.{same-gift, never-gives}
 use Rattle.chart.specs.Call.{listRoom, workRoom, fits}
 use Rattle.chart.specs.Laws.Answers.{fits-table}
 use Rattle.chart.specs.Laws.Tables.{IsTable}
 use Rattle.chart.specs.Laws.Replies.{Given, Chart, given-fits, chart-fits, both-true, long-enough, call-none, call-one}
-use Rattle.planner.specs.Ending.{Explained, Ending}
-use Rattle.planner.specs.Search.{Sought, Answer, ending, none, Searched}
+use Rattle.planner.specs.Ending.{Explained}
+use Rattle.planner.specs.Search.{Answer, ending, none, Searched}
 use Rattle.planner.specs.Answers.{explainedTable, searchTable}
 use Rattle.planner.specs.Replies.{storyLimit, foresightLimit, nestingLimit, explainedReply, Plan, answerReply, searchReply}
-use Rattle.planner.specs.Laws.Answers.{explained-table-iff, search-table-iff, search-table-same}
+use Rattle.planner.specs.Laws.Answers.{explained-table-iff, search-table-iff}
 
 between : (low high n : ℕ) → low ≤ n → n ≤ high → (leb low n && leb n high) ≡ true
 between low high n h l = both-true (le-leb low n h) (le-leb n high l)

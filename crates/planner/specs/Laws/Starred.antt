@@ -1,21 +1,20 @@
 -- The starred readings of P follow from the definitions. Assumes nothing.
-use Prim.Native.Nat.{ℕ, zero, suc, _<_, _≤_}
-use mathlib.Core.Path.{_≡_, refl, sym, _∙_, ap}
+use Prim.Native.Nat.{ℕ, zero, suc}
+use mathlib.Core.Path.{_≡_, refl, sym}
 use mathlib.Core.Bool.{Bool, true, false, _&&_, true≢false}
 use mathlib.Core.List.{List, [], _∷_}
 use native.Mathlib.Omega.{arith}
-use lib.ListN.{length, getD}
 use lib.Dec.{ltb}
 use borrow.Author.Tests.{ltb-true}
-use Rattle.pack.specs.Syntax.{Theory, Node, Pack}
-use Rattle.pack.specs.Reading.{Reply, gives, refuses, runs}
+use Rattle.pack.specs.Syntax.{Node, Pack}
+use Rattle.pack.specs.Reading.{gives, refuses, runs}
 use Rattle.pack.specs.Number.{numberAt, between, beliefAt, risingAt}
 use Rattle.pack.specs.Grammar.{packOf, chartOf, packAt, headAt, nodesAt, nodeAt, theoryAt, actionAt, triggerAt, rulesAt, ruleAt, conditionAt, testAt, effectsAt, effectAt, consentersAt}
 use Rattle.pack.specs.Condition.{compares, passes, allPass, holds, utility}
 use Rattle.pack.specs.State.{meaning}
 use Rattle.pack.specs.Layout.{numberBytes, listBytes, Each}
 use Rattle.pack.specs.Laws.Exact.{Bytes}
-use Rattle.chart.specs.Compare.{Verdict, same, differ}
+use Rattle.chart.specs.Compare.{same, differ}
 use Rattle.chart.specs.Replies.{allBelow}
 use Rattle.chart.specs.Laws.Replies.{Given, Chart, start-says, compare-says}
 use Rattle.transition.specs.Happening.{Refuses}

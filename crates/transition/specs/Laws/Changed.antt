@@ -6,10 +6,10 @@ use mathlib.Core.List.{List, [], _∷_}
 use lib.ListN.{length}
 use Rattle.pack.specs.Condition.{write}
 use Rattle.pack.specs.State.{State, belief, node, meaning, target}
-use Rattle.pack.specs.Syntax.{Effect, Action, Trigger, Node}
-use Rattle.pack.specs.Laws.Table.{means, blank, belief-in, belief-out}
+use Rattle.pack.specs.Syntax.{Effect, Node}
+use Rattle.pack.specs.Laws.Table.{blank, belief-in, belief-out}
 use Rattle.chart.specs.Laws.Built.{Family, Rows, built}
-use Rattle.transition.specs.Happening.{atRoot, act, round, change, fires, observes}
+use Rattle.transition.specs.Happening.{atRoot, change}
 
 -- from the state that row 0 of a table means: that state, what c believes once row m has changed, and what row m meant before
 pub data Member : Type 0 where

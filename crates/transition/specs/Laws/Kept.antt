@@ -1,12 +1,11 @@
 -- What holds of the values wherever chains lead is kept by actions, rounds and settling, where writing the effects keeps it. Assumes nothing.
-use Prim.Native.Nat.{ℕ, zero, suc, _<_, _≤_}
-use mathlib.Core.Path.{_≡_, refl, sym, _∙_, ap, subst}
+use Prim.Native.Nat.{ℕ, suc}
 use mathlib.Core.Bool.{Bool, true, false, cond}
 use mathlib.Core.Option.{some}
 use mathlib.Core.List.{List, [], _∷_}
-use lib.ListN.{length, getD, set, length-set}
+use lib.ListN.{set}
 use lib.Dec.{eqb}
-use Rattle.pack.specs.Syntax.{Theory, Effect, Action, Trigger, Pack}
+use Rattle.pack.specs.Syntax.{Theory, Effect, Trigger, Pack}
 use Rattle.pack.specs.State.{State, belief, Valid}
 use Rattle.pack.specs.Condition.{holds, write}
 use Rattle.pack.specs.Layout.{Each, Valued, EffectFits, ActionFits, TriggerFits, PackFits}

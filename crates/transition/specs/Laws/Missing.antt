@@ -11,4 +11,3 @@ use Rattle.transition.specs.Happening.{nothing, Refuses}
 pub ten-for-none : (p : Theory) (s : State) (a : ℕ) → length (p .actions) ≤ a → Refuses p s a 10
 unfolding holds
 ten-for-none p s a h = Refuses.forbidden (ap (λ (x : Action). holds s (x .condition)) (List·getD-eq-default (p .actions) nothing h))
-

@@ -1,23 +1,23 @@
 -- What Step's reply says where the checks are passed. Assumes nothing.
 use Prim.Native.Nat.{ℕ, _<_, _≤_}
-use mathlib.Core.Path.{_≡_, refl, sym, _∙_, ap, subst}
+use mathlib.Core.Path.{_≡_, refl, _∙_, ap}
 use mathlib.Core.Bool.{_&&_}
 use mathlib.Core.Logic.{_⊎_, inl, inr}
 use native.Mathlib.Omega.{arith}
-use mathlib.Core.List.{List, [], _∷_}
+use mathlib.Core.List.{List, []}
 use lib.ListN.{length, getD}
 use lib.Dec.{ltb}
 use borrow.Author.Tests.{lt-ltb}
-use Rattle.pack.specs.Syntax.{Theory, Node, Pack}
+use Rattle.pack.specs.Syntax.{Node, Pack}
 use Rattle.pack.specs.State.{State, meaning}
-use Rattle.pack.specs.Reading.{Reply, gives, refuses}
+use Rattle.pack.specs.Reading.{gives, refuses}
 use Rattle.pack.specs.Layout.{chartBytes}
 use Rattle.chart.specs.Chart.{ChartOf}
 use Rattle.chart.specs.Call.{chartRoom, workRoom, fits}
 use Rattle.chart.specs.Laws.Answers.{fits-table}
 use Rattle.chart.specs.Laws.Replies.{Given, Chart, given-fits, chart-fits, both-true, long-enough, call-one}
 use Rattle.transition.specs.Happening.{Plays, Refuses}
-use Rattle.transition.specs.Step.{Outcome, leaves, refused, Steps}
+use Rattle.transition.specs.Step.{Outcome, Steps}
 use Rattle.transition.specs.Answers.{stepTable}
 use Rattle.transition.specs.Replies.{outcomeReply, stepReply}
 use Rattle.transition.specs.Laws.Step.{step-table, step-table-iff, step-fits}

@@ -1,7 +1,7 @@
 -- It settles or stops in one way, and the loop over the rounds. Assumes nothing.
 use Prim.Native.Nat.{ℕ, suc}
 use mathlib.Core.Path.{_≡_, refl, sym, _∙_}
-use mathlib.Core.Bool.{true, false, true≢false}
+use mathlib.Core.Bool.{true≢false}
 use Rattle.pack.specs.State.{State}
 use Rattle.pack.specs.Syntax.{Theory}
 use Rattle.chart.specs.States.{AtMost}
