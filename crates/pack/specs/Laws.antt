@@ -2,4 +2,6 @@ pub mod Reading
 pub mod Table
 pub mod Fits
 pub mod Accepts
+pub mod PackBack
 pub mod Exact
+pub mod PackExact

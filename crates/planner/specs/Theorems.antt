@@ -10,8 +10,9 @@ use Rattle.pack.specs.State.{State, Valid, meaning}
 use Rattle.pack.specs.Reading.{gives, refuses, pick}
 use Rattle.pack.specs.Grammar.{packOf, chartOf}
 use Rattle.pack.specs.Layout.{packBytes, PackFits, Each}
-use Rattle.pack.specs.Laws.Accepts.{pack-back}
-use Rattle.pack.specs.Laws.Exact.{Bytes, pack-exactly}
+use Rattle.pack.specs.Laws.PackBack.{pack-back}
+use Rattle.pack.specs.Laws.Exact.{Bytes}
+use Rattle.pack.specs.Laws.PackExact.{pack-exactly}
 use Rattle.pack.specs.Laws.Reading.{never-gives}
 use Rattle.chart.specs.Chart.{ChartOf}
 use Rattle.chart.specs.Compare.{Verdict, differ, Compared}

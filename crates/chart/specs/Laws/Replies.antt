@@ -16,8 +16,9 @@ use Rattle.pack.specs.Layout.{chartBytes, ChartFits, PackFits}
 use Rattle.pack.specs.Laws.Reading.{same-gift}
 use Rattle.pack.specs.Laws.Table.{same-valid}
 use Rattle.pack.specs.Laws.Fits.{chart-short}
-use Rattle.pack.specs.Laws.Accepts.{chart-back, chart-bytes-one}
-use Rattle.pack.specs.Laws.Exact.{Bytes, pack-exactly, chart-exactly, fits-limits}
+use Rattle.pack.specs.Laws.PackBack.{chart-back, chart-bytes-one}
+use Rattle.pack.specs.Laws.Exact.{Bytes}
+use Rattle.pack.specs.Laws.PackExact.{pack-exactly, chart-exactly, fits-limits}
 use Rattle.chart.specs.Chart.{Starts, ChartOf}
 use Rattle.chart.specs.Compare.{Verdict, same, differ, Compared}
 use Rattle.chart.specs.Answers.{startTable, compareTable}

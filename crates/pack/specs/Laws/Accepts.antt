@@ -1,22 +1,17 @@
--- Every pack that keeps the layout, written as `packBytes` writes it, is read back; and so is every chart. Assumes nothing.
+-- Readers that accept what is written, wherever it stands: numbers, and readers made of readers. Assumes nothing.
 use Prim.Native.Nat.{ℕ, suc, _+_, _*_, _/_, _%_, _-_, _<_, _≤_}
 use mathlib.Core.Path.{_≡_, refl, sym, ap, _∙_, subst}
 use mathlib.Core.Bool.{Bool, true, false}
 use mathlib.Core.List.{List, [], _∷_, _++_, append-assoc, append-nil}
 use native.Mathlib.Nat.{add-zero}
-use native.Mathlib.Numerals.{add-one}
 use native.Mathlib.Omega.{arith}
-use lib.ListN.{length, getD, replicate, length-append, length-replicate}
+use lib.ListN.{length, getD, length-append}
 use lib.Seq.{getD-append-add, getD-append-seam}
 use lib.Dec.{ltb}
-use borrow.Author.Tests.{ltb-true, ltb-false, lt-ltb, le-ltb, le-leb, lt-leb, ne-eqb, eq-eqb}
-use Rattle.pack.specs.Syntax.{Kind, is, isNot, atLeast, Test, Condition, Effect, Action, Trigger, Rule, Theory, Node, Pack}
+use borrow.Author.Tests.{ltb-true, ltb-false, lt-ltb, le-ltb, lt-leb, ne-eqb, eq-eqb}
 use Rattle.pack.specs.Reading.{done, Reader, pick, bind, mapped, runs, many, gives, whole, ended}
-use Rattle.pack.specs.Number.{numberAt, between, item, counted, beliefAt, risingAt}
-use Rattle.pack.specs.Grammar.{Dimensions, headAt, fluentAt, valueAt, nodeAt, nodesAt, kindOf, testAt, conditionAt, effectAt, effectsAt, consentersAt, actionAt, triggerAt, ruleAt, rulesAt, theoryAt, packAt, packOf, chartOf, dimensions, inChart}
-use Rattle.pack.specs.Laws.Fits.{valued-length, sizes-small, widest, widest-small, fits-widest}
-use Rattle.pack.specs.Laws.Reading.{same-gift}
-use Rattle.pack.specs.Layout.{numberBytes, listBytes, countedBytes, kindNumber, testBytes, conditionBytes, effectBytes, actionBytes, triggerBytes, ruleBytes, nodeBytes, chartBytes, headBytes, theoryBytes, packBytes, Each, Some, Rising, Valued, TestFits, ConditionFits, EffectFits, ActionFits, TriggerFits, RuleFits, NodeFits, ChartFits, PackFits}
+use Rattle.pack.specs.Number.{numberAt, between, item, counted}
+use Rattle.pack.specs.Layout.{numberBytes, listBytes, countedBytes, Each, Some}
 
 -- wherever these bytes stand, the value is read and the place after them
 pub record Accepts {A : Type 0} (p : Reader A) (bytes : List ℕ) (a : A) : Type 0 where
@@ -67,7 +62,7 @@ unfolding numberBytes
 number-accepts v h = record { reads = by-size v h (ltb v 128) (ltb v 16384) refl refl }
 
 -- one thing and then another
-then-accepts : {A B : Type 0} {p : Reader A} (q : A → Reader B) {xs ys : List ℕ} {a : A} {b : B} → Accepts p xs a → Accepts (q a) ys b → Accepts (λ s at. bind (p s at) (λ a n. q a s n)) (xs ++ ys) b
+pub then-accepts : {A B : Type 0} {p : Reader A} (q : A → Reader B) {xs ys : List ℕ} {a : A} {b : B} → Accepts p xs a → Accepts (q a) ys b → Accepts (λ s at. bind (p s at) (λ a n. q a s n)) (xs ++ ys) b
 then-accepts q {xs = xs} {ys = ys} e f = record {
   reads = λ pre post.
       let all : pre ++ ((xs ++ ys) ++ post) ≡ pre ++ (xs ++ (ys ++ post)) = simp append-assoc in
@@ -78,23 +73,23 @@ then-accepts q {xs = xs} {ys = ys} e f = record {
 }
 
 -- a value told otherwise
-mapped-accepts : {A B : Type 0} {p : Reader A} {xs : List ℕ} {a : A} (g : A → B) → Accepts p xs a → Accepts (λ s at. mapped g (p s at)) xs (g a)
+pub mapped-accepts : {A B : Type 0} {p : Reader A} {xs : List ℕ} {a : A} (g : A → B) → Accepts p xs a → Accepts (λ s at. mapped g (p s at)) xs (g a)
 mapped-accepts g e = record { reads = λ pre post. rw (e .reads pre post) }
 
-between-accepts : (low limit number v : ℕ) → low ≤ v → v < limit → limit ≤ 65536 → Accepts (between low limit number) (numberBytes v) v
+pub between-accepts : (low limit number v : ℕ) → low ≤ v → v < limit → limit ≤ 65536 → Accepts (between low limit number) (numberBytes v) v
 unfolding between
 between-accepts low limit number v h g w = record { reads = λ pre post. rw (number-accepts v (omega arith) .reads pre post, le-ltb v low h, lt-ltb v limit g) }
 
-item-accepts : (limit v : ℕ) → v < limit → limit ≤ 65536 → Accepts (item limit) (numberBytes v) v
+pub item-accepts : (limit v : ℕ) → v < limit → limit ≤ 65536 → Accepts (item limit) (numberBytes v) v
 item-accepts limit v h w = between-accepts 0 limit 4 v (omega arith) h w
 
 -- Each of a list is read where it stands
 module _ {S A : Type 0} (p : S → Reader A) (next : S → A → S) (f : A → List ℕ) where
-  unfoldable Run : S → List A → Type 0
+  unfoldable pub Run : S → List A → Type 0
   Run z [] = Unit {0}
   Run z (a ∷ l) = Accepts (p z) (f a) a × Run (next z a) l
 
-  runs-accepts : (l : List A) (z : S) → Run z l → Accepts (runs p next z (length l)) (listBytes f l) l
+  pub runs-accepts : (l : List A) (z : S) → Run z l → Accepts (runs p next z (length l)) (listBytes f l) l
   unfolding Run runs listBytes
   runs-accepts [] z r = record { reads = λ pre post. rw add-zero }
   runs-accepts (a ∷ l) z r = then-accepts _ (r .0) (mapped-accepts (λ rest. a ∷ rest) (runs-accepts l (next z a) (r .1)))
@@ -105,191 +100,18 @@ module _ {A : Type 0} {p : Reader A} {f : A → List ℕ} {P : A → Type 0} (h 
   many-run [] e = tt
   many-run (a ∷ l) e = (h a (e .0), many-run l (e .1))
 
-  many-accepts : (l : List A) → Each P l → Accepts (many p (length l)) (listBytes f l) l
+  pub many-accepts : (l : List A) → Each P l → Accepts (many p (length l)) (listBytes f l) l
   many-accepts l e = runs-accepts (λ (z : Unit {0}). p) (λ z a. z) f l tt (many-run l e)
 
   -- as many as are asked for
-  many-of : (k : ℕ) (l : List A) → length l ≡ k → Each P l → Accepts (many p k) (listBytes f l) l
+  pub many-of : (k : ℕ) (l : List A) → length l ≡ k → Each P l → Accepts (many p k) (listBytes f l) l
   many-of k l g e = subst (λ (k : ℕ). Accepts (many p k) (listBytes f l) l) g (many-accepts l e)
 
-  counted-accepts : (low high : ℕ) → high < 65536 → (l : List A) → Some low high P l → Accepts (counted low (suc high) p) (countedBytes f l) l
+  pub counted-accepts : (low high : ℕ) → high < 65536 → (l : List A) → Some low high P l → Accepts (counted low (suc high) p) (countedBytes f l) l
   counted-accepts low high w l e = then-accepts _ (between-accepts low (suc high) 3 (length l) (e .0) (omega (arith, e .1)) w) (many-accepts l (e .2))
 
-module _ (d : Dimensions) (few : d .characters ≤ 6) (slim : length (d .domains) ≤ 24) (small : (f : ℕ) → getD (d .domains) f 0 ≤ 128) where
-  abbrev C : ℕ
-  C = d .characters
-
-  abbrev D : List ℕ
-  D = d .domains
-
-  kind-back : (k : Kind) → kindOf d (kindNumber k) ≡ k
-  kind-back is = refl
-  kind-back isNot = refl
-  kind-back atLeast = refl
-
-  kind-low : (k : Kind) → kindNumber k < 3
-  kind-low is = omega arith
-  kind-low isNot = omega arith
-  kind-low atLeast = omega arith
-
-  fluent-accepts : (f : ℕ) → f < length D → Accepts (fluentAt d) (numberBytes f) f
-  fluent-accepts f h = item-accepts (length D) f h (omega arith)
-
-  value-accepts : (f v : ℕ) → v < getD D f 0 → Accepts (valueAt d f) (numberBytes v) v
-  value-accepts f v h = item-accepts (getD D f 0) v h (omega (arith, small f))
-
-  test-accepts : (t : Test) → TestFits C D t → Accepts (testAt d) (testBytes t) t
-  unfolding testAt
-  test-accepts t h =
-      subst (Accepts (testAt d) (testBytes t)) (λ i. record { chain = t .chain; kind = kind-back (t .kind) i; fluent = t .fluent; value = t .value })
-      (then-accepts _ (counted-accepts (λ c l. item-accepts C c l (omega arith)) 0 4 (omega arith) (t .chain) (h .0))
-      (then-accepts _ (item-accepts 3 (kindNumber (t .kind)) (kind-low (t .kind)) (omega arith))
-      (then-accepts _ (fluent-accepts (t .fluent) (h .1 .0))
-      (mapped-accepts (λ value. record { chain = t .chain; kind = kindOf d (kindNumber (t .kind)); fluent = t .fluent; value = value }) (value-accepts (t .fluent) (t .value) (h .1 .1))))))
-
-  condition-accepts : (c : Condition) → ConditionFits C D c → Accepts (conditionAt d) (conditionBytes c) c
-  unfolding conditionAt
-  condition-accepts c h = counted-accepts (λ ts g. counted-accepts test-accepts 0 8 (omega arith) ts g) 0 8 (omega arith) c h
-
-  effect-accepts : (e : Effect) → EffectFits C D e → Accepts (effectAt d) (effectBytes e) e
-  unfolding effectAt
-  effect-accepts e h =
-      then-accepts _ (item-accepts (C + 1) (e .whom) (omega (arith, h .0)) (omega arith))
-      (then-accepts _ (fluent-accepts (e .fluent) (h .1 .0))
-      (mapped-accepts (λ value. record { whom = e .whom; fluent = e .fluent; value = value }) (value-accepts (e .fluent) (e .value) (h .1 .1))))
-
-  effects-accepts : (es : List Effect) → Some 0 16 (EffectFits C D) es → Accepts (effectsAt d) (countedBytes effectBytes es) es
-  unfolding effectsAt
-  effects-accepts es h = counted-accepts effect-accepts 0 16 (omega arith) es h
-
-  rising-accepts : (least c : ℕ) → least ≤ c → c < C → Accepts (risingAt C least) (numberBytes c) c
-  unfolding risingAt
-  rising-accepts least c h l = record { reads = λ pre post. rw (item-accepts C c l (omega arith) .reads pre post, le-ltb c least h) }
-
-  rising-run : (cs : List ℕ) (least : ℕ) → Each (λ c. c < C) cs → Rising least cs → Run (risingAt C) (λ least v. v + 1) numberBytes least cs
-  unfolding Each Rising Run
-  rising-run [] least e r = tt
-  rising-run (c ∷ cs) least e r =
-      (rising-accepts least c (r .0) (e .0), rising-run cs (c + 1) (e .1) (subst (λ (n : ℕ). Rising n cs) (sym (add-one c)) (r .1)))
-
-  consenters-accepts : (cs : List ℕ) → Some 0 6 (λ c. c < C) cs → Rising 0 cs → Accepts (consentersAt d) (countedBytes numberBytes cs) cs
-  unfolding consentersAt
-  consenters-accepts cs h r =
-      then-accepts _ (between-accepts 0 7 3 (length cs) (h .0) (omega (arith, h .1)) (omega arith)) (runs-accepts (risingAt C) (λ least v. v + 1) numberBytes cs 0 (rising-run cs 0 (h .2) r))
-
-  action-accepts : (a : Action) → ActionFits C D a → Accepts (actionAt d) (actionBytes a) a
-  unfolding actionAt
-  action-accepts a h =
-      then-accepts _ (condition-accepts (a .condition) (h .condition))
-      (then-accepts _ (effects-accepts (a .effects) (h .effects))
-      (then-accepts _ (consenters-accepts (a .consenters) (h .consenters) (h .rising))
-      (mapped-accepts (λ observed. record { condition = a .condition; effects = a .effects; consenters = a .consenters; observed = observed })
-      (many-of condition-accepts C (a .observed) (h .observers) (h .observed)))))
-
-  trigger-accepts : (t : Trigger) → TriggerFits C D t → Accepts (triggerAt d) (triggerBytes t) t
-  unfolding triggerAt
-  trigger-accepts t h =
-      then-accepts _ (condition-accepts (t .condition) (h .0)) (mapped-accepts (λ effects. record { condition = t .condition; effects = effects }) (effects-accepts (t .effects) (h .1)))
-
-  rule-accepts : (r : Rule) → RuleFits C D r → Accepts (ruleAt d) (ruleBytes r) r
-  unfolding ruleAt
-  rule-accepts r h =
-      then-accepts _ (condition-accepts (r .condition) (h .0)) (mapped-accepts (λ utility. record { condition = r .condition; utility = utility }) (number-accepts (r .utility) (omega (arith, h .1))))
-
-  rules-accepts : (rs : List Rule) → Some 0 8 (RuleFits C D) rs → Accepts (rulesAt d) (countedBytes ruleBytes rs) rs
-  unfolding rulesAt
-  rules-accepts rs h = counted-accepts rule-accepts 0 8 (omega arith) rs h
-
-  -- the values of a node: those left, from fluent f on
-  values-run : (ds values : List ℕ) (f : ℕ) → ((i : ℕ) → getD D (f + i) 0 ≡ getD ds i 0) → Valued ds values → Run (valueAt d) (λ f v. f + 1) numberBytes f values
-  unfolding Valued Run
-  values-run [] [] f e h = tt
-  values-run [] (v ∷ values) f e h = absurd h
-  values-run (x ∷ ds) [] f e h = absurd h
-  values-run (x ∷ ds) (v ∷ values) f e h =
-      let here : getD D f 0 ≡ x = ap (λ (n : ℕ). getD D n 0) (sym (add-zero f)) ∙ e 0 in
-      let next : (i : ℕ) → getD D ((f + 1) + i) 0 ≡ getD ds i 0 = λ i. let g : (f + 1) + i ≡ f + suc i = omega arith in ap (λ (n : ℕ). getD D n 0) g ∙ e (suc i) in
-      (value-accepts f v (omega (arith, h .0)), values-run ds values (f + 1) next (h .1))
-
-  values-accepts : (values : List ℕ) → Valued D values → Accepts (runs (valueAt d) (λ f v. f + 1) 0 (length D)) (listBytes numberBytes values) values
-  values-accepts values h =
-      subst (λ (k : ℕ). Accepts (runs (valueAt d) (λ f v. f + 1) 0 k) (listBytes numberBytes values) values) (valued-length D values h)
-      (runs-accepts (valueAt d) (λ f v. f + 1) numberBytes values 0 (values-run D values 0 (λ i. let g : 0 + i ≡ i = omega arith in ap (λ (n : ℕ). getD D n 0) g) h))
-
-  belief-accepts : (nodes b : ℕ) → nodes ≤ 32 → b < nodes → Accepts (beliefAt nodes) (numberBytes (suc b)) b
-  unfolding beliefAt
-  belief-accepts nodes b w h = record {
-    reads = λ pre post.
-        let z : suc b ≡ 0 → ⊥ = omega arith in
-        let g : suc b - 1 ≡ b = omega arith in
-        rw (number-accepts (suc b) (omega arith) .reads pre post, ne-eqb (suc b) 0 z, le-leb (suc b) nodes h, g);
-  }
-
-  node-accepts : (nodes : ℕ) → nodes ≤ 32 → (n : Node) → NodeFits C D nodes n → Accepts (nodeAt d nodes) (nodeBytes n) n
-  unfolding nodeAt
-  node-accepts nodes w n h =
-      then-accepts _ (values-accepts (n .values) (h .values))
-      (mapped-accepts (λ beliefs. record { values = n .values; beliefs = beliefs }) (many-of (λ b g. belief-accepts nodes b w g) C (n .beliefs) (h .believers) (h .beliefs)))
-
-  nodes-accepts : (t : List Node) → ChartFits C D t → Accepts (nodesAt d) (chartBytes t) t
-  unfolding nodesAt
-  nodes-accepts t h = then-accepts _ (between-accepts 1 33 3 (length t) (h .0) (omega (arith, h .1)) (omega arith)) (many-accepts (node-accepts (length t) (h .1)) t (h .2))
-
-module _ (p : Pack) (h : PackFits p) where
-  abbrev T : Theory
-  T = p .theory
-
-  head-accepts : Accepts headAt (headBytes T) (dimensions T)
-  unfolding headAt
-  head-accepts =
-      then-accepts _ (between-accepts 1 2 3 1 (omega arith) (omega arith) (omega arith))
-      (then-accepts _ (between-accepts 1 7 3 (T .characters) (h .characters .0) (omega (arith, h .characters .1)) (omega arith))
-      (mapped-accepts (λ domains. record { characters = T .characters; domains = domains })
-      (counted-accepts (λ d g. between-accepts 1 129 3 d (g .0) (omega (arith, g .1)) (omega arith)) 1 24 (omega arith) (T .domains) (h .domains))))
-
-  theory-accepts : Accepts (theoryAt (dimensions T)) (theoryBytes T) T
-  unfolding theoryAt
-  theory-accepts =
-      let d = dimensions T in
-      let few = h .characters .1 in
-      let slim = h .domains .1 in
-      let small = sizes-small (T .domains) (h .domains .2) in
-      then-accepts _ (counted-accepts (action-accepts d few slim small) 0 32 (omega arith) (T .actions) (h .actions))
-      (then-accepts _ (counted-accepts (trigger-accepts d few slim small) 0 16 (omega arith) (T .triggers) (h .triggers))
-      (mapped-accepts (λ utilities. record { characters = T .characters; domains = T .domains; actions = T .actions; triggers = T .triggers; utilities = utilities })
-      (many-of (rules-accepts d few slim small) (suc (T .characters)) (T .utilities) (h .everyone) (h .utilities))))
-
-  pack-accepts : Accepts packAt (packBytes p) p
-  unfolding packAt packBytes
-  pack-accepts =
-      then-accepts _ head-accepts
-      (then-accepts _ (nodes-accepts (dimensions T) (h .characters .1) (h .domains .1) (sizes-small (T .domains) (h .domains .2)) (p .nodes) (h .nodes))
-      (mapped-accepts (λ theory. record { theory = theory; nodes = p .nodes }) theory-accepts))
-
 -- what is accepted wherever it stands is accepted alone
-whole-accepts : {A : Type 0} (p : Reader A) (bytes : List ℕ) (a : A) → Accepts p bytes a → whole p bytes ≡ gives a
+pub whole-accepts : {A : Type 0} (p : Reader A) (bytes : List ℕ) (a : A) → Accepts p bytes a → whole p bytes ≡ gives a
 whole-accepts p bytes a e =
     let h : p bytes 0 ≡ done a (length bytes) = ap (λ (l : List ℕ). p l 0) (sym (append-nil bytes)) ∙ e .reads [] [] ∙ ap (done a) (let g : 0 + length bytes ≡ length bytes = omega arith in g) in
     ap (ended (length bytes)) h ∙ (rw (eq-eqb (length bytes) (length bytes) refl))
-
--- Every pack that keeps the layout is accepted, and read as what was written
-pub pack-back : (p : Pack) → PackFits p → packOf (packBytes p) ≡ gives p
-unfolding packOf
-pack-back p h = rw (le-ltb 8192 (length (packBytes p)) (h .short)) (whole-accepts packAt (packBytes p) p (pack-accepts p h))
-
--- So is every chart, under any theory whose counts and domain sizes are within their limits
-pub chart-back : (p : Theory) → p .characters ≤ 6 → length (p .domains) ≤ 24 → ((f : ℕ) → getD (p .domains) f 0 ≤ 128)
-    → (t : List Node) → ChartFits (p .characters) (p .domains) t → chartOf p (chartBytes t) ≡ gives t
-unfolding chartOf
-chart-back p few slim small t h = ap inChart (whole-accepts (nodesAt (dimensions p)) (chartBytes t) t (nodes-accepts (dimensions p) few slim small t h))
-
--- Charts over equally many characters and fluents that are written in the same bytes are the same rows
-pub chart-bytes-one : (C : ℕ) (D D′ : List ℕ) → C ≤ 6 → length D ≤ 24 → length D ≡ length D′ → ((f : ℕ) → getD D f 0 ≤ 128) → ((f : ℕ) → getD D′ f 0 ≤ 128)
-    → (t u : List Node) → ChartFits C D t → ChartFits C D′ u → chartBytes t ≡ chartBytes u → t ≡ u
-chart-bytes-one C D D′ few slim e small small′ t u ft fu same = same-gift (sym (back t (fits-widest C D small t ft)) ∙ ap (whole (nodesAt d)) same ∙ back u (subst (λ (n : ℕ). ChartFits C (replicate n 128) u) (sym e) (fits-widest C D′ small′ u fu)))
-  where
-    d : Dimensions
-    d = record { characters = C; domains = widest D }
-
-    back : (t : List Node) → ChartFits C (widest D) t → whole (nodesAt d) (chartBytes t) ≡ gives t
-    back t h = whole-accepts (nodesAt d) (chartBytes t) t (nodes-accepts d few (omega (arith, length-replicate {A = ℕ} (length D) 128)) (widest-small D) t h)
