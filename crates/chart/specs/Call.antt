@@ -8,16 +8,19 @@ use Rattle.pack.specs.Syntax.{Theory, Node, Pack}
 use Rattle.pack.specs.Reading.{Reply, gives, refuses, with, pick}
 use Rattle.pack.specs.Grammar.{packOf, chartOf}
 
--- "Needed: 961 for a chart, 62 for Compare's chain, 8 for Search's list, 49,152 for work."
+-- "Needed: 961 for a chart"
 abbrev pub chartRoom : ℕ
 chartRoom = 961
 
+-- "62 for Compare's chain"
 abbrev pub chainRoom : ℕ
 chainRoom = 62
 
+-- "8 for Search's list"
 abbrev pub listRoom : ℕ
 listRoom = 8
 
+-- "49,152 for work"
 abbrev pub workRoom : ℕ
 workRoom = 49152
 
@@ -51,6 +54,7 @@ byChecks number = ltb number 10 || leb 21 number
 abbrev pub cleared : List ℕ → List ℕ
 cleared before = replicate workRoom 0 ++ drop workRoom before
 
+-- "After 1 to 9 and 21 to 27 the work buffer is unchanged, after all else its first 49,152 bytes are 0."
 unfoldable pub workAfter : {A : Type 0} → Reply A → List ℕ → List ℕ
 workAfter (gives a) before = cleared before
 workAfter (refuses number place) before = pick (byChecks number) before (cleared before)

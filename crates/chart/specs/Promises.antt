@@ -20,6 +20,7 @@ abbrev pub chartSaid : Charted → Reply ℕ
 chartSaid (charted.Chart bytes) = gives bytes
 chartSaid (charted.Refused number place) = refuses number place
 
+-- Query "gives its value where the chain leads"
 abbrev pub querySaid : Queried → Reply ℕ
 querySaid (queried.Value value) = gives value
 querySaid (queried.Refused number place) = refuses number place
@@ -29,10 +30,12 @@ pub data Difference : Type 0 where
   nowhere : Difference
   after : (length fluent : ℕ) → Difference
 
+-- of each verdict
 abbrev pub difference : Verdict → Difference
 difference same = nowhere
 difference (differ chain fluent) = after (length chain) fluent
 
+-- Compare: "same, or .. chain .. and .. fluent"
 abbrev pub compareSaid : Matched → Reply Difference
 compareSaid (matched.Same) = gives nowhere
 compareSaid (matched.Differ length fluent) = gives (after length fluent)

@@ -16,6 +16,7 @@ use Rattle.chart.specs.Call.{chartRoom, chainRoom, workRoom, fits, call}
 abbrev pub firstOf : List (List Node) → List Node
 firstOf tables = getD tables 0 []
 
+-- the second: "Order: pack, first chart, second chart"
 abbrev pub secondOf : List (List Node) → List Node
 secondOf tables = getD tables 1 []
 

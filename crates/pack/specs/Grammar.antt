@@ -112,6 +112,7 @@ abbrev pub inChart : {A : Type 0} → Reply A → Reply A
 inChart (gives a) = gives a
 inChart (refuses k p) = refuses (k + 20) p
 
+-- what the readers of a chart need of the pack that it is read under
 abbrev pub dimensions : Theory → Dimensions
 dimensions p = record { characters = p .characters; domains = p .domains }
 

@@ -23,27 +23,34 @@ listBytes f (a ∷ rest) = f a ++ listBytes f rest
 abbrev pub countedBytes : {A : Type 0} → (A → List ℕ) → List A → List ℕ
 countedBytes f l = numberBytes (length l) ++ listBytes f l
 
+-- "0 is, 1 is not, 2 at least"
 abbrev pub kindNumber : Kind → ℕ
 kindNumber is = 0
 kindNumber isNot = 1
 kindNumber atLeast = 2
 
+-- "a chain length 0 to 4, its characters, a kind, a fluent, a value"
 abbrev pub testBytes : Test → List ℕ
 testBytes t = countedBytes numberBytes (t .chain) ++ (numberBytes (kindNumber (t .kind)) ++ (numberBytes (t .fluent) ++ numberBytes (t .value)))
 
+-- "0 to 8 alternatives, each of 0 to 8 tests"
 abbrev pub conditionBytes : Condition → List ℕ
 conditionBytes = countedBytes (countedBytes testBytes)
 
+-- "each with whom .., fluent, value"
 abbrev pub effectBytes : Effect → List ℕ
 effectBytes e = numberBytes (e .whom) ++ (numberBytes (e .fluent) ++ numberBytes (e .value))
 
+-- "a condition; effects; a count of consenters .. and the consenters ..; a condition of observation per character"
 abbrev pub actionBytes : Action → List ℕ
 actionBytes a =
     conditionBytes (a .condition) ++ (countedBytes effectBytes (a .effects) ++ (countedBytes numberBytes (a .consenters) ++ listBytes conditionBytes (a .observed)))
 
+-- "a condition; effects"
 abbrev pub triggerBytes : Trigger → List ℕ
 triggerBytes t = conditionBytes (t .condition) ++ countedBytes effectBytes (t .effects)
 
+-- "each a condition and a worth"
 abbrev pub ruleBytes : Rule → List ℕ
 ruleBytes r = conditionBytes (r .condition) ++ numberBytes (r .utility)
 
@@ -55,12 +62,15 @@ nodeBytes n = listBytes numberBytes (n .values) ++ listBytes (λ b. numberBytes 
 abbrev pub chartBytes : List Node → List ℕ
 chartBytes = countedBytes nodeBytes
 
+-- "version 1; characters ..; fluents .., then each one's domain size"
 abbrev pub headBytes : Theory → List ℕ
 headBytes p = numberBytes 1 ++ (numberBytes (p .characters) ++ countedBytes numberBytes (p .domains))
 
+-- "actions ..; triggers ..; worths, the author's first, then each character's"
 abbrev pub theoryBytes : Theory → List ℕ
 theoryBytes p = countedBytes actionBytes (p .actions) ++ (countedBytes triggerBytes (p .triggers) ++ listBytes (countedBytes ruleBytes) (p .utilities))
 
+-- "and in this order"
 unfoldable pub packBytes : Pack → List ℕ
 packBytes p = headBytes (p .theory) ++ (chartBytes (p .nodes) ++ theoryBytes (p .theory))
 
@@ -90,15 +100,19 @@ abbrev pub OfFluent : (domains : List ℕ) (fluent value : ℕ) → Type 0
 OfFluent domains fluent value = (fluent < length domains) × (value < getD domains fluent 0)
 
 module _ (C : ℕ) (domains : List ℕ) where
+  -- "a chain length 0 to 4, its characters", a fluent that is there and one of its values
   abbrev pub TestFits : Test → Type 0
   TestFits t = Some 0 4 (λ c. c < C) (t .chain) × OfFluent domains (t .fluent) (t .value)
 
+  -- "0 to 8 alternatives, each of 0 to 8 tests"
   abbrev pub ConditionFits : Condition → Type 0
   ConditionFits = Some 0 8 (Some 0 8 TestFits)
 
+  -- "whom (0 the state itself, character + 1 that character's belief), fluent, value"
   abbrev pub EffectFits : Effect → Type 0
   EffectFits e = (e .whom ≤ C) × OfFluent domains (e .fluent) (e .value)
 
+  -- "effects: a count 0 to 16"; "consenters 0 to 6 .., strictly rising; a condition of observation per character"
   pub record ActionFits (a : Action) : Type 0 where
     pub condition : ConditionFits (a .condition)
     pub effects : Some 0 16 EffectFits (a .effects)
@@ -107,12 +121,15 @@ module _ (C : ℕ) (domains : List ℕ) where
     pub observers : length (a .observed) ≡ C
     pub observed : Each ConditionFits (a .observed)
 
+  -- "a condition; effects"
   abbrev pub TriggerFits : Trigger → Type 0
   TriggerFits t = ConditionFits (t .condition) × Some 0 16 EffectFits (t .effects)
 
+  -- "a condition and a worth"; a number is "at most 65,535"
   abbrev pub RuleFits : Rule → Type 0
   RuleFits r = ConditionFits (r .condition) × (r .utility ≤ 65535)
 
+  -- "a value per fluent, then per character the believed node's number"
   pub record NodeFits (nodes : ℕ) (n : Node) : Type 0 where
     pub values : Valued domains (n .values)
     pub believers : length (n .beliefs) ≡ C

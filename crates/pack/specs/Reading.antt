@@ -14,6 +14,7 @@ pub data Reading (A : Type 0) : Type 0 where
 abbrev pub Reader : Type 0 → Type 0
 Reader A = List ℕ → ℕ → Reading A
 
+-- the first where the test holds, else the second
 abbrev pub pick : {A : Type 0} → Bool → A → A → A
 pick true a b = a
 pick false a b = b
@@ -23,6 +24,7 @@ abbrev pub bind : {A B : Type 0} → Reading A → (A → ℕ → Reading B) →
 bind (done a n) f = f a n
 bind (refused k p) f = refused k p
 
+-- the same reading, its value told otherwise
 abbrev pub mapped : {A B : Type 0} → (A → B) → Reading A → Reading B
 mapped g (done a n) = done (g a) n
 mapped g (refused k p) = refused k p
@@ -41,10 +43,12 @@ pub data Reply (A : Type 0) : Type 0 where
   gives : A → Reply A
   refuses : (number place : ℕ) → Reply A
 
+-- go on with what is given; a refusal stays
 abbrev pub with : {A B : Type 0} → Reply A → (A → Reply B) → Reply B
 with (gives a) f = f a
 with (refuses k p) f = refuses k p
 
+-- the same reply, its answer told otherwise
 abbrev pub told : {A B : Type 0} → (A → B) → Reply A → Reply B
 told g (gives a) = gives (g a)
 told g (refuses k p) = refuses k p
@@ -54,5 +58,6 @@ abbrev pub ended : {A : Type 0} → ℕ → Reading A → Reply A
 ended end (done a n) = pick (eqb n end) (gives a) (refuses 7 n)
 ended end (refused k p) = refuses k p
 
+-- what a reader makes of all the bytes
 abbrev pub whole : {A : Type 0} → Reader A → List ℕ → Reply A
 whole p bytes = ended (length bytes) (p bytes 0)

@@ -29,6 +29,7 @@ Valid C (c ∷ chain) = (c < C) × Valid C chain
 abbrev pub nowhere : Node
 nowhere = record { values = []; beliefs = [] }
 
+-- node n of a table: "Characters, fluents, nodes and actions count from 0."
 abbrev pub node : List Node → ℕ → Node
 node t n = getD t n nowhere
 

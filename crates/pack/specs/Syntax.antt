@@ -50,6 +50,7 @@ pub record Theory : Type 0 where
   -- "worths, the author's first, then each character's"
   pub utilities : List (List Rule)
 
+-- how many fluents there are
 abbrev pub fluents : Theory → ℕ
 fluents p = lib.ListN.length (p .domains)
 

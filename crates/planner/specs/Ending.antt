@@ -12,6 +12,7 @@ use Rattle.transition.specs.Happening.{Plays, actionOf}
 abbrev pub authorUtility : Theory → State → ℕ
 authorUtility p s = utility s (getD (p .utilities) 0 [])
 
+-- "then each character's"
 abbrev pub utilityTo : Theory → ℕ → State → ℕ
 utilityTo p c s = utility s (getD (p .utilities) (suc c) [])
 

@@ -23,9 +23,11 @@ pub record Summary : Type 0 where
   pub before : ℕ
   pub after : ℕ
 
+-- of each plan
 abbrev pub summary : Plan → Summary
 summary p = record { length = length (p .list); before = p .before; after = p .after }
 
+-- Search: "the length, .. and both worths", or a refusal, 13 among them
 abbrev pub searchSaid : Found → Reply Summary
 searchSaid (found.Ending length before after) = gives (record { length = length; before = before; after = after })
 searchSaid (found.Refused number place) = refuses number place

@@ -18,6 +18,7 @@ P-with byte6 =
     0x01 ∷ 0x02 ∷ 0x01 ∷ 0x03 ∷ 0x01 ∷ 0x00 ∷ byte6 ∷ 0x01 ∷ 0x01 ∷ 0x01 ∷ 0x01 ∷ 0x00 ∷ 0x00 ∷ 0x00 ∷ 0x00 ∷ 0x01 ∷ 0x00 ∷ 0x00 ∷ 0x01 ∷ 0x01 ∷ 0x00
     ∷ 0x01 ∷ 0x00 ∷ 0x00 ∷ 0x00 ∷ 0x01 ∷ 0x01 ∷ 0x01 ∷ 0x00 ∷ 0x00 ∷ 0x00 ∷ 0x01 ∷ 0x05 ∷ 0x01 ∷ 0x01 ∷ 0x01 ∷ 0x00 ∷ 0x00 ∷ 0x00 ∷ 0x01 ∷ 0x05 ∷ 0x00 ∷ []
 
+-- P itself
 abbrev pub P : List ℕ
 P = P-with 0x01
 
@@ -52,6 +53,7 @@ Says (explained c a e K r) = (work : List ℕ) → workRoom ≤ length work → 
 Says (search T K E r) = (list work : List ℕ) → listRoom ≤ length list → workRoom ≤ length work → searchReply P T K E list work ≡ r
 Says (refusal pack number place) = packOf pack ≡ refuses number place
 
+-- "The readings of P marked * are shown to follow from the definitions, as one theorem over a small table"; "The rows of 1 and 5."
 abbrev pub starred : List Reading
 starred =
     start (gives started)

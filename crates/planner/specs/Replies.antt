@@ -14,9 +14,11 @@ use Rattle.planner.specs.Answers.{explainedTable, searchTable}
 abbrev pub storyLimit : ℕ → Bool
 storyLimit T = leb 1 T && leb T 8
 
+-- "the foresight limit K (1 to 6 actions)"
 abbrev pub foresightLimit : ℕ → Bool
 foresightLimit K = leb 1 K && leb K 6
 
+-- "the nesting limit E (0 to 3)"
 abbrev pub nestingLimit : ℕ → Bool
 nestingLimit E = leb E 3
 

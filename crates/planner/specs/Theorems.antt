@@ -82,6 +82,7 @@ module _ {pack : List ℕ} {p : Pack} (given : Given pack p) where
     pub compare-is : (v : Verdict) → Compared C (state t) (state u) v ↔ (compareReply pack first second chain work ≡ gives v)
     compare-is = compare-says given first second chain work t u one two room enough
 
+    -- "The chain has at most 62 characters"
     pub compare-62 : (ch : List ℕ) (fluent : ℕ) → compareReply pack first second chain work ≡ gives (differ ch fluent) → length ch ≤ 62
     compare-62 = compare-chain given first second chain work t u one two room enough
 
@@ -105,6 +106,7 @@ module _ {pack : List ℕ} {p : Pack} (given : Given pack p) where
     pub explained-is : (explainedReply pack chart c a K e work ≡ gives true) ↔ Explained theory K e c a (state t)
     explained-is = explained-says given chart t read c a K e who there k1 k6 e3 work enough
 
+    -- "otherwise it is no"
     pub unexplained-is : (explainedReply pack chart c a K e work ≡ gives false) ↔ (¬ Explained theory K e c a (state t))
     unexplained-is = explained-denies given chart t read c a K e who there k1 k6 e3 work enough
 
@@ -114,6 +116,7 @@ module _ {pack : List ℕ} {p : Pack} (given : Given pack p) where
     pub no-ending : (searchReply pack T K E list work ≡ refuses 13 0) ↔ ((actions : List ℕ) → ¬ Ending theory K T E (state (p .nodes)) actions)
     no-ending = search-says given T K E t1 t8 k1 k6 e3 list work room enough none
 
+    -- and what is found
     pub found : (actions : List ℕ) (before after : ℕ)
         → (searchReply pack T K E list work ≡ gives (record { list = actions; before = before; after = after })) ↔ Sought theory K T E (state (p .nodes)) actions before after
     found actions before after = search-says given T K E t1 t8 k1 k6 e3 list work room enough (ending actions before after)
@@ -138,9 +141,11 @@ nodes-alone {p = p} {p′ = p′} g g′ same means T K E list work list′ work
 pub one-outcome : (p : Theory) (s : State) (a : ℕ) (o o′ : Outcome) → Steps p s a o → Steps p s a o′ → o ≡ o′
 one-outcome p s a o o′ x y = steps-one x y
 
+-- one state that is left
 pub one-state : (p : Theory) (s : State) (a : ℕ) (t u : State) → Plays p s a t → Plays p s a u → t ≡ u
 one-state p s a t u x y = plays-one x y
 
+-- one answer of Search
 pub one-answer : (p : Theory) (K T E : ℕ) (s : State) (r r′ : Answer) → Searched p K T E s r → Searched p K T E s r′ → r ≡ r′
 one-answer = searched-one
 

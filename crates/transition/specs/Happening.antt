@@ -36,10 +36,12 @@ unfoldable pub firing : List Trigger → State → Option Trigger
 firing [] s = none
 firing (t ∷ ts) s = cond (holds s (t .condition)) (some t) (firing ts s)
 
+-- where no trigger holds nothing takes effect
 abbrev pub effectsOf : Option Trigger → List Effect
 effectsOf none = []
 effectsOf (some t) = t .effects
 
+-- what takes effect in a state in a round
 abbrev pub fires : List Trigger → State → List Effect
 fires ts s = effectsOf (firing ts s)
 
@@ -64,9 +66,11 @@ pub data Stops (p : Theory) : ℕ → State → ℕ → Type 0 where
   loud : {s : State} → AtMost 32 (p .characters) s → ¬ Quiet p s → Stops p 0 s 11
   later : {k : ℕ} {s : State} {n : ℕ} → AtMost 32 (p .characters) s → ¬ Quiet p s → Stops p k (round (p .triggers) s) n → Stops p (suc k) s n
 
+-- what stands for an action that isn't there: its condition never holds
 abbrev pub nothing : Action
 nothing = record { condition = []; effects = []; consenters = []; observed = [] }
 
+-- action a: "Characters, fluents, nodes and actions count from 0."
 abbrev pub actionOf : Theory → ℕ → Action
 actionOf p a = getD (p .actions) a nothing
 

@@ -7,6 +7,7 @@ use Rattle.pack.specs.State.{State, meaning}
 use Rattle.chart.specs.Chart.{Written}
 use Rattle.transition.specs.Happening.{Plays, Refuses}
 
+-- a chart, or a number
 pub data Outcome : Type 0 where
   leaves : List Node → Outcome
   refused : ℕ → Outcome
