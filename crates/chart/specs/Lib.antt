@@ -7,3 +7,4 @@ pub mod Answers
 pub mod Call
 pub mod Replies
 pub mod Promises
+pub mod Inner

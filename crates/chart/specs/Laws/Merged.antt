@@ -18,12 +18,12 @@ unfoldable pub classes : (ℕ → ℕ) → ℕ → ℕ
 classes cls zero = 0
 classes cls (suc i) = max (classes cls i) (suc (cls i))
 
-getD-map : (f : ℕ → ℕ) (bs : List ℕ) (c : ℕ) → c < length bs → getD (map f bs) c 0 ≡ f (getD bs c 0)
+pub getD-map : (f : ℕ → ℕ) (bs : List ℕ) (c : ℕ) → c < length bs → getD (map f bs) c 0 ≡ f (getD bs c 0)
 getD-map f [] c h = absurd (omega arith)
 getD-map f (b ∷ bs) zero h = refl
 getD-map f (b ∷ bs) (suc c) h = getD-map f bs c (omega arith)
 
-meets-up : (k : ℕ) (bs : List ℕ) → k ≤ meets k bs
+pub meets-up : (k : ℕ) (bs : List ℕ) → k ≤ meets k bs
 unfolding meets
 meets-up k [] = omega arith
 meets-up k (b ∷ bs) = omega (arith, meets-up (max k (suc b)) bs)

@@ -48,6 +48,13 @@ module _ (C : ℕ) {K : Type 0} (Real : K → Type 0) (val : K → List ℕ) (ne
     old-met zero h = refl
     old-met (suc i) h = ap₂ meets (old-met i (omega arith)) (ap (λ (n : Node). n .beliefs) (old-node i h))
 
+    -- how many are numbered once the row is read
+    pub pass-count : numbered (t ++ (row ∷ [])) ≡ meets (numbered t) (row .beliefs)
+    unfolding met
+    pass-count =
+        let long : length (t ++ (row ∷ [])) ≡ suc (length t) = omega (arith, length-append t (row ∷ [])) in
+        ap (met (t ++ (row ∷ []))) long ∙ ap₂ meets (old-met (length t) (omega arith)) (ap (λ (n : Node). n .beliefs) (getD-append-seam t row [] nowhere))
+
     pub pass-row : (key key′ : ℕ → K) → Pass t key → ((i : ℕ) → i < numbered t → key′ i ≡ key i) → ((i : ℕ) → i < meets (numbered t) (row .beliefs) → Real (key′ i))
         → length t < numbered t → row .values ≡ val (key (length t)) → length (row .beliefs) ≡ C → Fresh (numbered t) (row .beliefs)
         → ((c : ℕ) → c < C → key′ (getD (row .beliefs) c 0) ≡ next (key (length t)) c) → Pass (t ++ (row ∷ [])) key′

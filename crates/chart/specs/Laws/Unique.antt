@@ -63,7 +63,7 @@ pub written-same : (C : ℕ) (t u : List Node) → Written C t → Written C u �
 written-same C t u w v = (λ e chain x. ap (λ (t : List Node). meaning C t 0 chain) e, λ h. unique C t u w v (same-valid C t u 0 0 .1 h))
 
 -- every row is reached: so the rows of a written chart are the states reached by beliefs, each once
-named : (i k : ℕ) (bs : List ℕ) → Fresh k bs → i < meets k bs → (i < k) ⊎ ((c : ℕ) × (c < length bs) × (getD bs c 0 ≡ i))
+pub named : (i k : ℕ) (bs : List ℕ) → Fresh k bs → i < meets k bs → (i < k) ⊎ ((c : ℕ) × (c < length bs) × (getD bs c 0 ≡ i))
 unfolding meets Fresh
 named i k [] f l = inl l
 named i k (b ∷ bs) f l =

@@ -1,0 +1,6 @@
+-- The modules of `proofs/` that belong to no one function.
+pub mod Cells
+pub mod Numbering
+pub mod Passing
+pub mod Copying
+pub mod Merging
