@@ -4,3 +4,6 @@ pub mod Numbering
 pub mod Passing
 pub mod Copying
 pub mod Merging
+pub mod Sorting
+pub mod Leveling
+pub mod Parting

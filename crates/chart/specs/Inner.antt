@@ -3,3 +3,4 @@ pub mod Bytes
 pub mod Put
 pub mod Numbers
 pub mod Classed
+pub mod Level
