@@ -7,3 +7,5 @@ pub mod Merging
 pub mod Sorting
 pub mod Leveling
 pub mod Parting
+pub mod Outing
+pub mod Charting

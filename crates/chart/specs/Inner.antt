@@ -4,3 +4,4 @@ pub mod Put
 pub mod Numbers
 pub mod Classed
 pub mod Level
+pub mod Out

@@ -4,6 +4,7 @@ pub mod copy;
 pub mod merge;
 pub mod number;
 pub mod partition;
+pub mod write;
 
 // What Start hands back, and Step above it: the length of the chart that was written, or a refusal's number and place.
 pub enum Charted {

@@ -1,7 +1,7 @@
 -- What fits the layout: members by their places, the rows of a table, and how long a chart's bytes are. Assumes nothing.
 use Prim.Native.Nat.{ℕ, zero, suc, _+_, _*_, _<_, _≤_}
-use mathlib.Core.Path.{_≡_, refl, ap}
-use mathlib.Core.List.{List, [], _∷_}
+use mathlib.Core.Path.{_≡_, refl, sym, ap, _∙_}
+use mathlib.Core.List.{List, [], _∷_, _++_, map, append-nil, append-assoc}
 use native.Mathlib.Nat.{mul-le-mul, zero-mul, suc-mul}
 use native.Mathlib.Omega.{arith}
 use lib.ListN.{length, getD, set, replicate, length-append}
@@ -69,12 +69,29 @@ pub one-byte : (v : ℕ) → v < 128 → length (numberBytes v) ≡ 1
 unfolding numberBytes
 one-byte v h = rw (lt-ltb v 128 h) refl
 
+-- numbers below 128 are written as they are
+pub plain-bytes : (l : List ℕ) → Each (λ v. v < 128) l → listBytes numberBytes l ≡ l
+unfolding Each listBytes numberBytes
+plain-bytes [] e = refl
+plain-bytes (v ∷ l) e = rw (lt-ltb v 128 (e .0)) (ap (λ (l : List ℕ). v ∷ l) (plain-bytes l (e .1)))
+
+pub next-bytes : (l : List ℕ) → Each (λ v. suc v < 128) l → listBytes (λ v. numberBytes (suc v)) l ≡ map suc l
+unfolding Each listBytes numberBytes
+next-bytes [] e = refl
+next-bytes (v ∷ l) e = rw (lt-ltb (suc v) 128 (e .0)) (ap (λ (l : List ℕ). suc v ∷ l) (next-bytes l (e .1)))
+
+-- one more at the end
+pub list-snoc : {A : Type 0} (f : A → List ℕ) (l : List A) (a : A) → listBytes f (l ++ (a ∷ [])) ≡ listBytes f l ++ f a
+unfolding listBytes
+list-snoc f [] a = append-nil (f a)
+list-snoc f (b ∷ l) a = ap (λ (x : List ℕ). f b ++ x) (list-snoc f l a) ∙ sym (append-assoc (f b) (listBytes f l) (f a))
+
 list-length : {A : Type 0} (f : A → List ℕ) (k : ℕ) (l : List A) → Each (λ a. length (f a) ≡ k) l → length (listBytes f l) ≡ length l * k
 unfolding Each listBytes
 list-length f k [] e = omega (arith, zero-mul k)
 list-length f k (a ∷ l) e = omega (arith, length-append (f a) (listBytes f l), e .0, list-length f k l (e .1), suc-mul (length l) k)
 
-values-small : (ds values : List ℕ) → ((f : ℕ) → getD ds f 0 ≤ 128) → Valued ds values → Each (λ v. v < 128) values
+pub values-small : (ds values : List ℕ) → ((f : ℕ) → getD ds f 0 ≤ 128) → Valued ds values → Each (λ v. v < 128) values
 unfolding Valued Each
 values-small [] [] small h = tt
 values-small [] (v ∷ values) small h = absurd h
