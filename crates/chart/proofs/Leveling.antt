@@ -12,7 +12,7 @@ use Rattle.chart.specs.Laws.Merged.{classes, Numbered, grows}
 use Rattle.chart.specs.Inner.Bytes.{Below, Above, Between}
 use Rattle.chart.specs.Inner.Numbers.{Sound}
 use Rattle.chart.specs.Inner.Classed.{classAt}
-use Rattle.chart.specs.Inner.Level.{SamePart, SameClasses, Alike, RowOk, Against, ClassIs, Levels, Finer, Sorted, RowClassed, Leveled}
+use Rattle.chart.specs.Inner.Level.{Alike, RowOk, Against, ClassIs, Levels, Finer, Sorted, RowClassed, Leveled}
 use Rattle.chart.proofs.Cells.{row-in}
 use Rattle.chart.proofs.Sorting.{Equivalence, sorted-none, sorted-as, sorted-old, sorted-new}
 
@@ -40,9 +40,9 @@ module _ {bytes : List ℕ} {w f c t k r count i : ℕ} where
 -- `Alike` is an equivalence
 pub alike-equivalence : (bytes : List ℕ) (w f c t k : ℕ) → Equivalence (Alike bytes w f c t k)
 alike-equivalence bytes w f c t k = record {
-  self = λ a. record { values = record { same = λ q h. refl }; beliefs = record { same = λ d h. refl } };
-  back = λ x. record { values = record { same = λ q h. sym (x .values .same q h) }; beliefs = record { same = λ d h. sym (x .beliefs .same d h) } };
-  on = λ x y. record { values = record { same = λ q h. x .values .same q h ∙ y .values .same q h }; beliefs = record { same = λ d h. x .beliefs .same d h ∙ y .beliefs .same d h } };
+  self = λ a. record { values = λ q h. refl; beliefs = λ d h. refl };
+  back = λ x. record { values = λ q h. sym (x .values q h); beliefs = λ d h. sym (x .beliefs d h) };
+  on = λ x y. record { values = λ q h. x .values q h ∙ y .values q h; beliefs = λ d h. x .beliefs d h ∙ y .beliefs d h };
 }
 
 module _ {was : List ℕ} (now : List ℕ) {n w f c t a k r : ℕ} (l : Levels was n w f c t a k r) (sound : Sound was n w f c t) (low : Below was now a) (mid : Between was now (a + n) r) where
@@ -65,12 +65,12 @@ module _ {was : List ℕ} (now : List ℕ) {n w f c t a k r : ℕ} (l : Levels w
   pub alike-same : (i j : ℕ) → i < n → j < n → Alike now w f c t k i j ↔ Alike was w f c t k i j
   alike-same i j hi hj = (
     λ x. record {
-      values = record { same = λ q h. let g : q < w = omega (arith, l .wide) in sym (row-byte i hi q g) ∙ x .values .same q h ∙ row-byte j hj q g };
-      beliefs = record { same = λ d h. sym (belief-class i hi d h) ∙ x .beliefs .same d h ∙ belief-class j hj d h };
+      values = λ q h. let g : q < w = omega (arith, l .wide) in sym (row-byte i hi q g) ∙ x .values q h ∙ row-byte j hj q g;
+      beliefs = λ d h. sym (belief-class i hi d h) ∙ x .beliefs d h ∙ belief-class j hj d h;
     },
     λ x. record {
-      values = record { same = λ q h. let g : q < w = omega (arith, l .wide) in row-byte i hi q g ∙ x .values .same q h ∙ sym (row-byte j hj q g) };
-      beliefs = record { same = λ d h. belief-class i hi d h ∙ x .beliefs .same d h ∙ sym (belief-class j hj d h) };
+      values = λ q h. let g : q < w = omega (arith, l .wide) in row-byte i hi q g ∙ x .values q h ∙ sym (row-byte j hj q g);
+      beliefs = λ d h. belief-class i hi d h ∙ x .beliefs d h ∙ sym (belief-class j hj d h);
     },
   )
 
@@ -142,7 +142,7 @@ module _ {was now : List ℕ} {n w f c t a k r i count : ℕ} (l : Levels was n 
 
   pub leveling-end : n ≤ i → Leveled was now n w f c t a k r count
   leveling-end h = let e : i ≡ n = omega (arith, g .within) in
-      record { sorted = subst (λ (i : ℕ). Sorted (Alike was w f c t k) (classAt now a) (λ q. getD now (r + q) 0) i count) e (g .sorted); low = g .low; mid = g .mid; high = g .high }
+      record { sorted = subst (λ (i : ℕ). Sorted (Alike was w f c t k) (classAt now a) (λ q. getD now (r + q) 0) i count) e (g .sorted); fewer = omega (arith, g .fewer); low = g .low; mid = g .mid; high = g .high }
 
 -- What `class_row` stores
 module _ {was : List ℕ} {w f c t a k r i count q : ℕ} (is : ClassIs was w f c t k r count i q) (order : a + i + 1 ≤ r) (room : r + count < length was) where

@@ -9,3 +9,5 @@ pub mod Leveling
 pub mod Parting
 pub mod Outing
 pub mod Charting
+pub mod Climbing
+pub mod Descending

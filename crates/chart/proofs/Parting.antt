@@ -73,18 +73,18 @@ module _ (bytes : List ℕ) (n w f c t : ℕ) where
   alike-next k i j hi hj = (
     λ x. (
       values-at i hi ∙ ext-getD 0 (cells bytes (t + i * w) f) (cells bytes (t + j * w) f) (cells-length bytes (t + i * w) f ∙ sym (cells-length bytes (t + j * w) f))
-          (λ q h. let g : q < f = omega (arith, cells-length bytes (t + i * w) f) in cells-at bytes (t + i * w) f q g ∙ x .values .same q g ∙ sym (cells-at bytes (t + j * w) f q g))
+          (λ q h. let g : q < f = omega (arith, cells-length bytes (t + i * w) f) in cells-at bytes (t + i * w) f q g ∙ x .values q g ∙ sym (cells-at bytes (t + j * w) f q g))
           ∙ sym (values-at j hj),
-      λ d h. ap (classAt bytes k) (target-at i d hi h) ∙ x .beliefs .same d h ∙ ap (classAt bytes k) (sym (target-at j d hj h)),
+      λ d h. ap (classAt bytes k) (target-at i d hi h) ∙ x .beliefs d h ∙ ap (classAt bytes k) (sym (target-at j d hj h)),
     ),
     λ y. record {
-      values = record { same = λ q h. sym (cells-at bytes (t + i * w) f q h) ∙ ap (λ (v : List ℕ). getD v q 0) (sym (values-at i hi) ∙ y .0 ∙ values-at j hj) ∙ cells-at bytes (t + j * w) f q h };
-      beliefs = record { same = λ d h. ap (classAt bytes k) (sym (target-at i d hi h)) ∙ y .1 d h ∙ ap (classAt bytes k) (target-at j d hj h) };
+      values = λ q h. sym (cells-at bytes (t + i * w) f q h) ∙ ap (λ (v : List ℕ). getD v q 0) (sym (values-at i hi) ∙ y .0 ∙ values-at j hj) ∙ cells-at bytes (t + j * w) f q h;
+      beliefs = λ d h. ap (classAt bytes k) (sym (target-at i d hi h)) ∙ y .1 d h ∙ ap (classAt bytes k) (target-at j d hj h);
     },
   )
 
 -- classes of rows that are all 0
-zero-classes : (key : ℕ → ℕ) (n : ℕ) → 0 < n → ((i : ℕ) → i < n → key i ≡ 0) → classes key n ≡ 1
+pub zero-classes : (key : ℕ → ℕ) (n : ℕ) → 0 < n → ((i : ℕ) → i < n → key i ≡ 0) → classes key n ≡ 1
 unfolding classes
 zero-classes key zero h z = absurd (omega arith)
 zero-classes key (suc zero) h z = omega (arith, z 0 (omega arith))
@@ -103,22 +103,47 @@ pub record Parting (was : List ℕ) (n w f c t : ℕ) (now : List ℕ) (a k r li
   pub low : Below was now a
   pub high : Above was now (r + n)
 
+-- Levels over rows that stay as they were
+module _ {was : List ℕ} {n w f c t a : ℕ} (wide : f + c ≤ w) (source : t + n * w ≤ a) (s : Sound was n w f c t) where
+  abbrev pub tableWas : List Node
+  tableWas = tableAt was n w f c t
+
+  pub table-closed : Closed c tableWas
+  table-closed = sound-closed was n w f c t s
+
+  pub table-long : length tableWas ≡ n
+  table-long = rows-length was w f c t n
+
+  -- the rows are as they were
+  pub same-rows : (now : List ℕ) → Below was now a → tableAt now n w f c t ≡ tableWas
+  same-rows now low = rows-same was now w f c t t n wide (λ p h. low (t + p) (omega arith))
+
+  pub still-sound : (now : List ℕ) → Below was now a → Sound now n w f c t
+  still-sound now low = record { beliefs = λ i d h g. omega (arith, s .beliefs i d h g, low (t + i * w + f + d) (omega (arith, row-in n w i h))) }
+
+  alike-at : (k : ℕ) (now : List ℕ) → Below was now a → (i j : ℕ) → i < n → j < n → Alike now w f c t k i j ↔ Next c tableWas (classAt now k) i j
+  alike-at k now low i j hi hj = subst (λ (U : List Node). Alike now w f c t k i j ↔ Next c U (classAt now k) i j) (same-rows now low) (alike-next now n w f c t k i j hi hj)
+
+  -- what a level asks of the classes before it
+  pub level-finer : (depth k : ℕ) {now : List ℕ} → Exactly c tableWas depth (classAt now k) → Below was now a → Finer now n w f c t k
+  level-finer depth k {now} e low = record {
+    same = λ i j hi hj x. next-finer c tableWas table-closed depth (classAt now k) e i j (omega (arith, table-long)) (omega (arith, table-long)) (alike-at k now low i j hi hj .0 x);
+  }
+
+  -- and what it gives: one deeper
+  pub level-exact : (depth k : ℕ) {b r next : ℕ} {now now′ : List ℕ} → Exactly c tableWas depth (classAt now k) → Below was now a → Leveled now now′ n w f c t b k r next → Exactly c tableWas (suc depth) (classAt now′ b)
+  level-exact depth k {b} {now = now} {now′ = now′} e low x = exactly-next c tableWas table-closed depth (classAt now k) (classAt now′ b) e
+      (λ i j hi hj. Iff·trans (x .sorted .same i j (omega (arith, table-long)) (omega (arith, table-long))) (alike-at k now low i j (omega (arith, table-long)) (omega (arith, table-long))))
+
 module _ {was : List ℕ} {n w f c t a k r : ℕ} (l : Levels was n w f c t a k r) (o : Ordered c (rowsAt was w f c t n)) where
   abbrev T : List Node
   T = tableAt was n w f c t
 
+  sound : Sound was n w f c t
+  sound = ordered-sound o
+
   long : length T ≡ n
   long = rows-length was w f c t n
-
-  -- the rows are as they were
-  same-rows : (now : List ℕ) → Below was now a → tableAt now n w f c t ≡ T
-  same-rows now low = rows-same was now w f c t t n (l .wide) (λ p h. low (t + p) (omega (arith, l .source)))
-
-  pub still-sound : (now : List ℕ) → Below was now a → Sound now n w f c t
-  still-sound now low = ordered-sound (subst (Ordered c) (sym (same-rows now low)) o)
-
-  alike-at : (now : List ℕ) → Below was now a → (i j : ℕ) → i < n → j < n → Alike now w f c t k i j ↔ Next c T (classAt now k) i j
-  alike-at now low i j hi hj = subst (λ (U : List Node). Alike now w f c t k i j ↔ Next c U (classAt now k) i j) (same-rows now low) (alike-next now n w f c t k i j hi hj)
 
   pub parting-start : (limit : ℕ) → 0 < n → 1 ≤ limit → ((i : ℕ) → i < n → classAt was k i ≡ 0) → Parting was n w f c t was a k r limit 1
   parting-start limit pos h z = record {
@@ -133,9 +158,10 @@ module _ {was : List ℕ} {n w f c t a k r : ℕ} (l : Levels was n w f c t a k 
 
   module _ {now : List ℕ} {limit count : ℕ} (g : Parting was n w f c t now a k r limit count) where
     pub parting-finer : Finer now n w f c t k
-    parting-finer = record {
-      same = λ i j hi hj x. next-finer c T (o .closed) (g .depth) (classAt now k) (g .exactly) i j (omega (arith, long)) (omega (arith, long)) (alike-at now (g .low) i j hi hj .0 x);
-    }
+    parting-finer = level-finer (l .wide) (l .source) sound (g .depth) k (g .exactly) (g .low)
+
+    pub parting-sound : Sound now n w f c t
+    parting-sound = still-sound (l .wide) (l .source) sound now (g .low)
 
     module _ {now′ : List ℕ} {next : ℕ} (x : Leveled now now′ n w f c t a k r next) where
       low′ : Below was now′ a
@@ -146,8 +172,10 @@ module _ {was : List ℕ} {n w f c t a k r : ℕ} (l : Levels was n w f c t a k 
 
       -- the new classes are exact one deeper
       deeper : Exactly c T (suc (g .depth)) (classAt now′ a)
-      deeper = exactly-next c T (o .closed) (g .depth) (classAt now k) (classAt now′ a) (g .exactly)
-          (λ i j hi hj. Iff·trans (x .sorted .same i j (omega (arith, long)) (omega (arith, long))) (alike-at now (g .low) i j (omega (arith, long)) (omega (arith, long))))
+      deeper = level-exact (l .wide) (l .source) sound (g .depth) k (g .exactly) (g .low) x
+
+      rows′ : tableAt now′ n w f c t ≡ T
+      rows′ = same-rows (l .wide) (l .source) sound now′ low′
 
       -- the old ones are still there
       old-classes : (i : ℕ) → i < n → classAt now′ k i ≡ classAt now k i
@@ -157,7 +185,7 @@ module _ {was : List ℕ} {n w f c t a k r : ℕ} (l : Levels was n w f c t a k 
       parting-many h = record {
         few = λ z. absurd (omega arith);
         many = λ _ y. many c T o (classAt now′ a) (λ i p. x .sorted .numbered i (omega (arith, long))) (coarse c T (suc (g .depth)) (classAt now′ a) deeper) limit
-            (omega (arith, x .sorted .met, ap (classes (classAt now′ a)) long)) (subst (λ (U : List Node). AtMost limit c (meaning c U 0)) (same-rows now′ low′) y);
+            (omega (arith, x .sorted .met, ap (classes (classAt now′ a)) long)) (subst (λ (U : List Node). AtMost limit c (meaning c U 0)) rows′ y);
         low = low′;
         high = high′;
       }
@@ -166,8 +194,8 @@ module _ {was : List ℕ} {n w f c t a k r : ℕ} (l : Levels was n w f c t a k 
       parting-done h = record {
         few = λ _. (
           record {
-            ordered = subst (Ordered c) (sym (same-rows now′ low′)) o;
-            exact = λ i j hi hj. subst (λ (U : List Node). (classAt now′ k i ≡ classAt now′ k j) ↔ (meaning c U i ≡ meaning c U j)) (sym (same-rows now′ low′))
+            ordered = subst (Ordered c) (sym rows′) o;
+            exact = λ i j hi hj. subst (λ (U : List Node). (classAt now′ k i ≡ classAt now′ k j) ↔ (meaning c U i ≡ meaning c U j)) (sym rows′)
                 (stops c T (o .closed) (g .depth) (classAt now′ k) (classAt now′ a)
                 (exactly-as c T (o .closed) (g .depth) (classAt now k) (classAt now′ k) (λ i p. old-classes i (omega (arith, long))) (g .exactly)) deeper count
                 (λ i p. numbered′ i (omega (arith, long))) (ap (classes (classAt now′ k)) long ∙ met′)

@@ -8,7 +8,10 @@ use native.Mathlib.Nat.{eq-or-lt-of-le, le-of-suc-le-suc}
 use native.Mathlib.Omega.{arith}
 use lib.ListN.{getD, length}
 use Rattle.chart.specs.Laws.Merged.{classes, Numbered, grows}
-use Rattle.chart.specs.Inner.Level.{Decides, Sorted}
+use Rattle.chart.specs.Inner.Level.{Decides, Agrees, Sorted}
+use native.Mathlib.Decide.{decLt}
+use lib.Dec.{leb}
+use borrow.Author.Tests.{leb-true, le-leb}
 
 true-not-false : {r : Bool} → r ≡ true → r ≡ false → ⊥
 true-not-false p q = let z : _≡_ {A = ℕ} 0 1 = cc in omega arith
@@ -24,6 +27,13 @@ refuted d e p = true-not-false (d .no p) e
 
 pub decides-as : {r : Bool} {P Q : Type 0} → (P → Q) → (Q → P) → Decides r P → Decides r Q
 decides-as f g d = record { yes = λ e. f (d .yes e); no = λ q. d .no (g q) }
+
+-- whether a property holds of all numbers below n, by the first of which it does not
+pub agrees-decides : {P : ℕ → Type 0} {n r : ℕ} → Agrees P n r → Decides (leb n r) ((q : ℕ) → q < n → P q)
+agrees-decides {P} {n} {r} a = record {
+  yes = λ e q h. a .before q (omega (arith, leb-true n r e));
+  no = λ f. by-cases (decLt r n) (λ h. absurd (a .here h (f r h))) (λ h. le-leb n r (omega arith));
+}
 
 pub record Equivalence (R : ℕ → ℕ → Type 0) : Type 0 where
   pub self : (a : ℕ) → R a a

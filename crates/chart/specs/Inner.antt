@@ -5,3 +5,4 @@ pub mod Numbers
 pub mod Classed
 pub mod Level
 pub mod Out
+pub mod Climb

@@ -8,39 +8,39 @@ ghost use lib.ListN.{length, getD};
 ghost use Rattle.chart.specs.Chart.{Ordered};
 ghost use Rattle.chart.specs.Inner.Bytes.{rowsAt};
 ghost use Rattle.chart.specs.Inner.Numbers.{Sound};
-ghost use Rattle.chart.specs.Inner.Level.{Decides, SamePart, SameClasses, Alike, RowOk, Against, ClassIs, Levels, Finer, Sorted, RowClassed, Leveled, Parted};
+ghost use Rattle.chart.specs.Inner.Level.{Decides, Agrees, SameByte, SameClass, Alike, RowOk, Against, ClassIs, Levels, Finer, Sorted, RowClassed, Leveled, Parted};
 
-// Whether the f bytes from a on are those from b on.
-pub fn same_part(work: &[u8], a: usize, b: usize, f: usize) -> bool
+// The first of the f bytes from a on that is not the same from b on; f where all are.
+pub fn first_other(work: &[u8], a: usize, b: usize, f: usize) -> usize
     requires { ⌜ (a + f ≤ length (now work)) × (b + f ≤ length (now work)) ⌝ }
-    ensures { λ r. ⌜ Decides r (SamePart (now (work .entry)) a b f) ⌝ }
+    ensures { λ r. ⌜ Agrees (SameByte (now (work .entry)) a b) f r ⌝ }
 {
     let mut q = 0;
     while q < f {
         if work[a + q] != work[b + q] {
-            return false;
+            return q;
         }
         q += 1;
     }
-    true
+    f
 }
 
-// Whether the c beliefs from a on and from b on are of the same classes, which stand from k on.
-pub fn same_classes(work: &[u8], a: usize, b: usize, c: usize, k: usize) -> bool
+// The first of the c characters whose beliefs, from a on and from b on, are of different classes, which stand from k on; c where there is none.
+pub fn first_apart(work: &[u8], a: usize, b: usize, c: usize, k: usize) -> usize
     requires { ⌜ (a + c ≤ length (now work)) × (b + c ≤ length (now work)) ⌝ }
     requires { ⌜ ((d : ℕ) → d < c → (k + getD (now work) (a + d) 0 < length (now work)) × (k + getD (now work) (b + d) 0 < length (now work))) ⌝ }
-    ensures { λ r. ⌜ Decides r (SameClasses (now (work .entry)) a b c k) ⌝ }
+    ensures { λ r. ⌜ Agrees (SameClass (now (work .entry)) a b k) c r ⌝ }
 {
     let mut d = 0;
     while d < c {
         let x = wide(work[a + d]);
         let y = wide(work[b + d]);
         if work[k + x] != work[k + y] {
-            return false;
+            return d;
         }
         d += 1;
     }
-    true
+    c
 }
 
 // Whether rows i and j are alike. Rows of different classes never are, so that is asked first.
@@ -63,10 +63,10 @@ pub fn alike(
     }
     let a = t + i * w;
     let b = t + j * w;
-    if same_part(work, a, b, f) {
-        return same_classes(work, a + f, b + f, c, k);
+    if first_other(work, a, b, f) < f {
+        return false;
     }
-    false
+    c <= first_apart(work, a + f, b + f, c, k)
 }
 
 // The first of `count` classes whose leading row, from r on, is alike to row i; or `count` where none is.

@@ -18,18 +18,24 @@ pub record Decides (r : Bool) (P : Type 0) : Type 0 where
   pub yes : r ≡ true → P
   pub no : P → r ≡ true
 
--- the f bytes from a on are those from b on
-pub record SamePart (bytes : List ℕ) (a b f : ℕ) : Type 0 where
-  pub same : (q : ℕ) → q < f → getD bytes (a + q) 0 ≡ getD bytes (b + q) 0
+-- P holds of the numbers below r, and r is n, or the first below n of which it does not
+pub record Agrees (P : ℕ → Type 0) (n r : ℕ) : Type 0 where
+  pub within : r ≤ n
+  pub before : (q : ℕ) → q < r → P q
+  pub here : r < n → P r → ⊥
 
--- the c beliefs from a on and from b on are of the same classes, which stand from k on
-pub record SameClasses (bytes : List ℕ) (a b c k : ℕ) : Type 0 where
-  pub same : (d : ℕ) → d < c → classAt bytes k (getD bytes (a + d) 0) ≡ classAt bytes k (getD bytes (b + d) 0)
+-- bytes q from a on and from b on are the same
+abbrev pub SameByte : List ℕ → ℕ → ℕ → ℕ → Type 0
+SameByte bytes a b q = getD bytes (a + q) 0 ≡ getD bytes (b + q) 0
+
+-- the beliefs of character d that stand from a on and from b on are of one class; the classes stand from k on
+abbrev pub SameClass : List ℕ → ℕ → ℕ → ℕ → ℕ → Type 0
+SameClass bytes a b k d = classAt bytes k (getD bytes (a + d) 0) ≡ classAt bytes k (getD bytes (b + d) 0)
 
 -- rows i and j have the same values, and believe in rows of the same classes
 pub record Alike (bytes : List ℕ) (w f c t k i j : ℕ) : Type 0 where
-  pub values : SamePart bytes (t + i * w) (t + j * w) f
-  pub beliefs : SameClasses bytes (t + i * w + f) (t + j * w + f) c k
+  pub values : (q : ℕ) → q < f → SameByte bytes (t + i * w) (t + j * w) q
+  pub beliefs : (d : ℕ) → d < c → SameClass bytes (t + i * w + f) (t + j * w + f) k d
 
 -- row i and its class lie within the buffer, and so do the classes of what it believes
 pub record RowOk (bytes : List ℕ) (w f c t k i : ℕ) : Type 0 where
@@ -88,6 +94,7 @@ pub record RowClassed (was now : List ℕ) (w f c t a k r i count more : ℕ) : 
 -- what `level` leaves: the classes of the next level from a on
 pub record Leveled (was now : List ℕ) (n w f c t a k r count : ℕ) : Type 0 where
   pub sorted : Sorted (Alike was w f c t k) (classAt now a) (λ q. getD now (r + q) 0) n count
+  pub fewer : count ≤ n
   pub low : Below was now a
   pub mid : Between was now (a + n) r
   pub high : Above was now (r + n)

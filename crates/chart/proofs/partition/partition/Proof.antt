@@ -7,7 +7,7 @@ use borrow.Author.Needs.{needs}
 use Rattle.chart.specs.Chart.{Ordered}
 use Rattle.chart.specs.Inner.Bytes.{rowsAt}
 use Rattle.chart.specs.Inner.Level.{Levels}
-use Rattle.chart.proofs.Parting.{Parting, levels-same, still-sound, parting-start, parting-finer, parting-many, parting-done, parting-more, parted-since, ordered-since}
+use Rattle.chart.proofs.Parting.{Parting, levels-same, parting-sound, parting-start, parting-finer, parting-many, parting-done, parting-more, parted-since, ordered-since}
 use Rattle.chart.proofs.partition.partition.Statement.{statement}
 use Rattle.chart.proofs.partition.partition.Tie as tie
 
@@ -29,7 +29,7 @@ loop-holds c =
 level-requires : tie.Need-level-requires Inv-loop μ-loop
 level-requires c κs =
     let (long, l, o, g) = c .before .loop .inv in
-    ((levels-same l long, still-sound l o _ (g .low)), parting-finer l o g)
+    ((levels-same l long, parting-sound l o g), parting-finer l o g)
 
 returns : tie.Need-returns Inv-loop μ-loop
 returns c =

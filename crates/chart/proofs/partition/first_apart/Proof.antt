@@ -5,19 +5,18 @@ use lib.ListN.{getD, length}
 use native.Mathlib.Omega.{arith}
 use borrow.Author.Count.{below-more}
 use borrow.Author.Needs.{needs}
-use Rattle.chart.specs.Inner.Level.{SameClasses}
-use Rattle.chart.proofs.Sorting.{decided-yes, decided-no}
-use Rattle.chart.proofs.partition.same_classes.Statement.{statement}
-use Rattle.chart.proofs.partition.same_classes.Tie as tie
+use Rattle.chart.specs.Inner.Level.{Agrees, SameClass}
+use Rattle.chart.proofs.partition.first_apart.Statement.{statement}
+use Rattle.chart.proofs.partition.first_apart.Tie as tie
 
 abbrev Inv-loop : tie.InvT-loop
-Inv-loop work a b c k d₀ d = (d ≤ c) × SameClasses work a b d k
+Inv-loop work a b c k d₀ d = (d ≤ c) × ((p : ℕ) → p < d → SameClass work a b k p)
 
 abbrev μ-loop : tie.MeasureT-loop
 μ-loop work a b c k d₀ d = c - d
 
 loop-holds : tie.Need-loop-holds Inv-loop μ-loop
-loop-holds c = (search needs, record { same = λ q h. absurd (omega arith) })
+loop-holds c = (search needs, λ p h. absurd (omega arith))
 
 -- the classes of both beliefs lie within the buffer
 place : (c : tie.After-wide2 Inv-loop μ-loop) → let a = c .before .before .before .before .before .before .before .args in
@@ -43,24 +42,23 @@ returns : tie.Need-returns Inv-loop μ-loop
 returns c =
     let a = c .before .before .before .before .before .before .before .before .before .before .args in
     let cls : ℕ → ℕ = λ x. getD (a .work .now) (a .k + x) 0 in
-    decided-no (λ p. c .if1 .taken (ap cls (c .before .before .before .before .before .wide .ensures) ∙ p .same _ (c .before .before .before .before .before .before .before .loop-test .taken) ∙ ap cls (sym (c .before .before .before .wide2 .ensures))))
+    record {
+      within = search needs;
+      before = c .before .before .before .before .before .before .before .before .loop .inv .1;
+      here = λ h e. c .if1 .taken (ap cls (c .before .before .before .before .before .wide .ensures) ∙ e ∙ ap cls (sym (c .before .before .before .wide2 .ensures)));
+    }
 
 loop-again : tie.Need-loop-again Inv-loop μ-loop
 loop-again c =
     let a = c .before .before .before .before .before .before .before .before .before .before .args in
-    let cls : ℕ → ℕ = λ x. getD (a .work .now) (a .k + x) 0 in (
-      search needs,
-      record {
-        same = below-more _ _ (c .before .before .before .before .before .before .before .before .loop .inv .1 .same)
-            (ap cls (sym (c .before .before .before .before .before .wide .ensures)) ∙ c .if1 .left ∙ ap cls (c .before .before .before .wide2 .ensures));
-      },
-    )
+    let cls : ℕ → ℕ = λ x. getD (a .work .now) (a .k + x) 0 in
+    (search needs, below-more _ _ (c .before .before .before .before .before .before .before .before .loop .inv .1) (ap cls (sym (c .before .before .before .before .before .wide .ensures)) ∙ c .if1 .left ∙ ap cls (c .before .before .before .wide2 .ensures)))
 
 returns-2 : tie.Need-returns-2 Inv-loop μ-loop
-returns-2 c = decided-yes (record { same = λ q h. c .before .loop .inv .1 .same q (omega arith) })
+returns-2 c = record { within = search needs; before = λ q h. c .before .loop .inv .1 q (omega arith); here = λ h e. omega arith }
 
-pub same-classes-spec : {M : Type 1} → statement M
-same-classes-spec =
+pub first-apart-spec : {M : Type 1} → statement M
+first-apart-spec =
     tie.close
     (tie.spec Inv-loop μ-loop loop-holds (λ c. search needs) (λ c. search needs) (λ c κs. search needs) (λ c. search needs) (λ c. search needs) (λ c κs. search needs)
     add-if1 shared-slice-read-if1 add-if1-2 shared-slice-read-if1-2 returns (λ c. search needs) (λ c. search needs) loop-again returns-2)
