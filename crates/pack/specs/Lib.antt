@@ -5,4 +5,5 @@ pub mod Reading
 pub mod Number
 pub mod Grammar
 pub mod Layout
+pub mod Answer
 pub mod Laws

@@ -1,1 +1,6 @@
-// The pack layer: the bytes of a story pack. Its meaning stands in specs/; no code is here yet.
+// The pack layer: the bytes of a story pack are read or refused, and its parts are found and judged in place.
+// What each function reads is said by a parser of specs/: see specs/Grammar.antt.
+pub mod condition;
+pub mod effect;
+pub mod node;
+pub mod number;
