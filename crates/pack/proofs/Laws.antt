@@ -1,16 +1,19 @@
 -- What the functions' proofs cite: a test's value from the fact, one of a run and the rest, and the limits of a number that was read. Assumes nothing.
 use Prim.Native.Nat.{ℕ, zero, suc, _+_, _-_, _<_, _≤_}
 use mathlib.Core.Path.{_≡_, refl, sym, ap, _∙_}
-use mathlib.Core.List.{List, [], _∷_}
-use native.Mathlib.Numerals.{sub-one}
+use mathlib.Core.List.{List, [], _∷_, _++_, append-assoc, append-nil}
+use native.Mathlib.Numerals.{add-one, sub-one}
 use native.Mathlib.Omega.{arith}
-use lib.ListN.{length}
+use lib.ListN.{length, take, set}
+use lib.Seq.{take-suc-set}
 use lib.Dec.{ltb}
 use borrow.Author.Tests.{ltb-true, ltb-false, lt-ltb, le-ltb, le-leb, lt-leb, eq-eqb, ne-eqb}
 use Rattle.pack.specs.Reading.{Reading, done, refused, Reader, pick, bind, mapped, runs, many}
-use Rattle.pack.specs.Number.{numberAt, between, item, beliefAt, risingAt}
-use Rattle.pack.specs.Grammar.{Dimensions, testAt, effectAt, nodeAt, nodesAt}
-use Rattle.pack.specs.Answer.{forget, claimAt, valuesAt}
+use Rattle.pack.specs.Number.{numberAt, between, item, counted, beliefAt, risingAt}
+use Rattle.pack.specs.Grammar.{Dimensions, testAt, conditionAt, effectAt, effectsAt, consentersAt, actionAt, triggerAt, ruleAt, nodeAt, nodesAt}
+use Rattle.pack.specs.Answer.{forget, answered, claimAt, valuesAt}
+use Rattle.pack.specs.declared.number.Checked.{Checked}
+use Rattle.pack.specs.declared.number.Checked.the-variants.{Passed, Refused}
 use Rattle.pack.specs.Laws.Reading.{mapped-mapped, mapped-bind, bind-mapped, bind-bind, both, passed, failed, same-value}
 
 -- a test's value from the fact, where the fact is at hand
@@ -60,6 +63,36 @@ rising-below characters least s at v n e =
     let q = failed (ltb (b .value) least) 6 at (done (b .value) (b .place)) v n (b .right) in
     omega (arith, same-value (q .1), h .1)
 
+pub mapped-id : {A : Type 0} (x : Reading A) → mapped (λ a. a) x ≡ x
+mapped-id (done a n) = refl
+mapped-id (refused k p) = refl
+
+-- what is done to what stands beside an answer
+pub mapped-answered : {A B : Type 0} (f : A → B) (r : Checked) (a : A) → mapped f (answered r a) ≡ answered r (f a)
+mapped-answered f (Passed n) a = refl
+mapped-answered f (Refused k p) a = refl
+
+pub mapped-same : {A B : Type 0} (f g : A → B) → ((a : A) → f a ≡ g a) → (x : Reading A) → mapped f x ≡ mapped g x
+mapped-same f g h (done a n) = ap (λ b. done b n) (h a)
+mapped-same f g h (refused k p) = refl
+
+pub bind-same : {A B : Type 0} (x : Reading A) (f g : A → ℕ → Reading B) → ((a : A) (n : ℕ) → f a n ≡ g a n) → bind x f ≡ bind x g
+bind-same (done a n) f g h = h a n
+bind-same (refused k p) f g h = refl
+
+-- one number that is stored behind those before it, and the rest
+stored : (l : List ℕ) (i v : ℕ) (rest : List ℕ) → i < length l → take i l ++ (v ∷ rest) ≡ take (i + 1) (set l i v) ++ rest
+stored l i v rest h = rw (add-one, take-suc-set) (sym (append-assoc (take i l) (v ∷ []) rest))
+
+pub stored-one : (p : Reader ℕ) (l : List ℕ) (i k : ℕ) (s : List ℕ) (at : ℕ) → 0 < k → i < length l
+    → mapped (λ rest. take i l ++ rest) (many p k s at) ≡ bind (p s at) (λ v n. mapped (λ rest. take (i + 1) (set l i v) ++ rest) (many p (k - 1) s n))
+stored-one p l i k s at h g =
+    runs-one _ _ _ (λ rest. take i l ++ rest) k s at h
+    ∙ bind-same (p s at) _ _ (λ v n. mapped-same (λ rest. take i l ++ (v ∷ rest)) (λ rest. take (i + 1) (set l i v) ++ rest) (λ rest. stored l i v rest g) (many p (k - 1) s n))
+
+pub stored-all : (p : Reader ℕ) (l : List ℕ) (i k f : ℕ) (s : List ℕ) (at : ℕ) → k ≤ 0 → i ≡ f → mapped (λ rest. take i l ++ rest) (many p k s at) ≡ done (take f l) at
+stored-all p l i k f s at h e = runs-none _ _ _ (λ rest. take i l ++ rest) k s at h ∙ ap (λ (r : List ℕ). done r at) (append-nil (take i l) ∙ ap (λ (j : ℕ). take j l) e)
+
 -- one more, where k are told
 longer : {A : Type 0} (x : Reading A) (f : A → ℕ) (k : ℕ) → mapped f x ≡ mapped (λ (u : Unit {0}). k) (mapped forget x) → mapped (λ a. suc (f a)) x ≡ mapped (λ (u : Unit {0}). suc k) (mapped forget x)
 longer (done a n) f k e = ap (λ (m : ℕ). done (suc m) n) (same-value e)
@@ -77,6 +110,10 @@ runs-length {A = A} p next z (suc k) s at = go (p z s at) (λ a n. runs-length p
         ≡ mapped (λ (u : Unit {0}). suc k) (mapped forget (bind x (λ a n. mapped (λ rest. a ∷ rest) (runs p next (next z a) k s n))))
     go (done a n) e = simp mapped-mapped (simp mapped-mapped at (longer (runs p next (next z a) k s n) length k (e a n)))
     go (refused j q) e = refl
+
+pub counted-length : {A : Type 0} (low limit : ℕ) (p : Reader A) (s : List ℕ) (at : ℕ)
+    → mapped length (counted low limit p s at) ≡ bind (between low limit 3 s at) (λ k n. mapped (λ (u : Unit {0}). k) (mapped forget (many p k s n)))
+counted-length low limit p s at = simp (mapped-bind, runs-length)
 
 module _ (d : Dimensions) (s : List ℕ) (at : ℕ) where
   -- a test, read as the code reads it
@@ -96,3 +133,15 @@ module _ (d : Dimensions) (s : List ℕ) (at : ℕ) where
   pub nodes-length : mapped length (nodesAt d s at) ≡ bind (between 1 33 3 s at) (λ k n. mapped (λ (u : Unit {0}). k) (mapped forget (many (nodeAt d k) k s n)))
   unfolding nodesAt
   nodes-length = simp (mapped-bind, runs-length)
+
+  pub rule-forget : mapped forget (ruleAt d s at) ≡ bind (mapped forget (conditionAt d s at)) (λ u n. mapped forget (numberAt s n))
+  unfolding ruleAt
+  rule-forget = simp (mapped-bind, bind-mapped, mapped-mapped)
+
+  pub trigger-forget : mapped forget (triggerAt d s at) ≡ bind (mapped forget (conditionAt d s at)) (λ u n. mapped forget (effectsAt d s n))
+  unfolding triggerAt
+  trigger-forget = simp (mapped-bind, bind-mapped, mapped-mapped)
+
+  pub action-forget : mapped forget (actionAt d s at) ≡ bind (mapped forget (conditionAt d s at)) (λ u n. bind (mapped forget (effectsAt d s n)) (λ u n. bind (mapped forget (consentersAt d s n)) (λ u n. mapped forget (many (conditionAt d) (d .characters) s n))))
+  unfolding actionAt
+  action-forget = simp (mapped-bind, bind-mapped, mapped-mapped)

@@ -6,4 +6,5 @@ pub mod Number
 pub mod Grammar
 pub mod Layout
 pub mod Answer
+pub mod Places
 pub mod Laws

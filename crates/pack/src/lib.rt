@@ -2,5 +2,8 @@
 // What each function reads is said by a parser of specs/: see specs/Grammar.antt.
 pub mod condition;
 pub mod effect;
+pub mod head;
 pub mod node;
 pub mod number;
+pub mod places;
+pub mod utility;
