@@ -10,7 +10,7 @@ use lib.Dec.{ltb}
 use borrow.Author.Tests.{ltb-true, ltb-false, lt-ltb, le-ltb, le-leb, lt-leb, eq-eqb, ne-eqb}
 use Rattle.pack.specs.Reading.{Reading, done, refused, Reader, pick, bind, mapped, runs, many}
 use Rattle.pack.specs.Number.{numberAt, between, item, counted, beliefAt, risingAt}
-use Rattle.pack.specs.Grammar.{Dimensions, testAt, conditionAt, effectAt, effectsAt, consentersAt, actionAt, triggerAt, ruleAt, nodeAt, nodesAt}
+use Rattle.pack.specs.Grammar.{Dimensions, testAt, conditionAt, effectAt, effectsAt, consentersAt, actionAt, triggerAt, ruleAt, rulesAt, theoryAt, nodeAt, nodesAt}
 use Rattle.pack.specs.Answer.{forget, answered, claimAt, valuesAt}
 use Rattle.pack.specs.declared.number.Checked.{Checked}
 use Rattle.pack.specs.declared.number.Checked.the-variants.{Passed, Refused}
@@ -43,6 +43,11 @@ many-forget p (suc k) s at h = simp (sub-one, mapped-bind, bind-mapped, mapped-m
 pub forget-then : {A B C : Type 0} (x : Reading A) (g : A → B → C) (y : ℕ → Reading B)
     → mapped forget (bind x (λ a n. mapped (g a) (y n))) ≡ bind (mapped forget x) (λ u n. mapped forget (y n))
 forget-then x g y = simp (mapped-bind, bind-mapped, mapped-mapped)
+
+-- three things one after the other, of two of which something is told
+pub three-forget : {A B C D X Y : Type 0} (g : A → X) (h : B → Y) (mk : A → B → C → D) (x : Reading A) (y : ℕ → Reading B) (z : ℕ → Reading C)
+    → mapped forget (bind x (λ a n. bind (y n) (λ b n. mapped (mk a b) (z n)))) ≡ bind (mapped g x) (λ k n. bind (mapped h (y n)) (λ l n. mapped forget (z n)))
+three-forget g h mk x y z = simp (mapped-bind, bind-mapped, mapped-mapped)
 
 -- a number that is read between limits is within them
 pub between-within : (low limit number : ℕ) (s : List ℕ) (at v n : ℕ) → between low limit number s at ≡ done v n → (low ≤ v) × (v < limit)
@@ -145,3 +150,9 @@ module _ (d : Dimensions) (s : List ℕ) (at : ℕ) where
   pub action-forget : mapped forget (actionAt d s at) ≡ bind (mapped forget (conditionAt d s at)) (λ u n. bind (mapped forget (effectsAt d s n)) (λ u n. bind (mapped forget (consentersAt d s n)) (λ u n. mapped forget (many (conditionAt d) (d .characters) s n))))
   unfolding actionAt
   action-forget = simp (mapped-bind, bind-mapped, mapped-mapped)
+
+  pub theory-forget : mapped forget (theoryAt d s at) ≡ bind (mapped length (counted 0 33 (actionAt d) s at)) (λ k n. bind (mapped length (counted 0 17 (triggerAt d) s n)) (λ k n. mapped forget (many (rulesAt d) (d .characters + 1) s n)))
+  unfolding theoryAt
+  theory-forget = rw add-one
+      (three-forget length length (λ actions triggers utilities. record { characters = d .characters; domains = d .domains; actions = actions; triggers = triggers; utilities = utilities })
+      (counted 0 33 (actionAt d) s at) (counted 0 17 (triggerAt d) s) (many (rulesAt d) (suc (d .characters)) s))

@@ -18,11 +18,11 @@ use Rattle.pack.specs.declared.number.Checked.the-variants.{Passed, Refu
 use Rattle.pack.specs.Laws.Reading.{mapped-mapped, mapped-bind, bind-mapped, Both, both, same-place}
 use Rattle.pack.proofs.Laws.{runs-none, many-forget}
 
-many-suc : {A : Type 0} (p : Reader A) (k : ℕ) (s : List ℕ) (at : ℕ) → mapped forget (many p (suc k) s at) ≡ bind (mapped forget (p s at)) (λ u n. mapped forget (many p k s n))
+pub many-suc : {A : Type 0} (p : Reader A) (k : ℕ) (s : List ℕ) (at : ℕ) → mapped forget (many p (suc k) s at) ≡ bind (mapped forget (p s at)) (λ u n. mapped forget (many p k s n))
 unfolding runs
 many-suc p k s at = simp (mapped-bind, bind-mapped, mapped-mapped)
 
-many-zero : {A : Type 0} (p : Reader A) (s : List ℕ) (at : ℕ) → mapped forget (many p zero s at) ≡ done tt at
+pub many-zero : {A : Type 0} (p : Reader A) (s : List ℕ) (at : ℕ) → mapped forget (many p zero s at) ≡ done tt at
 unfolding runs
 many-zero p s at = refl
 

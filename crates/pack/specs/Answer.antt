@@ -54,8 +54,10 @@ whenIs (Refused k p) P = Unit {0}
 pub record DomainsRead (s : List ℕ) (at : ℕ) (r : Domains) : Type 0 where
   pub reads : counted 1 25 (between 1 129 3) s at ≡ answered (r .answer) (take (r .fluents) (r .sizes))
   pub few : r .fluents ≤ 24
+  pub long : length (r .sizes) ≡ 24
 
 pub record HeadRead (s : List ℕ) (at : ℕ) (r : Head) : Type 0 where
   pub reads : headAt s at ≡ answered (r .answer) (dims (r .characters) (take (r .fluents) (r .sizes)))
   pub few : r .fluents ≤ 24
+  pub long : length (r .sizes) ≡ 24
   pub small : r .characters ≤ 6

@@ -7,4 +7,5 @@ pub mod Grammar
 pub mod Layout
 pub mod Answer
 pub mod Places
+pub mod Contents
 pub mod Laws
