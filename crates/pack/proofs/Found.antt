@@ -12,7 +12,7 @@ use mathlib.Core.Bool.{Bool, true, false}
 use Rattle.pack.specs.Syntax.{Condition, Effect, Action, Trigger, Rule, Theory, Node, Pack}
 use Rattle.pack.specs.Reading.{Reading, done, refused, Reader, pick, bind, mapped, runs, many, Reply, gives, refuses, told, ended}
 use Rattle.pack.specs.Number.{between, counted}
-use Rattle.pack.specs.Grammar.{Dimensions, headAt, nodeAt, nodesAt, conditionAt, effectsAt, consentersAt, actionAt, triggerAt, rulesAt, theoryAt, packAt, packOf}
+use Rattle.pack.specs.Grammar.{Dimensions, headAt, nodeAt, nodesAt, conditionAt, effectsAt, consentersAt, actionAt, triggerAt, rulesAt, theoryAt, packAt, packOf, inChart}
 use Rattle.pack.specs.Answer.{said, shown, forget, whenIs, dims}
 use Rattle.pack.specs.Places.{Ends, Marked, KeptBelow, ActionParts, Actions, ActionsRead, TriggerParts, Triggers, TriggersRead, UtilitiesRead}
 use Rattle.pack.specs.declared.number.Number.{Number}
@@ -246,3 +246,16 @@ ended-early end n r e f = subst (λ (r : Checked). ended end (shown r) ≡ refus
 -- a pack that is refused is none
 pub no-pack : {B : Type 0} (s : List ℕ) (k n : ℕ) (p : Pack) → told forget (packOf s) ≡ refuses k n → packOf s ≡ gives p → B
 no-pack s k n p e f = never-gives (sym e ∙ ap (told forget) f)
+
+-- a chart, from the reading of its nodes
+pub chart-refused : {A B : Type 0} (g : A → B) (end : ℕ) (x : Reading A) (k p : ℕ) → mapped g x ≡ refused k p → told g (inChart (ended end x)) ≡ refuses (k + 20) p
+chart-refused g end (done a n) k p e = never (sym e)
+chart-refused g end (refused j q) k p e = let h : j ≡ k = cc in let i : q ≡ p = cc in rw (h, i)
+
+chart-ended : {A B : Type 0} (g : A → B) (a : A) (t : Bool) (n : ℕ) → told g (inChart (pick t (gives a) (refuses 7 n))) ≡ pick t (gives (g a)) (refuses 27 n)
+chart-ended g a true n = refl
+chart-ended g a false n = refl
+
+pub chart-read : {A B : Type 0} (g : A → B) (end : ℕ) (x : Reading A) (b : B) (n : ℕ) → mapped g x ≡ done b n → told g (inChart (ended end x)) ≡ pick (eqb n end) (gives b) (refuses 27 n)
+chart-read g end (done a m) b n e = let h = same-value e in let i = same-place e in chart-ended g a (eqb m end) m ∙ rw (h, i)
+chart-read g end (refused j q) b n e = never e

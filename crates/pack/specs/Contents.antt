@@ -8,6 +8,8 @@ use Rattle.pack.specs.Syntax.{Action, Trigger, Rule, Theory, Pack}
 use Rattle.pack.specs.Reading.{Reading, done, Reader, bind, mapped, many, Reply, gives, refuses, told}
 use Rattle.pack.specs.Grammar.{Dimensions, nodeAt, nodesAt, packAt, conditionAt, effectsAt, consentersAt, rulesAt, theoryAt, packOf}
 use Rattle.pack.specs.Answer.{shown, forget, dims}
+use Rattle.pack.specs.declared.number.Number.{Number}
+use Rattle.pack.specs.declared.number.Number.the-variants as numbers
 use Rattle.pack.specs.declared.number.Checked.{Checked}
 use Rattle.pack.specs.declared.number.Checked.the-variants.{Passed, Refused}
 use Rattle.pack.specs.declared.contents.Counts.{Counts}
@@ -73,6 +75,11 @@ pub record Refusal (k p : ℕ) (r : Contents) : Type 0 where
 abbrev pub replied : Checked → Reply (Unit {0})
 replied (Passed n) = gives tt
 replied (Refused k p) = refuses k p
+
+-- how many there are, or the refusal
+abbrev pub repliedCount : Number → Reply ℕ
+repliedCount (numbers.Is v n) = gives v
+repliedCount (numbers.Refused k p) = refuses k p
 
 -- The contract of the pack reader: the bytes are accepted or refused as `packOf` says, and what is accepted is found where the answer says.
 pub record PackRead (s places : List ℕ) (r : Contents) : Type 0 where

@@ -8,4 +8,6 @@ pub mod Layout
 pub mod Answer
 pub mod Places
 pub mod Contents
+pub mod Table
+pub mod Judge
 pub mod Laws
