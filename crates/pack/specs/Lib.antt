@@ -5,4 +5,9 @@ pub mod Reading
 pub mod Number
 pub mod Grammar
 pub mod Layout
+pub mod Answer
+pub mod Places
+pub mod Contents
+pub mod Table
+pub mod Judge
 pub mod Laws

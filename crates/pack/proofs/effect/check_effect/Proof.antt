@@ -1,0 +1,18 @@
+-- An effect is read in the order of its definition. Assumes nothing.
+use borrow.Author.Needs.{needs}
+use Prim.Native.Nat.{_-_}
+use Rattle.pack.proofs.Laws.{effect-forget}
+use Rattle.pack.proofs.effect.check_effect.Statement.{statement}
+use Rattle.pack.proofs.effect.check_effect.Tie as tie
+
+pub check-effect-spec : {M : Type 1} → statement M
+check-effect-spec =
+    tie.close
+    (tie.spec
+    (λ c. search needs)
+    (λ c κs. search needs)
+    (λ c. search needs)
+    (λ c. search needs)
+    (λ c κs. search needs)
+    (λ c. rw (effect-forget, c .before .before .before .read-between .ensures, c .before .k .given .1))
+    (λ c. rw (effect-forget, c .before .before .before .before .read-between .ensures, c .before .before .n .given .1, c .check-claim .ensures)))

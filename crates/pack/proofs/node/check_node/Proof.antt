@@ -1,0 +1,17 @@
+-- A node is its values and then its beliefs. Assumes nothing.
+use borrow.Author.Needs.{needs}
+use Prim.Native.Nat.{_-_}
+use Rattle.pack.proofs.Laws.{node-forget}
+use Rattle.pack.proofs.node.check_node.Statement.{statement}
+use Rattle.pack.proofs.node.check_node.Tie as tie
+
+pub check-node-spec : {M : Type 1} → statement M
+check-node-spec =
+    tie.close
+    (tie.spec
+    (λ c κs. search needs)
+    (λ c. search needs)
+    (λ c. search needs)
+    (λ c κs. search needs)
+    (λ c. rw (node-forget, c .before .before .before .check-values .ensures, c .before .k .given .1))
+    (λ c. rw (node-forget, c .before .before .before .before .check-values .ensures, c .before .before .n .given .1, c .check-beliefs .ensures)))

@@ -1,0 +1,20 @@
+-- There are as many nodes as the count says. Assumes nothing.
+use borrow.Author.Needs.{needs}
+use Prim.Native.Nat.{_-_}
+use Rattle.pack.proofs.Laws.{nodes-length}
+use Rattle.pack.proofs.node.check_nodes.Statement.{statement}
+use Rattle.pack.proofs.node.check_nodes.Tie as tie
+
+pub check-nodes-spec : {M : Type 1} → statement M
+check-nodes-spec =
+    tie.close
+    (tie.spec
+    (λ c κs. search needs)
+    (λ c. search needs)
+    (λ c. search needs)
+    (λ c κs. search needs)
+    (λ c. search needs)
+    (λ c. search needs)
+    (λ c. rw (nodes-length, c .before .before .before .read-between .ensures, c .before .k .given .1))
+    (λ c. rw (nodes-length, c .before .before .before .before .before .before .before .read-between .ensures, c .before .before .before .before .before .nodes .given .1, c .before .before .before .check-rows .ensures, c .before .k2 .given .1))
+    (λ c. rw (nodes-length, c .before .before .before .before .before .before .before .read-between .ensures, c .before .before .before .before .before .nodes .given .1, c .before .before .before .check-rows .ensures, c .before .n .given .1)))

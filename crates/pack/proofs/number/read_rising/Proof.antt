@@ -1,0 +1,19 @@
+-- The definition asks the same tests in the same order. Assumes nothing.
+use borrow.Author.Needs.{needs}
+use Prim.Native.Nat.{_-_}
+use Rattle.pack.specs.Number.{risingAt}
+use Rattle.pack.proofs.Laws.{tests}
+use Rattle.pack.proofs.number.read_rising.Statement.{statement}
+use Rattle.pack.proofs.number.read_rising.Tie as tie
+
+pub read-rising-spec : {M : Type 1} → statement M
+unfolding risingAt
+read-rising-spec =
+    tie.close
+    (tie.spec
+    (λ c κs. search needs)
+    (λ c. search needs)
+    (λ c. search needs)
+    (λ c. rw (c .before .before .before .read-between .ensures, c .before .k .given .1))
+    (λ c. search (needs, tests, c .before .before .before .before .read-between .ensures, c .before .before .v .given .1))
+    (λ c. search (needs, tests, c .before .before .before .before .read-between .ensures, c .before .before .v .given .1)))

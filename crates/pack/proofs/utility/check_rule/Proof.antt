@@ -1,0 +1,20 @@
+-- A rule is a condition and then a number. Assumes nothing.
+use borrow.Author.Needs.{needs}
+use Prim.Native.Nat.{_-_}
+use Rattle.pack.proofs.Laws.{rule-forget}
+use Rattle.pack.proofs.utility.check_rule.Statement.{statement}
+use Rattle.pack.proofs.utility.check_rule.Tie as tie
+
+pub check-rule-spec : {M : Type 1} → statement M
+check-rule-spec =
+    tie.close
+    (tie.spec
+    (λ c κs. search needs)
+    (λ c. search needs)
+    (λ c. search needs)
+    (λ c κs. search needs)
+    (λ c. search needs)
+    (λ c. search needs)
+    (λ c. rw (rule-forget, c .before .before .before .check-condition .ensures, c .before .k .given .1))
+    (λ c. rw (rule-forget, c .before .before .before .before .before .before .before .check-condition .ensures, c .before .before .before .before .before .n .given .1, c .before .before .before .read-number .ensures, c .before .k2 .given .1))
+    (λ c. rw (rule-forget, c .before .before .before .before .before .before .before .check-condition .ensures, c .before .before .before .before .before .n .given .1, c .before .before .before .read-number .ensures, c .before .n2 .given .1)))

@@ -1,0 +1,98 @@
+// The node part of a pack, which is also a chart: a count, and for each node its values and its beliefs.
+use crate::number::Checked;
+use crate::number::Number;
+use crate::number::read_belief;
+use crate::number::read_between;
+use crate::number::wide;
+ghost use mathlib.Core.Path.{_≡_};
+ghost use lib.ListN.{length};
+ghost use Prim.Native.Nat.{_+_};
+ghost use Rattle.pack.specs.Reading.{mapped, many, runs};
+ghost use Rattle.pack.specs.Number.{beliefAt};
+ghost use Rattle.pack.specs.Grammar.{valueAt, nodeAt, nodesAt};
+ghost use Rattle.pack.specs.Answer.{shown, said, forget, dims, valuesAt};
+
+// A node's values, one for each fluent.
+pub fn check_values(s: &[u8], at: usize, domains: &[u8]) -> Checked
+    ensures { λ r. ⌜ mapped forget (valuesAt (now (domains .entry)) (now (s .entry)) at) ≡ shown r ⌝ }
+{
+    let mut f: usize = 0;
+    let mut n = at;
+    let mut left = domains.len();
+    while 0 < left {
+        match read_between(s, n, 0, wide(domains[f]), 4) {
+            Number::Refused(k, p) => {
+                return Checked::Refused(k, p);
+            }
+            Number::Is(_, next) => {
+                f = f + 1;
+                n = next;
+                left = left - 1;
+            }
+        }
+    }
+    Checked::Passed(n)
+}
+
+// A node's beliefs, one for each character.
+pub fn check_beliefs(s: &[u8], at: usize, characters: usize, nodes: usize) -> Checked
+    ensures { λ r. ⌜ mapped forget (many (beliefAt nodes) characters (now (s .entry)) at) ≡ shown r ⌝ }
+{
+    let mut n = at;
+    let mut left = characters;
+    while 0 < left {
+        match read_belief(s, n, nodes) {
+            Number::Refused(k, p) => {
+                return Checked::Refused(k, p);
+            }
+            Number::Is(_, next) => {
+                n = next;
+                left = left - 1;
+            }
+        }
+    }
+    Checked::Passed(n)
+}
+
+// A node of so many: its values, then its beliefs.
+pub fn check_node(s: &[u8], at: usize, characters: usize, domains: &[u8], nodes: usize) -> Checked
+    ensures { λ r. ⌜ mapped forget (nodeAt (dims characters (now (domains .entry))) nodes (now (s .entry)) at) ≡ shown r ⌝ }
+{
+    match check_values(s, at, domains) {
+        Checked::Refused(k, p) => Checked::Refused(k, p),
+        Checked::Passed(n) => check_beliefs(s, n, characters, nodes),
+    }
+}
+
+// So many nodes.
+pub fn check_rows(s: &[u8], at: usize, characters: usize, domains: &[u8], nodes: usize) -> Checked
+    ensures { λ r. ⌜ mapped forget (many (nodeAt (dims characters (now (domains .entry))) nodes) nodes (now (s .entry)) at) ≡ shown r ⌝ }
+{
+    let mut n = at;
+    let mut left = nodes;
+    while 0 < left {
+        match check_node(s, n, characters, domains, nodes) {
+            Checked::Refused(k, p) => {
+                return Checked::Refused(k, p);
+            }
+            Checked::Passed(next) => {
+                n = next;
+                left = left - 1;
+            }
+        }
+    }
+    Checked::Passed(n)
+}
+
+// How many nodes there are, and the place after them.
+pub fn check_nodes(s: &[u8], at: usize, characters: usize, domains: &[u8]) -> Number
+    ensures { λ r. ⌜ mapped length (nodesAt (dims characters (now (domains .entry))) (now (s .entry)) at) ≡ said r ⌝ }
+{
+    match read_between(s, at, 1, 33, 3) {
+        Number::Refused(k, p) => Number::Refused(k, p),
+        Number::Is(nodes, n) => match check_rows(s, n, characters, domains, nodes) {
+            Checked::Refused(k, p) => Number::Refused(k, p),
+            Checked::Passed(n) => Number::Is(nodes, n),
+        },
+    }
+}
