@@ -4,6 +4,7 @@
 //! In the order of reading: `number`, `pack`, `graph`, `state`, `chart`, `condition`, `happening`, `compare`, `planner`,
 //! `calls`, `ending`.
 
+pub mod call;
 pub mod calls;
 pub mod chart;
 pub mod compare;
@@ -16,3 +17,4 @@ pub mod pack;
 pub mod planner;
 pub mod refusal;
 pub mod state;
+pub mod text;
