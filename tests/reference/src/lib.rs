@@ -10,6 +10,7 @@ pub mod chart;
 pub mod compare;
 pub mod condition;
 pub mod ending;
+pub mod generate;
 pub mod graph;
 pub mod happening;
 pub mod number;

@@ -1,0 +1,110 @@
+//! Faults put into calls: damaged bytes of every kind, buffers too short, numbers out of range.
+
+use super::random::Random;
+use crate::call::{Ask, Call};
+use crate::pack::LONGEST_PACK;
+
+/// One to three faults in a call, anywhere.
+pub fn spoil(r: &mut Random, call: &mut Call) {
+    for _ in 0..r.pick(&[1, 1, 1, 2, 3]) {
+        match r.below(8) {
+            0 | 1 => damage(r, &mut call.pack),
+            2 | 3 => charts(&mut call.ask).into_iter().for_each(|chart| {
+                if r.chance(2, 3) {
+                    damage(r, chart);
+                }
+            }),
+            4 => buffers(r, call),
+            5 => lengthen(r, &mut call.pack),
+            _ => number(r, call),
+        }
+    }
+}
+
+fn charts(ask: &mut Ask) -> Vec<&mut Vec<u8>> {
+    match ask {
+        Ask::Query { chart, .. } | Ask::Step { chart, .. } | Ask::Explained { chart, .. } => vec![chart],
+        Ask::Compare { first, second } => vec![first, second],
+        Ask::Start | Ask::Search { .. } | Ask::Ending => Vec::new(),
+    }
+}
+
+/// Lends one byte less than is needed, none, or some more.
+fn buffers(r: &mut Random, call: &mut Call) {
+    let length = |r: &mut Random, needed: usize| match r.below(4) {
+        0 | 1 => needed.saturating_sub(1),
+        2 => r.below(needed + 1),
+        _ => needed + r.from(1, 40),
+    };
+    if r.chance(1, 2) {
+        call.work = length(r, call.work);
+    } else {
+        call.result = length(r, call.result);
+    }
+}
+
+/// A pack of 8,192, 8,193 or more bytes: zeros after its end.
+fn lengthen(r: &mut Random, pack: &mut Vec<u8>) {
+    let length = LONGEST_PACK + r.pick(&[0, 1, 1, 2, 8_192, 57_344]);
+    pack.resize(length.max(pack.len()), 0);
+}
+
+/// Makes a number handed in too large, by a little or so that its low bits alone would do.
+fn number(r: &mut Random, call: &mut Call) {
+    let over = |r: &mut Random, n: u64| {
+        r.pick(&[0, n + 1, n + 2, 4, 6, 7, 9, 24, 32, n + 256, n + 65_536, n + (1 << 32), n.wrapping_add(1 << 63), u64::MAX])
+    };
+    let bad_chain = |r: &mut Random, chain: &mut Vec<u8>| {
+        let at = r.below(chain.len() + 1);
+        chain.insert(at, r.pick(&[1, 2, 3, 5, 6, 7, 128, 255]));
+    };
+    match &mut call.ask {
+        Ask::Query { chain, .. } if r.chance(1, 2) => bad_chain(r, chain),
+        Ask::Query { fluent: n, .. } | Ask::Step { action: n, .. } => *n = over(r, *n),
+        Ask::Explained { character, action, foresight, nesting, .. } => {
+            let which = r.below(4);
+            let n = [character, action, foresight, nesting].into_iter().nth(which).unwrap();
+            *n = over(r, *n);
+        }
+        Ask::Search { story, foresight, nesting } => {
+            let which = r.below(3);
+            let n = [story, foresight, nesting].into_iter().nth(which).unwrap();
+            *n = over(r, *n);
+        }
+        Ask::Start | Ask::Compare { .. } | Ask::Ending => {}
+    }
+}
+
+/// One fault in the bytes of a pack or chart.
+fn damage(r: &mut Random, bytes: &mut Vec<u8>) {
+    let at = r.below(bytes.len() + 1);
+    let near = if bytes.is_empty() { 0 } else { at.min(bytes.len() - 1) };
+    match r.below(12) {
+        0 => bytes.truncate(at),
+        1 => {
+            bytes.truncate(at);
+            bytes.extend(vec![r.pick(&[0x80, 0x81, 0xFF]); r.from(1, 3)]);
+        }
+        2 => bytes.insert(at, r.next() as u8),
+        3 => bytes.extend((0..r.from(1, 3)).map(|_| r.pick(&[0, 1, 0x80, 0xFF]))),
+        4 => replace(bytes, near, &[0x80, 0x00]),
+        5 => {
+            let low = bytes.get(near).copied().unwrap_or(0) & 0x7F;
+            replace(bytes, near, if r.chance(1, 2) { &[0x80, 0x80, 0x00] } else { &[0xFF, 0xFF, 0x03] });
+            if r.chance(1, 2) {
+                replace(bytes, near, &[low | 0x80]);
+            }
+        }
+        6 => replace(bytes, near, &[0xFF, 0xFF, 0x04]),
+        7 => replace(bytes, near, &[0xFF, 0xFF, 0xFF]),
+        8 if !bytes.is_empty() => drop(bytes.remove(near)),
+        9 => bytes.iter_mut().skip(near).take(1).for_each(|byte| *byte = 0),
+        10 => bytes.iter_mut().skip(near).take(1).for_each(|byte| *byte = r.next() as u8),
+        _ => bytes.iter_mut().skip(near).take(1).for_each(|byte| *byte = byte.wrapping_add(1)),
+    }
+}
+
+fn replace(bytes: &mut Vec<u8>, at: usize, by: &[u8]) {
+    let end = (at + 1).min(bytes.len());
+    bytes.splice(at..end, by.iter().copied());
+}
