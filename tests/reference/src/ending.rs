@@ -5,9 +5,9 @@ use crate::pack;
 use crate::planner::Ending;
 use crate::refusal::Refusal;
 
-const STORY: usize = 4;
-const FORESIGHT: usize = 3;
-const NESTING: usize = 2;
+pub const STORY: usize = 4;
+pub const FORESIGHT: usize = 3;
+pub const NESTING: usize = 2;
 
 /// What the program prints for a pack.
 pub fn ending(bytes: &[u8]) -> String {

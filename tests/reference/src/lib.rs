@@ -15,6 +15,7 @@ pub mod graph;
 pub mod happening;
 pub mod number;
 pub mod pack;
+pub mod plain;
 pub mod planner;
 pub mod refusal;
 pub mod state;

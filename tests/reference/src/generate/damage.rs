@@ -75,9 +75,10 @@ fn number(r: &mut Random, call: &mut Call) {
     }
 }
 
-/// One fault in the bytes of a pack or chart.
+/// One fault in the bytes of a pack or chart, often near the beginning, where the nodes are.
 fn damage(r: &mut Random, bytes: &mut Vec<u8>) {
-    let at = r.below(bytes.len() + 1);
+    let reach = if r.chance(1, 3) { bytes.len().min(16) } else { bytes.len() };
+    let at = r.below(reach + 1);
     let near = if bytes.is_empty() { 0 } else { at.min(bytes.len() - 1) };
     match r.below(12) {
         0 => bytes.truncate(at),

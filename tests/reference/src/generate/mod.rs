@@ -14,7 +14,9 @@ pub mod wander;
 
 pub use crate::call::{answer, Answer, Ask, Call};
 
+use crate::calls::search_pack;
 use crate::chart;
+use crate::condition::holds;
 use crate::graph::Node;
 use crate::happening::step;
 use crate::pack::{Pack, LONGEST_PACK};
@@ -74,8 +76,16 @@ fn story(r: &mut Random) -> Call {
     search(&pack, story, foresight, nesting)
 }
 
+/// Draws up to four times for a pack that has an ending under the widest limits here; which of them are asked for
+/// is drawn anew.
 fn wandering(r: &mut Random) -> Call {
-    let pack = wander::wander(r);
+    let mut pack = wander::wander(r);
+    for _ in 0..3 {
+        if search_pack(&pack, 5, 4, 3).is_ok() {
+            break;
+        }
+        pack = wander::wander(r);
+    }
     let (story, foresight, nesting) = (r.from(1, 5), r.from(1, 4), r.from(0, 3));
     match r.below(3) {
         0 => any(r, &pack, story, foresight, nesting),
@@ -139,7 +149,7 @@ fn any(r: &mut Random, pack: &Pack, story: usize, foresight: usize, nesting: usi
         table = tables::equivalent(r, &table);
     }
     let chart = chart::bytes(&table);
-    let action = r.below(pack.actions.len().max(1)) as u64;
+    let (action, character) = deed(r, pack, &table);
     let ask = match r.below(12) {
         0 => Ask::Start,
         1 => Ask::Query { chart, chain: chain(r, pack), fluent: r.below(pack.domains.len()) as u64 },
@@ -149,13 +159,26 @@ fn any(r: &mut Random, pack: &Pack, story: usize, foresight: usize, nesting: usi
         }
         3..=6 => Ask::Step { chart, action },
         7 | 8 => {
-            let character = r.below(pack.characters) as u64;
             Ask::Explained { chart, character, action, foresight: foresight as u64, nesting: nesting as u64 }
         }
         9 | 10 => return search(pack, story, foresight, nesting),
         _ => Ask::Ending,
     };
     Call::new(bytes, ask)
+}
+
+/// An action and a character: mostly an action whose condition holds there, and one of its consenters.
+fn deed(r: &mut Random, pack: &Pack, table: &[Node]) -> (u64, u64) {
+    let state = State::new(table, 0);
+    let playable = |&a: &usize| holds(&pack.actions[a].condition, &state, 0);
+    let mut actions: Vec<usize> = (0..pack.actions.len()).filter(playable).collect();
+    if actions.is_empty() || r.chance(1, 6) {
+        actions = (0..pack.actions.len().max(1)).collect();
+    }
+    let action = r.pick(&actions);
+    let consenters = pack.actions.get(action).map_or(&[][..], |action| &action.consenters);
+    let character = if consenters.is_empty() || r.chance(1, 5) { r.below(pack.characters) } else { r.pick(consenters) };
+    (action as u64, character as u64)
 }
 
 fn search(pack: &Pack, story: usize, foresight: usize, nesting: usize) -> Call {

@@ -16,6 +16,10 @@ pub fn small(r: &mut Random) -> Pack {
     let triggers = r.pick(&[0, 0, 1, 2, 3]);
     pack.triggers = (0..triggers).map(|_| random_trigger(r, &pack)).collect();
     pack.utilities = (0..=characters).map(|_| (0..r.from(1, 3)).map(|_| random_rule(r, &pack)).collect()).collect();
+    if r.chance(1, 30) {
+        // Consenters that don't rise or aren't there, up to six and one more.
+        pack.actions[0].consenters = (0..r.from(2, 7)).map(|_| r.below(characters + 1)).collect();
+    }
     pack
 }
 
