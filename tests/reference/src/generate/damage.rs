@@ -80,7 +80,7 @@ fn damage(r: &mut Random, bytes: &mut Vec<u8>) {
     let reach = if r.chance(1, 3) { bytes.len().min(16) } else { bytes.len() };
     let at = r.below(reach + 1);
     let near = if bytes.is_empty() { 0 } else { at.min(bytes.len() - 1) };
-    match r.below(12) {
+    match r.below(13) {
         0 => bytes.truncate(at),
         1 => {
             bytes.truncate(at);
@@ -101,6 +101,7 @@ fn damage(r: &mut Random, bytes: &mut Vec<u8>) {
         8 if !bytes.is_empty() => drop(bytes.remove(near)),
         9 => bytes.iter_mut().skip(near).take(1).for_each(|byte| *byte = 0),
         10 => bytes.iter_mut().skip(near).take(1).for_each(|byte| *byte = r.next() as u8),
+        11 => bytes.iter_mut().take(1).for_each(|byte| *byte = r.pick(&[0, 2, 33, 34])),
         _ => bytes.iter_mut().skip(near).take(1).for_each(|byte| *byte = byte.wrapping_add(1)),
     }
 }

@@ -17,7 +17,7 @@ pub fn counter(r: &mut Random) -> Pack {
     for node in &mut pack.nodes {
         node.values[..BITS].fill(1);
     }
-    let number = if r.chance(3, 4) { r.from(13, 17) } else { r.below(32) };
+    let number = if r.chance(1, 2) { r.from(13, 17) } else { r.from(13, 31) };
     let set = (0..BITS).map(|bit| effect(0, bit, (number >> bit & 1) as u8)).collect();
     let mut reset = action(&pack, always(), set, &[]);
     for observation in &mut reset.observations {

@@ -3,6 +3,7 @@
 //! What is drawn is listed in `drawn`. Calls may be steered by this implementation's own answers (a chart is often one that
 //! some steps lead to), but never left out because of them.
 
+pub mod coverage;
 pub mod damage;
 pub mod draft;
 pub mod limits;
@@ -36,17 +37,17 @@ pub fn call(seed: u64) -> Call {
 /// A call without faults, of one of the kinds that are drawn.
 fn drawn(r: &mut Random) -> Call {
     match r.below(100) {
-        0..=24 => small(r),
-        25..=46 => story(r),
-        47..=63 => wandering(r),
-        64..=73 => limits(r),
-        74..=79 => {
+        0..=25 => small(r),
+        26..=50 => story(r),
+        51..=68 => wandering(r),
+        69..=76 => limits(r),
+        77..=80 => {
             let pack = limits::crowd(r);
             step_from(r, &pack, 0)
         }
-        80..=89 => comparison(r),
-        90..=95 => large(r),
-        96 | 97 => longest(r),
+        81..=90 => comparison(r),
+        91..=96 => large(r),
+        97 | 98 => longest(r),
         _ => {
             let pack = limits::restless(r);
             step_from(r, &pack, 0)
@@ -70,10 +71,28 @@ fn story(r: &mut Random) -> Call {
         4 => (foresight, nesting) = (r.from(1, 6), r.from(0, 3)),
         _ => {}
     }
-    if r.chance(1, 4) {
-        return any(r, &pack, story, foresight, nesting);
+    match r.below(8) {
+        0 | 1 => any(r, &pack, story, foresight, nesting),
+        2 => on_the_way(r, &pack, foresight, nesting),
+        _ => search(&pack, story, foresight, nesting),
     }
-    search(&pack, story, foresight, nesting)
+}
+
+/// Asks for the explanation of an action of the pack's ending, in the state before it.
+fn on_the_way(r: &mut Random, pack: &Pack, foresight: usize, nesting: usize) -> Call {
+    let Ok(ending) = search_pack(pack, 8, 6, 3) else { return any(r, pack, 1, foresight, nesting) };
+    let at = r.below(ending.actions.len());
+    let mut state = State::new(&pack.nodes, 0);
+    for &action in &ending.actions[..at] {
+        state = step(pack, &state, action).unwrap();
+    }
+    let action = ending.actions[at];
+    let consenters = &pack.actions[action].consenters;
+    let character = if consenters.is_empty() { r.below(pack.characters) } else { r.pick(consenters) };
+    let (action, character) = (action as u64, character as u64);
+    let chart = chart::bytes(&tables::equivalent(r, state.nodes()));
+    let (foresight, nesting) = (foresight as u64, nesting as u64);
+    Call::new(draft::bytes(pack), Ask::Explained { chart, character, action, foresight, nesting })
 }
 
 /// Draws up to four times for a pack that has an ending under the widest limits here; which of them are asked for

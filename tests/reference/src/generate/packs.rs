@@ -7,10 +7,10 @@ use crate::pack::{Action, Condition, Effect, Pack, Rule, Test, Trigger, LONGEST_
 
 /// A small pack in which most conditions hold often and most triggers come to an end.
 pub fn small(r: &mut Random) -> Pack {
-    let characters = r.from(1, 3);
+    let characters = r.from(1, 4);
     let domains: Vec<usize> = (0..r.from(1, 3)).map(|_| r.from(2, 3)).collect();
     let mut pack = empty(characters, &domains);
-    let count = r.from(1, 4);
+    let count = r.pick(&[1, 1, 2, 2, 3, 4, 6, 9, 14]);
     pack.nodes = tables::random(r, characters, &domains, count);
     pack.actions = (0..r.from(1, 4)).map(|_| random_action(r, &pack)).collect();
     let triggers = r.pick(&[0, 0, 1, 2, 3]);
