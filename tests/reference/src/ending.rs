@@ -2,7 +2,6 @@
 
 use crate::calls::search_pack;
 use crate::pack;
-use crate::planner::Ending;
 use crate::refusal::Refusal;
 
 pub const STORY: usize = 4;
@@ -11,17 +10,19 @@ pub const NESTING: usize = 2;
 
 /// What the program prints for a pack.
 pub fn ending(bytes: &[u8]) -> String {
-    match pack::read(bytes).and_then(|pack| search_pack(&pack, STORY, FORESIGHT, NESTING)) {
-        Ok(ending) => told(&ending),
-        Err(Refusal { number, place }) => format!("refused {number} at {place}\n"),
-    }
+    let found = pack::read(bytes).and_then(|pack| search_pack(&pack, STORY, FORESIGHT, NESTING));
+    lines(found.as_ref().map(|ending| (&ending.actions[..], ending.before, ending.after)).map_err(|refusal| *refusal))
 }
 
-/// A line for each action with its place from 1, then the author's utility before and after.
-fn told(ending: &Ending) -> String {
+/// A line for each action with its place from 1, then the author's utility before and after; or the refusal.
+pub fn lines<A: std::fmt::Display>(found: Result<(&[A], usize, usize), Refusal>) -> String {
+    let (actions, before, after) = match found {
+        Ok(found) => found,
+        Err(Refusal { number, place }) => return format!("refused {number} at {place}\n"),
+    };
     let mut lines = String::new();
-    for (i, action) in ending.actions.iter().enumerate() {
+    for (i, action) in actions.iter().enumerate() {
         lines += &format!("{} {action}\n", i + 1);
     }
-    lines + &format!("author {} {}\n", ending.before, ending.after)
+    lines + &format!("author {before} {after}\n")
 }

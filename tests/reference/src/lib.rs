@@ -20,3 +20,4 @@ pub mod planner;
 pub mod refusal;
 pub mod state;
 pub mod text;
+pub mod tuned;

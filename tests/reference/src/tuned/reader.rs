@@ -1,0 +1,225 @@
+//! Reads packs and charts into flat lists that are kept from call to call. The checks are those of `number` and `pack`.
+
+use super::rules::{Action, Effects, Rule, Rules, Span, Test, Trigger, Write, NOT};
+use super::table::Row;
+use crate::refusal::{Refusal, ABSENT, AFTER, BLANK, ENDS, FORM, IN_CHART, LIMIT, ORDER};
+
+type Read<T> = Result<T, Refusal>;
+
+struct Reader<'a> {
+    bytes: &'a [u8],
+    at: usize,
+    /// Where the number read last begins.
+    place: usize,
+    added: u8,
+}
+
+impl<'a> Reader<'a> {
+    fn new(bytes: &'a [u8], added: u8) -> Self {
+        Reader { bytes, at: 0, place: 0, added }
+    }
+
+    #[cold]
+    fn refuse<T>(&self, number: u8, place: usize) -> Read<T> {
+        Err(Refusal { number: number + self.added, place })
+    }
+
+    /// Nearly all numbers are one byte.
+    #[inline(always)]
+    fn number(&mut self) -> Read<usize> {
+        self.place = self.at;
+        match self.bytes.get(self.at) {
+            Some(&byte) if byte < 0x80 => {
+                self.at += 1;
+                Ok(byte as usize)
+            }
+            _ => self.long_number(),
+        }
+    }
+
+    #[cold]
+    fn long_number(&mut self) -> Read<usize> {
+        let rest = &self.bytes[self.at..];
+        let length = rest.iter().take(3).take_while(|&&byte| byte >= 0x80).count();
+        if length == 3 {
+            return self.refuse(FORM, self.place);
+        }
+        let Some(&last) = rest.get(length) else { return self.refuse(ENDS, self.bytes.len()) };
+        let low = rest[..length].iter().rev().fold(0, |sum, &byte| sum << 7 | (byte & 0x7F) as usize);
+        let value = (last as usize) << (7 * length) | low;
+        if last == 0 || value > 65_535 {
+            return self.refuse(FORM, self.place);
+        }
+        self.at += length + 1;
+        Ok(value)
+    }
+
+    #[inline(always)]
+    fn within(&mut self, least: usize, most: usize) -> Read<usize> {
+        let value = self.number()?;
+        if value < least || value > most { self.refuse(LIMIT, self.place) } else { Ok(value) }
+    }
+
+    #[inline(always)]
+    fn one_of(&mut self, count: usize) -> Read<usize> {
+        let value = self.number()?;
+        if value >= count { self.refuse(ABSENT, self.place) } else { Ok(value) }
+    }
+
+    fn end(&self) -> Read<()> {
+        if self.at < self.bytes.len() { self.refuse(AFTER, self.at) } else { Ok(()) }
+    }
+
+    /// The node part: rows as they stand.
+    fn nodes(&mut self, rules: &Rules, rows: &mut Vec<Row>) -> Read<()> {
+        let count = self.within(1, 32)?;
+        rows.clear();
+        for _ in 0..count {
+            let mut row = Row::default();
+            for fluent in 0..rules.fluents {
+                row.set(fluent as u8, self.one_of(rules.domains[fluent] as usize)? as u8);
+            }
+            for character in 0..rules.characters {
+                let number = self.number()?;
+                if number == 0 {
+                    return self.refuse(BLANK, self.place);
+                }
+                if number > count {
+                    return self.refuse(ABSENT, self.place);
+                }
+                row.believe(character, number as u8 - 1);
+            }
+            rows.push(row);
+        }
+        Ok(())
+    }
+}
+
+/// Reads a chart's table.
+pub fn chart(rules: &Rules, bytes: &[u8], rows: &mut Vec<Row>) -> Read<()> {
+    let mut reader = Reader::new(bytes, IN_CHART);
+    reader.nodes(rules, rows)?;
+    reader.end()
+}
+
+/// Reads a pack into lists that are emptied first.
+pub fn pack(rules: &mut Rules, bytes: &[u8]) -> Read<()> {
+    if bytes.len() > 8_192 {
+        return Err(Refusal { number: LIMIT, place: 0 });
+    }
+    let mut reader = Reader::new(bytes, 0);
+    rules.clear();
+    reader.within(1, 1)?;
+    rules.characters = reader.within(1, 6)?;
+    rules.fluents = reader.within(1, 24)?;
+    for fluent in 0..rules.fluents {
+        rules.domains[fluent] = reader.within(1, 128)? as u8;
+    }
+    let mut start = std::mem::take(&mut rules.start);
+    let read = reader.nodes(rules, &mut start);
+    rules.start = start;
+    read?;
+    for _ in 0..reader.within(0, 32)? {
+        let action = rules.read_action(&mut reader)?;
+        rules.actions.push(action);
+    }
+    for _ in 0..reader.within(0, 16)? {
+        let trigger = Trigger { condition: rules.read_condition(&mut reader)?, effects: rules.read_effects(&mut reader)? };
+        for write in trigger.effects.writes[0].of(&rules.writes) {
+            rules.moved |= 1 << write.fluent;
+        }
+        rules.triggers.push(trigger);
+    }
+    for who in 0..=rules.characters {
+        let first = rules.rules.len() as u16;
+        for _ in 0..reader.within(0, 8)? {
+            let rule = Rule { condition: rules.read_condition(&mut reader)?, worth: reader.number()? as u32 };
+            rules.rules.push(rule);
+        }
+        rules.utilities[who] = Span { first, end: rules.rules.len() as u16 };
+    }
+    reader.end()
+}
+
+impl Rules {
+    fn clear(&mut self) {
+        self.tests.clear();
+        self.alternatives.clear();
+        self.writes.clear();
+        self.actions.clear();
+        self.triggers.clear();
+        self.rules.clear();
+        self.moved = 0;
+    }
+
+    fn read_action(&mut self, reader: &mut Reader) -> Read<Action> {
+        let condition = self.read_condition(reader)?;
+        let effects = self.read_effects(reader)?;
+        let mut action = Action { condition, effects, ..Action::default() };
+        let mut least = 0;
+        for _ in 0..reader.within(0, 6)? {
+            let consenter = reader.one_of(self.characters)?;
+            if consenter < least {
+                return reader.refuse(ORDER, reader.place);
+            }
+            least = consenter + 1;
+            action.consenters |= 1 << consenter;
+        }
+        for character in 0..self.characters {
+            action.observations[character] = self.read_condition(reader)?;
+        }
+        Ok(action)
+    }
+
+    fn read_condition(&mut self, reader: &mut Reader) -> Read<Span> {
+        let first = self.alternatives.len() as u16;
+        for _ in 0..reader.within(0, 8)? {
+            let first = self.tests.len() as u16;
+            for _ in 0..reader.within(0, 8)? {
+                let test = self.read_test(reader)?;
+                self.tests.push(test);
+            }
+            self.alternatives.push(Span { first, end: self.tests.len() as u16 });
+        }
+        Ok(Span { first, end: self.alternatives.len() as u16 })
+    }
+
+    #[inline]
+    fn read_test(&mut self, reader: &mut Reader) -> Read<Test> {
+        let length = reader.within(0, 4)?;
+        let mut chain = [0; 4];
+        for link in &mut chain[..length] {
+            *link = reader.one_of(self.characters)? as u8;
+        }
+        let kind = reader.one_of(3)?;
+        let fluent = reader.one_of(self.fluents)?;
+        let low = reader.one_of(self.domains[fluent] as usize)? as u8;
+        let not = if kind == 1 { NOT } else { 0 };
+        let width = if kind == 2 { 127 - low } else { 0 };
+        Ok(Test { chain, length: length as u8 | not, fluent: fluent as u8, low, width })
+    }
+
+    /// Effects, sorted by whom; among those for one target the order stays.
+    fn read_effects(&mut self, reader: &mut Reader) -> Read<Effects> {
+        let count = reader.within(0, 16)?;
+        let mut whom = [0; 16];
+        let mut writes = [Write::default(); 16];
+        for i in 0..count {
+            whom[i] = reader.one_of(self.characters + 1)?;
+            let fluent = reader.one_of(self.fluents)?;
+            let value = reader.one_of(self.domains[fluent] as usize)?;
+            writes[i] = Write { fluent: fluent as u8, value: value as u8 };
+        }
+        let mut effects = Effects::default();
+        for target in 0..=self.characters {
+            let first = self.writes.len() as u16;
+            self.writes.extend((0..count).filter(|&i| whom[i] == target).map(|i| writes[i]));
+            let span = Span { first, end: self.writes.len() as u16 };
+            effects.writes[target] = span;
+            if target > 0 && !span.is_empty() {
+                effects.tells |= 1 << (target - 1);
+            }
+        }
+        Ok(effects)
+    }
+}
