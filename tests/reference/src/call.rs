@@ -100,9 +100,9 @@ pub struct Answer {
     pub work: Work,
 }
 
-/// A buffer as it is lent: bytes that show a change wherever one is made.
+/// A buffer as it is lent: bytes that differ from their neighbours and are never 0, so that changes show.
 pub fn lent(length: usize) -> Vec<u8> {
-    (0..length).map(|i| (1 + i * 7 % 251) as u8).collect()
+    (0..length).map(|i| (i as u8).wrapping_mul(14) | 1).collect()
 }
 
 /// The calls of an implementation, so that each of them answers a `Call` by the same function.

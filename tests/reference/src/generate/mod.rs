@@ -38,8 +38,9 @@ pub fn call(seed: u64) -> Call {
 fn drawn(r: &mut Random) -> Call {
     match r.below(100) {
         0..=25 => small(r),
-        26..=50 => story(r),
-        51..=68 => wandering(r),
+        26..=46 => story(r),
+        47..=51 => tangle(r),
+        52..=68 => wandering(r),
         69..=76 => limits(r),
         77..=80 => {
             let pack = limits::crowd(r);
@@ -72,8 +73,20 @@ fn story(r: &mut Random) -> Call {
         _ => {}
     }
     match r.below(8) {
-        0 | 1 => any(r, &pack, story, foresight, nesting),
-        2 => on_the_way(r, &pack, foresight, nesting),
+        0 => any(r, &pack, story, foresight, nesting),
+        1 | 2 => on_the_way(r, &pack, foresight, nesting),
+        3 => Call::new(draft::bytes(&pack), Ask::Ending),
+        _ => search(&pack, story, foresight, nesting),
+    }
+}
+
+/// Two stories side by side, with many endings of one length.
+fn tangle(r: &mut Random) -> Call {
+    let pack = stories::tangle(r);
+    let (story, foresight, nesting) = (r.from(3, 7), r.from(1, 4), r.from(0, 3));
+    match r.below(6) {
+        0 => any(r, &pack, story, foresight, nesting),
+        1 => on_the_way(r, &pack, foresight, nesting),
         _ => search(&pack, story, foresight, nesting),
     }
 }
@@ -186,9 +199,13 @@ fn any(r: &mut Random, pack: &Pack, story: usize, foresight: usize, nesting: usi
     Call::new(bytes, ask)
 }
 
-/// An action and a character: mostly an action whose condition holds there, and one of its consenters.
+/// An action and a character: mostly an action whose condition holds there, or in somebody's belief, and one of
+/// its consenters.
 fn deed(r: &mut Random, pack: &Pack, table: &[Node]) -> (u64, u64) {
-    let state = State::new(table, 0);
+    let mut state = State::new(table, 0);
+    if r.chance(1, 4) {
+        state = state.belief(r.below(pack.characters));
+    }
     let playable = |&a: &usize| holds(&pack.actions[a].condition, &state, 0);
     let mut actions: Vec<usize> = (0..pack.actions.len()).filter(playable).collect();
     if actions.is_empty() || r.chance(1, 6) {

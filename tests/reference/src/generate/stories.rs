@@ -46,11 +46,44 @@ pub fn story(r: &mut Random) -> Story {
     Story { pack, story: length.min(8), foresight: foresight.min(6), nesting: nesting.min(3) }
 }
 
+/// Two rows of steps on two fluents, each with hands of its own; the author wants both at their ends. The steps may be mixed
+/// in any order, so that the earliest list is one of many, and what others see of them decides which are explained.
+pub fn tangle(r: &mut Random) -> Pack {
+    let characters = r.from(2, 4);
+    let lengths = [r.from(1, 3), r.from(1, 3)];
+    let mut pack = empty(characters, &[lengths[0] + 1, lengths[1] + 1]);
+    for (row, &length) in lengths.iter().enumerate() {
+        let hands = [r.below(characters), r.below(characters)];
+        for step in 0..length {
+            let (from, to) = (step as u8, step as u8 + 1);
+            let consenters = if r.chance(1, 5) { vec![] } else { vec![hands[step % 2]] };
+            let mut onward = action(&pack, is(row, from), vec![effect(0, row, to)], &consenters);
+            if r.chance(1, 4) {
+                onward.observations[r.below(characters)] = never();
+            }
+            pack.actions.push(onward);
+        }
+    }
+    let ends = [lengths[0] as u8, lengths[1] as u8];
+    let both = || all(vec![test(&[], IS, 0, ends[0]), test(&[], IS, 1, ends[1])]);
+    pack.utilities[0].push(rule(both(), 3));
+    for rules in &mut pack.utilities[1..] {
+        let mut worths = [1, 2, 3];
+        r.shuffle(&mut worths[..2]);
+        *rules = vec![rule(both(), worths[2]), rule(is(0, ends[0]), worths[0]), rule(is(1, ends[1]), worths[1])];
+    }
+    r.shuffle(&mut pack.actions);
+    pack
+}
+
 /// Lengths of segments, 1 to 8 together.
 fn segments(r: &mut Random) -> Vec<usize> {
-    let length = r.from(1, 8);
+    let mut left = r.from(1, 8);
     let mut segments = Vec::new();
-    let mut left = length;
+    if left >= 6 && r.chance(1, 3) {
+        segments.push(6);
+        left -= 6;
+    }
     while left > 0 {
         let segment = r.pick(&[1, 2, 2, 3, 3, 4, 6]).min(left);
         segments.push(segment);
@@ -64,7 +97,7 @@ fn hands(r: &mut Random, characters: usize, segments: &[usize]) -> Vec<usize> {
     let mut hands = Vec::new();
     for &segment in segments {
         let mut hand = r.below(characters);
-        let changes = r.from(1, 3);
+        let changes = if segment > 4 { r.below(2) } else { r.pick(&[0, 1, 2, 3, 3]) };
         for _ in 0..segment {
             hands.push(hand);
             if r.chance(changes, 3) {
