@@ -69,11 +69,15 @@ fn compile(within: &Path, words: &[&str]) -> Result<(), String> {
     let rustc = std::env::var("RUSTC").unwrap_or("rustc".to_string());
     let output = Command::new(rustc)
         .current_dir(within)
-        .args(["--edition", "2021", "--cap-lints", "allow", "-C", "opt-level=2", "-C", "debuginfo=0"])
+        .args(["--edition", "2021", "--cap-lints", "allow", "-C", "opt-level=1", "-C", "debuginfo=0"])
         .args(words)
         .output()
         .map_err(|error| error.to_string())?;
-    if output.status.success() { Ok(()) } else { Err(String::from_utf8_lossy(&output.stderr).to_string()) }
+    if output.status.success() {
+        Ok(())
+    } else {
+        Err(String::from_utf8_lossy(&output.stderr).to_string())
+    }
 }
 
 /// How many calls a program answers otherwise. One that stops or hangs has shown its mistake by that call, and goes on

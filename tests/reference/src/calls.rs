@@ -130,17 +130,29 @@ pub fn search_pack(
 }
 
 fn long_enough(enough: bool) -> Result<(), Refusal> {
-    if enough { Ok(()) } else { Err(without_place(SHORT)) }
+    if enough {
+        Ok(())
+    } else {
+        Err(without_place(SHORT))
+    }
 }
 
 /// A number handed in that must be below a count.
 fn below(number: u64, count: usize) -> Result<usize, Refusal> {
-    if number < count as u64 { Ok(number as usize) } else { Err(without_place(RANGE)) }
+    if number < count as u64 {
+        Ok(number as usize)
+    } else {
+        Err(without_place(RANGE))
+    }
 }
 
 /// A limit handed in.
 fn limit(number: u64, least: u64, most: u64) -> Result<usize, Refusal> {
-    if least <= number && number <= most { Ok(number as usize) } else { Err(without_place(RANGE)) }
+    if least <= number && number <= most {
+        Ok(number as usize)
+    } else {
+        Err(without_place(RANGE))
+    }
 }
 
 /// What the work buffer has after an answer, and after 10 to 13. This implementation needs none of it.

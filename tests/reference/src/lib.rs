@@ -13,6 +13,7 @@ pub mod ending;
 pub mod generate;
 pub mod graph;
 pub mod happening;
+pub mod implementation;
 pub mod number;
 pub mod pack;
 pub mod plain;

@@ -40,10 +40,14 @@ impl Words<'_> {
     fn ask(&mut self) -> Result<Ask, String> {
         Ok(match self.name {
             "start" => Ask::Start,
-            "query" => {
-                Ask::Query { chart: self.bytes("the chart")?, chain: self.bytes("the chain")?, fluent: self.number("the fluent")? }
+            "query" => Ask::Query {
+                chart: self.bytes("the chart")?,
+                chain: self.bytes("the chain")?,
+                fluent: self.number("the fluent")?,
+            },
+            "compare" => {
+                Ask::Compare { first: self.bytes("the first chart")?, second: self.bytes("the second chart")? }
             }
-            "compare" => Ask::Compare { first: self.bytes("the first chart")?, second: self.bytes("the second chart")? },
             "step" => Ask::Step { chart: self.bytes("the chart")?, action: self.number("the action")? },
             "explained" => Ask::Explained {
                 chart: self.bytes("the chart")?,
@@ -58,7 +62,9 @@ impl Words<'_> {
                 nesting: self.number("the nesting limit E")?,
             },
             "ending" => Ask::Ending,
-            name => return Err(format!("'{name}' is no call: start, query, compare, step, explained, search or ending")),
+            name => {
+                return Err(format!("'{name}' is no call: start, query, compare, step, explained, search or ending"))
+            }
         })
     }
 

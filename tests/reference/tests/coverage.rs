@@ -43,7 +43,9 @@ fn wanted() -> Vec<(String, usize)> {
         want(format!("compare: chain of {length:02}"), 5);
     }
     want("compare: same in other bytes".to_string(), 50);
-    for size in ["6 characters", "1 character", "24 fluents", "32 nodes", "32 actions", "16 triggers", "a domain of 128"] {
+    for size in
+        ["6 characters", "1 character", "24 fluents", "32 nodes", "32 actions", "16 triggers", "a domain of 128"]
+    {
         want(format!("size: a pack with {size}"), 5);
     }
     want("size: a pack of 8,192 bytes".to_string(), 5);

@@ -37,7 +37,8 @@ fn rounds_of_a_counter() {
             pack.triggers.push(trigger(is(bit, 0), lower.chain([effect(0, bit, 1)]).collect()));
         }
         let settled = number >= 31 - 16;
-        let expected = if settled { "chart 0101010101010101 of 8 bytes, work zeroed" } else { "refused 11 at 0, work zeroed" };
+        let expected =
+            if settled { "chart 0101010101010101 of 8 bytes, work zeroed" } else { "refused 11 at 0, work zeroed" };
         assert_eq!(says(&format!("step {} 0101010101010101 0", hex(&pack))), expected, "from {number}");
     }
 }

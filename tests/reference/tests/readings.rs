@@ -35,7 +35,10 @@ fn what_ending_prints() {
 
 #[test]
 fn worths_and_values_at_their_limits() {
-    assert_eq!(says(&format!("search {} 1 1 1", p_with(32, 33, "ffff03"))), "list 00 of 1, author 0 65535, work zeroed");
+    assert_eq!(
+        says(&format!("search {} 1 1 1", p_with(32, 33, "ffff03"))),
+        "list 00 of 1, author 0 65535, work zeroed"
+    );
     assert_eq!(says(&format!("search {} 1 1 1", p_with(32, 33, "ffff04"))), "refused 2 at 32");
     assert_eq!(says("step P 01020101 0"), "refused 10 at 0, work zeroed");
     assert_eq!(says("step P 01030101 0"), "refused 24 at 1");
@@ -45,7 +48,8 @@ fn worths_and_values_at_their_limits() {
 fn start_merges_and_numbers_breadth_first_and_runs_no_trigger() {
     let mut pack = empty(2, &[4]);
     // Node 1 means what node 4 means; node 3 is out of reach.
-    pack.nodes = vec![node(&[0], &[2, 1]), node(&[1], &[0, 4]), node(&[2], &[2, 4]), node(&[3], &[3, 3]), node(&[1], &[0, 1])];
+    pack.nodes =
+        vec![node(&[0], &[2, 1]), node(&[1], &[0, 4]), node(&[2], &[2, 4]), node(&[3], &[3, 3]), node(&[1], &[0, 1])];
     pack.triggers.push(trigger(always(), vec![effect(0, 0, 3)]));
     assert_eq!(says(&format!("start {}", hex(&pack))), "chart 03000203020203010103 of 10 bytes, work zeroed");
 }
@@ -55,7 +59,9 @@ fn query_follows_the_chain_of_any_length() {
     let mut pack = empty(2, &[4]);
     pack.nodes = vec![node(&[0], &[1, 0]), node(&[1], &[2, 0]), node(&[2], &[0, 3]), node(&[3], &[3, 3])];
     let (bytes, table) = (hex(&pack), chart(&pack.nodes));
-    for (chain, value) in [("-", 0), ("00", 1), ("0000", 2), ("000000", 0), ("0001", 0), ("000001", 3), ("0000010001", 3)] {
+    for (chain, value) in
+        [("-", 0), ("00", 1), ("0000", 2), ("000000", 0), ("0001", 0), ("000001", 3), ("0000010001", 3)]
+    {
         assert_eq!(says(&format!("query {bytes} {table} {chain} 0")), format!("value {value}, work zeroed"));
     }
     let far = "00".repeat(1_000);
@@ -73,14 +79,16 @@ fn conditions() {
     };
     assert!(holds(always()));
     assert!(!holds(never()));
-    for (kind, expected) in [(IS, [false, true, false]), (IS_NOT, [true, false, true]), (AT_LEAST, [true, true, false])] {
+    for (kind, expected) in [(IS, [false, true, false]), (IS_NOT, [true, false, true]), (AT_LEAST, [true, true, false])]
+    {
         for value in 0..3 {
             assert_eq!(holds(all(vec![test(&[], kind, 0, value)])), expected[value as usize]);
         }
     }
     assert!(holds(all(vec![test(&[0], IS, 0, 2), test(&[0, 0], IS, 0, 1), test(&[0, 0, 0, 0], IS, 0, 1)])));
     assert!(!holds(all(vec![test(&[], IS, 0, 1), test(&[], IS, 0, 2)])));
-    let either = reference::pack::Condition { alternatives: vec![vec![test(&[], IS, 0, 2)], vec![test(&[0], IS, 0, 2)]] };
+    let either =
+        reference::pack::Condition { alternatives: vec![vec![test(&[], IS, 0, 2)], vec![test(&[0], IS, 0, 2)]] };
     assert!(holds(either));
 }
 

@@ -58,7 +58,14 @@ fn row_3_limits() {
 #[test]
 fn row_3_length_of_a_pack_is_tested_first() {
     let long = "ff".repeat(8_193);
-    for rest in ["start L", "step L 00 9", "query L - 09 9", "search L 0 0 0 work=0", "compare L 00 00", "explained L 00 9 9 9 9"] {
+    for rest in [
+        "start L",
+        "step L 00 9",
+        "query L - 09 9",
+        "search L 0 0 0 work=0",
+        "compare L 00 00",
+        "explained L 00 9 9 9 9",
+    ] {
         refused(&rest.replace('L', &long), 3, 0);
     }
     assert_eq!(says(&format!("ending {long}")), "refused 3 at 0");
@@ -102,9 +109,21 @@ fn six_consenters_whatever_the_number_of_characters() {
 #[test]
 fn rows_21_to_27() {
     for (bytes, number, place) in [
-        ("-", 21, 0), ("0100", 21, 2), ("0180", 21, 2), ("010001", 21, 3), ("8100", 22, 0), ("01ffffff", 22, 1),
-        ("00", 23, 0), ("21", 23, 0), ("01030101", 24, 1), ("01000102", 24, 3), ("01000001", 25, 2), ("0100010100", 27, 4),
-        ("01000101ff", 27, 4), ("02000101000001", 25, 5), ("02000101030101", 24, 4),
+        ("-", 21, 0),
+        ("0100", 21, 2),
+        ("0180", 21, 2),
+        ("010001", 21, 3),
+        ("8100", 22, 0),
+        ("01ffffff", 22, 1),
+        ("00", 23, 0),
+        ("21", 23, 0),
+        ("01030101", 24, 1),
+        ("01000102", 24, 3),
+        ("01000001", 25, 2),
+        ("0100010100", 27, 4),
+        ("01000101ff", 27, 4),
+        ("02000101000001", 25, 5),
+        ("02000101030101", 24, 4),
     ] {
         refused(&format!("step P {bytes} 0"), number, place);
         refused(&format!("query P {bytes} - 0"), number, place);
@@ -121,7 +140,14 @@ fn row_8_lent_buffers() {
     refused("step P 01000101 0 result=960", 8, 0);
     refused("search P 1 1 1 result=7", 8, 0);
     refused("compare P 01000101 01000101 result=61", 8, 0);
-    for line in ["start P", "step P 01000101 0", "query P 01000101 - 0", "compare P 01000101 01000101", "explained P 01000101 0 0 1 1", "search P 1 1 1"] {
+    for line in [
+        "start P",
+        "step P 01000101 0",
+        "query P 01000101 - 0",
+        "compare P 01000101 01000101",
+        "explained P 01000101 0 0 1 1",
+        "search P 1 1 1",
+    ] {
         refused(&format!("{line} work=49151"), 8, 0);
         assert!(!says(&format!("{line} work=49153")).starts_with("refused"), "{line}");
     }

@@ -1,7 +1,7 @@
 //! The tuned form gives the same answers as the readable one, bytes and all, with one engine for all calls.
 
-use reference::call::answer_by;
-use reference::generate::{answer, call};
+use reference::generate::call;
+use reference::implementation::{answer, answer_by};
 use reference::tuned::Engine;
 
 #[test]

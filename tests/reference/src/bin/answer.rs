@@ -2,7 +2,7 @@
 
 use std::io::{stdin, stdout, BufWriter, Write};
 
-use reference::call::answer;
+use reference::implementation::answer;
 use reference::text;
 
 fn main() -> std::io::Result<()> {

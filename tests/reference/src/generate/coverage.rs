@@ -111,7 +111,9 @@ impl Coverage {
                 if pack.actions[action].effects.iter().any(|effect| effect.whom > 0) {
                     self.note("step: effects into beliefs".to_string());
                 }
-                if pack.triggers.iter().any(|trigger| trigger.effects.iter().any(|effect| effect.whom > 0)) && rounds > 0 {
+                if pack.triggers.iter().any(|trigger| trigger.effects.iter().any(|effect| effect.whom > 0))
+                    && rounds > 0
+                {
                     self.note("step: triggers with effects into beliefs".to_string());
                 }
             }
@@ -155,13 +157,33 @@ fn lowered(ask: &Ask) -> Vec<(String, Ask)> {
         }
     };
     if let Ask::Search { story, foresight, nesting } = ask {
-        with("story limit", *story, 1, &|ask| if let Ask::Search { story, .. } = ask { *story -= 1 });
-        with("foresight limit", *foresight, 1, &|ask| if let Ask::Search { foresight, .. } = ask { *foresight -= 1 });
-        with("nesting limit", *nesting, 0, &|ask| if let Ask::Search { nesting, .. } = ask { *nesting -= 1 });
+        with("story limit", *story, 1, &|ask| {
+            if let Ask::Search { story, .. } = ask {
+                *story -= 1
+            }
+        });
+        with("foresight limit", *foresight, 1, &|ask| {
+            if let Ask::Search { foresight, .. } = ask {
+                *foresight -= 1
+            }
+        });
+        with("nesting limit", *nesting, 0, &|ask| {
+            if let Ask::Search { nesting, .. } = ask {
+                *nesting -= 1
+            }
+        });
     }
     if let Ask::Explained { foresight, nesting, .. } = ask {
-        with("foresight limit", *foresight, 1, &|ask| if let Ask::Explained { foresight, .. } = ask { *foresight -= 1 });
-        with("nesting limit", *nesting, 0, &|ask| if let Ask::Explained { nesting, .. } = ask { *nesting -= 1 });
+        with("foresight limit", *foresight, 1, &|ask| {
+            if let Ask::Explained { foresight, .. } = ask {
+                *foresight -= 1
+            }
+        });
+        with("nesting limit", *nesting, 0, &|ask| {
+            if let Ask::Explained { nesting, .. } = ask {
+                *nesting -= 1
+            }
+        });
     }
     questions
 }

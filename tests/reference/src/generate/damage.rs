@@ -52,7 +52,22 @@ fn lengthen(r: &mut Random, pack: &mut Vec<u8>) {
 /// Makes a number handed in too large, by a little or so that its low bits alone would do.
 fn number(r: &mut Random, call: &mut Call) {
     let over = |r: &mut Random, n: u64| {
-        r.pick(&[0, n + 1, n + 2, 4, 6, 7, 9, 24, 32, n + 256, n + 65_536, n + (1 << 32), n.wrapping_add(1 << 63), u64::MAX])
+        r.pick(&[
+            0,
+            n + 1,
+            n + 2,
+            4,
+            6,
+            7,
+            9,
+            24,
+            32,
+            n + 256,
+            n + 65_536,
+            n + (1 << 32),
+            n.wrapping_add(1 << 63),
+            u64::MAX,
+        ])
     };
     let bad_chain = |r: &mut Random, chain: &mut Vec<u8>| {
         let at = r.below(chain.len() + 1);

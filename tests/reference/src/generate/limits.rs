@@ -49,7 +49,8 @@ pub fn gossip(r: &mut Random) -> Pack {
     pack.triggers.push(trigger(knows, vec![effect(1, 0, 1)]));
     if r.chance(1, 3) {
         // Heard by the number of the node: then the news stops there.
-        pack.triggers.insert(0, trigger(all(vec![test(&[], IS, 0, 1), test(&[], AT_LEAST, 1, 9)]), vec![effect(0, 0, 0)]));
+        pack.triggers
+            .insert(0, trigger(all(vec![test(&[], IS, 0, 1), test(&[], AT_LEAST, 1, 9)]), vec![effect(0, 0, 0)]));
     }
     pack
 }

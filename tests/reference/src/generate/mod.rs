@@ -3,6 +3,7 @@
 //! What is drawn is listed in `drawn`. Calls may be steered by this implementation's own answers (a chart is often one that
 //! some steps lead to), but never left out because of them.
 
+pub mod bends;
 pub mod coverage;
 pub mod damage;
 pub mod draft;
@@ -13,7 +14,8 @@ pub mod stories;
 pub mod tables;
 pub mod wander;
 
-pub use crate::call::{answer, Answer, Ask, Call};
+pub use crate::call::{Answer, Ask, Call};
+pub use crate::implementation::answer;
 
 use crate::calls::search_pack;
 use crate::chart;
@@ -156,7 +158,8 @@ fn comparison(r: &mut Random) -> Call {
         }
     };
     let (first, second) = (chart::bytes(&first), chart::bytes(&second));
-    let ask = if r.chance(1, 2) { Ask::Compare { first, second } } else { Ask::Compare { first: second, second: first } };
+    let ask =
+        if r.chance(1, 2) { Ask::Compare { first, second } } else { Ask::Compare { first: second, second: first } };
     Call::new(draft::bytes(&pack), ask)
 }
 
@@ -190,9 +193,7 @@ fn any(r: &mut Random, pack: &Pack, story: usize, foresight: usize, nesting: usi
             Ask::Compare { first: chart, second }
         }
         3..=6 => Ask::Step { chart, action },
-        7 | 8 => {
-            Ask::Explained { chart, character, action, foresight: foresight as u64, nesting: nesting as u64 }
-        }
+        7 | 8 => Ask::Explained { chart, character, action, foresight: foresight as u64, nesting: nesting as u64 },
         9 | 10 => return search(pack, story, foresight, nesting),
         _ => Ask::Ending,
     };

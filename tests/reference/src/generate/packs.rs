@@ -16,11 +16,31 @@ pub fn small(r: &mut Random) -> Pack {
     let triggers = r.pick(&[0, 0, 1, 2, 3]);
     pack.triggers = (0..triggers).map(|_| random_trigger(r, &pack)).collect();
     pack.utilities = (0..=characters).map(|_| (0..r.from(1, 3)).map(|_| random_rule(r, &pack)).collect()).collect();
-    if r.chance(1, 30) {
-        // Consenters that don't rise or aren't there, up to six and one more.
-        pack.actions[0].consenters = (0..r.from(2, 7)).map(|_| r.below(characters + 1)).collect();
+    if r.chance(1, 8) {
+        fill(r, &mut pack);
     }
     pack
+}
+
+/// Makes some count as large as it may be or one larger. Where it is one larger, or the consenters don't rise or aren't
+/// there, the pack will be refused.
+fn fill(r: &mut Random, pack: &mut Pack) {
+    let over = r.below(2);
+    let tests = |r: &mut Random, count: usize| (0..count).map(|_| random_test(r, pack)).collect::<Vec<_>>();
+    match r.below(9) {
+        0 => pack.actions[0].consenters = (0..r.from(2, 7)).map(|_| r.below(pack.characters + 1)).collect(),
+        1 => pack.actions[0].condition.alternatives = (0..8 + over).map(|_| tests(r, 1)).collect(),
+        2 => pack.actions[0].observations[0] = all(tests(r, 8 + over)),
+        3 => pack.actions[0].effects = (0..16 + over).map(|i| effect(i % 2, 0, (i / 2 % 2) as u8)).collect(),
+        4 => pack.utilities[1] = (0..8 + over).map(|_| random_rule(r, pack)).collect(),
+        5 => {
+            let chain: Vec<usize> = (0..4 + over).map(|_| r.below(pack.characters)).collect();
+            pack.utilities[0].insert(0, rule(all(vec![test(&chain, IS, 0, 1)]), 7));
+        }
+        6 => pack.domains[0] = 128 + over,
+        7 => pack.nodes = tables::random(r, pack.characters, &pack.domains, 32 + over),
+        _ => pack.triggers = (0..16 + over).map(|_| random_trigger(r, pack)).collect(),
+    }
 }
 
 /// A pack with as many characters, fluents, nodes, actions and triggers as there may be, or nearly, as far as they fit.
@@ -69,7 +89,13 @@ fn pad(pack: &mut Pack, whose: usize, length: usize) {
         let mut left = missing - 1;
         let mut tests = Vec::new();
         while left >= 4 && tests.len() < 8 {
-            let size = if left >= 12 { 8 } else if left > 8 { left - 4 } else { left };
+            let size = if left >= 12 {
+                8
+            } else if left > 8 {
+                left - 4
+            } else {
+                left
+            };
             tests.push(test(&vec![0; size - 4], IS, 0, 0));
             left -= size;
         }
@@ -124,7 +150,8 @@ fn random_trigger(r: &mut Random, pack: &Pack) -> Trigger {
         tests.push(random_test(r, pack));
     }
     let greatest = (pack.domains[fluent] - 1) as u8;
-    let next = if r.chance(3, 4) { value + (value < greatest) as u8 } else { fluent_and_value(r, pack).1.min(greatest) };
+    let next =
+        if r.chance(3, 4) { value + (value < greatest) as u8 } else { fluent_and_value(r, pack).1.min(greatest) };
     let mut effects = random_effects(r, pack, 1);
     effects.push(effect(0, fluent, next));
     trigger(if r.chance(1, 8) { condition(r, pack) } else { all(tests) }, effects)

@@ -136,7 +136,12 @@ impl<'a> Lists<'a> {
     }
 
     /// The first ending in the order of length, then of action numbers, and the author's utility after it.
-    pub fn search(&mut self, start: Place, story: usize, nesting: usize) -> Result<Option<(Vec<usize>, usize)>, TooLong> {
+    pub fn search(
+        &mut self,
+        start: Place,
+        story: usize,
+        nesting: usize,
+    ) -> Result<Option<(Vec<usize>, usize)>, TooLong> {
         for length in 1..=story {
             for list in lists(self.places.pack.actions.len(), length) {
                 if let Some(after) = self.ending(&list, start, nesting)? {

@@ -97,7 +97,9 @@ fn outcome(ask: &Ask, pack: &Pack, tables: &[Vec<Node>]) -> Result<(Outcome, Vec
             let yes = lists.explained(*character as usize, *action as usize, 0, *nesting as usize)?;
             no_bytes(Outcome::Verdict(yes))
         }
-        Ask::Search { story, foresight, nesting } => searched(pack, *story as usize, *foresight as usize, *nesting as usize),
+        Ask::Search { story, foresight, nesting } => {
+            searched(pack, *story as usize, *foresight as usize, *nesting as usize)
+        }
         Ask::Ending => {
             let (outcome, list) = searched(pack, ending::STORY, ending::FORESIGHT, ending::NESTING)?;
             let mut lines: Vec<String> = list.iter().enumerate().map(|(i, a)| format!("{} {a}\n", i + 1)).collect();

@@ -9,9 +9,9 @@ mod states;
 mod step;
 mod table;
 
-use crate::call::Implementation;
 use crate::calls::{Differs, Found, CHAIN_ROOM, CHART_ROOM, LIST_ROOM, WORK_ROOM};
 use crate::ending;
+use crate::implementation::Implementation;
 use crate::refusal::{without_place, Refusal, NO_ENDING, RANGE, SHORT};
 use rules::Rules;
 use search::Search;
@@ -107,7 +107,14 @@ impl Implementation for Engine {
         Ok(difference(&self.rows, &self.other, &self.rules, result))
     }
 
-    fn step(&mut self, pack: &[u8], chart: &[u8], action: u64, result: &mut [u8], work: &mut [u8]) -> Result<usize, Refusal> {
+    fn step(
+        &mut self,
+        pack: &[u8],
+        chart: &[u8],
+        action: u64,
+        result: &mut [u8],
+        work: &mut [u8],
+    ) -> Result<usize, Refusal> {
         reader::pack(&mut self.rules, pack)?;
         reader::chart(&self.rules, chart, &mut self.rows)?;
         lent(result.len() >= CHART_ROOM && work.len() >= WORK_ROOM)?;
@@ -165,11 +172,19 @@ impl Implementation for Engine {
 }
 
 fn lent(enough: bool) -> Result<(), Refusal> {
-    if enough { Ok(()) } else { Err(without_place(SHORT)) }
+    if enough {
+        Ok(())
+    } else {
+        Err(without_place(SHORT))
+    }
 }
 
 fn in_range(there: bool) -> Result<(), Refusal> {
-    if there { Ok(()) } else { Err(without_place(RANGE)) }
+    if there {
+        Ok(())
+    } else {
+        Err(without_place(RANGE))
+    }
 }
 
 /// The first difference of two tables, breadth first over pairs of rows; its chain is read back along the way.

@@ -57,17 +57,29 @@ impl<'a> Reader<'a> {
     #[inline(always)]
     fn within(&mut self, least: usize, most: usize) -> Read<usize> {
         let value = self.number()?;
-        if value < least || value > most { self.refuse(LIMIT, self.place) } else { Ok(value) }
+        if value < least || value > most {
+            self.refuse(LIMIT, self.place)
+        } else {
+            Ok(value)
+        }
     }
 
     #[inline(always)]
     fn one_of(&mut self, count: usize) -> Read<usize> {
         let value = self.number()?;
-        if value >= count { self.refuse(ABSENT, self.place) } else { Ok(value) }
+        if value >= count {
+            self.refuse(ABSENT, self.place)
+        } else {
+            Ok(value)
+        }
     }
 
     fn end(&self) -> Read<()> {
-        if self.at < self.bytes.len() { self.refuse(AFTER, self.at) } else { Ok(()) }
+        if self.at < self.bytes.len() {
+            self.refuse(AFTER, self.at)
+        } else {
+            Ok(())
+        }
     }
 
     /// The node part: rows as they stand.
@@ -124,7 +136,8 @@ pub fn pack(rules: &mut Rules, bytes: &[u8]) -> Read<()> {
         rules.actions.push(action);
     }
     for _ in 0..reader.within(0, 16)? {
-        let trigger = Trigger { condition: rules.read_condition(&mut reader)?, effects: rules.read_effects(&mut reader)? };
+        let trigger =
+            Trigger { condition: rules.read_condition(&mut reader)?, effects: rules.read_effects(&mut reader)? };
         for write in trigger.effects.writes[0].of(&rules.writes) {
             rules.moved |= 1 << write.fluent;
         }

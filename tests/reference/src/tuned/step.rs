@@ -56,7 +56,11 @@ impl Stepper {
         if !self.fresh.merge(rules.characters, result) {
             return Err(STATES);
         }
-        if rules.triggers.is_empty() { Ok(()) } else { self.settle(rules, result) }
+        if rules.triggers.is_empty() {
+            Ok(())
+        } else {
+            self.settle(rules, result)
+        }
     }
 
     /// The number of a key, a new one at the end if it wasn't met.
@@ -125,7 +129,11 @@ impl Stepper {
             if rounds == 16 {
                 return Err(ROUNDS);
             }
-            if tells { self.round_with_tales(rules, state) } else { self.round(rules, state) }
+            if tells {
+                self.round_with_tales(rules, state)
+            } else {
+                self.round(rules, state)
+            }
             if !self.fresh.merge(rules.characters, &mut self.spare) {
                 return Err(STATES);
             }
@@ -195,7 +203,6 @@ impl Stepper {
 
 /// The characters that observe an action in the state at a row, as bits.
 fn observers(rules: &Rules, observations: &[Span; 6], state: &Table, row: usize) -> u8 {
-    (0..rules.characters).fold(0, |seen, character| {
-        seen | (rules.holds(observations[character], &state.rows, row) as u8) << character
-    })
+    (0..rules.characters)
+        .fold(0, |seen, character| seen | (rules.holds(observations[character], &state.rows, row) as u8) << character)
 }

@@ -2,8 +2,8 @@
 
 #![allow(dead_code)]
 
-use reference::call::answer;
 use reference::generate::draft;
+use reference::implementation::answer;
 use reference::pack::Pack;
 use reference::text;
 
