@@ -1,7 +1,7 @@
 //! Planted mistakes: one small change each to the sources of the reference, kept as files in `edits`.
 //!
-//! A file's first line says what is wrong, its second names the source file (`in happening.rs`), and then come the old lines,
-//! each after `- `, and the new ones, each after `+ `.
+//! A file's first line says what is wrong, its second names the source file (`in happening.rs`), and then come the old
+//! lines, each after `- `, and the new ones, each after `+ `.
 
 use std::fs;
 use std::path::{Path, PathBuf};

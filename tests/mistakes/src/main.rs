@@ -1,6 +1,7 @@
-//! Plants each mistake into a copy of the reference below `target`, builds its command `answer`, lets it answer generated
-//! calls, and prints how many of them it answers otherwise than the original. `mistakes COUNT [NAME]`: the first COUNT seeds,
-//! all mistakes or those whose name contains NAME. Ends with an error if some mistake isn't shown by any call.
+//! Plants each mistake into a copy of the reference below `target`, builds its command `answer`, lets it answer
+//! generated calls, and prints how many of them it answers otherwise than the original. `mistakes COUNT [NAME]`: the
+//! first COUNT seeds, all mistakes or those whose name contains NAME. Ends with an error if some mistake isn't shown by
+//! any call.
 
 use std::fs;
 use std::io::{BufRead, BufReader, Write};

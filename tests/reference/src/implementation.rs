@@ -1,4 +1,5 @@
-//! What an implementation of the calls is, and how a `Call` is put to it: the readable one, the tuned one and others alike.
+//! What an implementation of the calls is, and how a `Call` is put to it: the readable one, the tuned one and others
+//! alike.
 
 use crate::call::{lent, Answer, Ask, Call, Outcome, Work};
 use crate::calls::{self, Differs, Found};

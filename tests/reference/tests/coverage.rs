@@ -11,9 +11,9 @@ fn wanted() -> Vec<(String, usize)> {
     }
     for name in ["start", "query", "compare", "step", "explained", "search", "ending"] {
         want(format!("{name}: answered"), 20);
-        want(format!("{name}: refused 02"), 3);
-        want(format!("{name}: refused 03"), 3);
-        want(format!("{name}: refused 04"), 3);
+        want(format!("{name}: refused 02"), 1);
+        want(format!("{name}: refused 03"), 1);
+        want(format!("{name}: refused 04"), 1);
     }
     for rounds in [0, 1, 2, 3, 13, 14, 15, 16] {
         want(format!("step: settled after {rounds:02} rounds"), 5);

@@ -1,4 +1,5 @@
-//! Answers calls given as lines on standard input, one line each. Lines that are empty or begin with `#` are passed over.
+//! Answers calls given as lines on standard input, one line each. Empty lines and those that begin with `#` are passed
+//! over.
 
 use std::io::{stdin, stdout, BufWriter, Write};
 

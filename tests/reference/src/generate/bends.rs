@@ -119,7 +119,7 @@ fn wants_less(r: &mut Random, pack: &mut Pack, character: usize, length: usize) 
 }
 
 /// A character gains one step later than the others: its plan goes further than theirs.
-fn wants_later(pack: &mut Pack, character: usize, length: usize) {
+pub fn wants_later(pack: &mut Pack, character: usize, length: usize) {
     for rule in &mut pack.utilities[character + 1] {
         for test in rule.condition.alternatives.iter_mut().flatten() {
             test.value = (test.value + 1).min(length as u8);

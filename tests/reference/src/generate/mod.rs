@@ -1,7 +1,7 @@
 //! Generated calls: a seed gives a call, the same one everywhere and always.
 //!
-//! What is drawn is listed in `drawn`. Calls may be steered by this implementation's own answers (a chart is often one that
-//! some steps lead to), but never left out because of them.
+//! What is drawn is listed in `drawn`. Packs and charts may be steered by this implementation's own answers (a chart is
+//! often one that some steps lead to), but no call is left out because of its answer.
 
 pub mod bends;
 pub mod coverage;
@@ -105,7 +105,11 @@ fn on_the_way(r: &mut Random, pack: &Pack, foresight: usize, nesting: usize) -> 
     let consenters = &pack.actions[action].consenters;
     let character = if consenters.is_empty() { r.below(pack.characters) } else { r.pick(consenters) };
     let (action, character) = (action as u64, character as u64);
-    let chart = chart::bytes(&tables::equivalent(r, state.nodes()));
+    let mut table = tables::equivalent(r, state.nodes());
+    if table.len() < 32 && r.chance(1, 3) {
+        table = tables::mistaken(r, &table, &pack.domains);
+    }
+    let chart = chart::bytes(&table);
     let (foresight, nesting) = (foresight as u64, nesting as u64);
     Call::new(draft::bytes(pack), Ask::Explained { chart, character, action, foresight, nesting })
 }
@@ -166,7 +170,13 @@ fn comparison(r: &mut Random) -> Call {
 fn large(r: &mut Random) -> Call {
     let pack = packs::large(r);
     let nesting = r.from(0, 1);
-    any(r, &pack, 1, 1, nesting)
+    let call = any(r, &pack, 1, 1, nesting);
+    // The limits of `ending` are too wide for the readable implementation here.
+    if call.ask == Ask::Ending {
+        search(&pack, 1, 2, 1)
+    } else {
+        call
+    }
 }
 
 /// A pack of exactly 8,192 bytes.

@@ -2,7 +2,7 @@
 //! a segment the consenters take turns and gain only at its end, so that the first needs a plan in which the others act,
 //! and they need plans in turn: one more nesting limit for each change of hands.
 
-use super::bends::bend;
+use super::bends::{bend, wants_later};
 use super::draft::*;
 use super::random::Random;
 use super::tables;
@@ -33,6 +33,9 @@ pub fn story(r: &mut Random) -> Story {
     }
     utilities(&mut pack, &segments, length);
     let (foresight, nesting) = needs(&segments, &hands);
+    if r.chance(1, 6) {
+        wants_later(&mut pack, r.below(characters), length);
+    }
     if r.chance(2, 3) {
         for _ in 0..r.from(1, 2) {
             bend(r, &mut pack, length);
@@ -45,8 +48,8 @@ pub fn story(r: &mut Random) -> Story {
     Story { pack, story: length.min(8), foresight: foresight.min(6), nesting: nesting.min(3) }
 }
 
-/// Two rows of steps on two fluents, each with hands of its own; the author wants both at their ends. The steps may be mixed
-/// in any order, so that the earliest list is one of many, and what others see of them decides which are explained.
+/// Two rows of steps on two fluents, each with hands of its own; the author wants both at their ends. The steps may be
+/// mixed in any order, so that the earliest list is one of many, and what others see of them decides which are explained.
 pub fn tangle(r: &mut Random) -> Pack {
     let characters = r.from(2, 4);
     let lengths = [r.from(1, 3), r.from(1, 3)];

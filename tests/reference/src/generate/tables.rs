@@ -21,7 +21,7 @@ pub fn random(r: &mut Random, characters: usize, domains: &[usize], count: usize
 pub fn equivalent(r: &mut Random, table: &[Node]) -> Vec<Node> {
     let mut nodes = table.to_vec();
     let mut twins: Vec<Vec<usize>> = (0..table.len()).map(|i| vec![i]).collect();
-    let more = r.below(33 - table.len());
+    let more = r.below(33usize.saturating_sub(table.len()).max(1));
     for _ in 0..more {
         let original = r.below(table.len());
         twins[original].push(nodes.len());
@@ -63,6 +63,17 @@ pub fn altered(r: &mut Random, table: &[Node], domains: &[usize]) -> Vec<Node> {
     nodes
 }
 
+/// A table in which everyone believes what the given one means, and the truth is another.
+pub fn mistaken(r: &mut Random, table: &[Node], domains: &[usize]) -> Vec<Node> {
+    let values = domains.iter().map(|&size| r.below(size) as u8).collect();
+    let truth = Node { values, beliefs: vec![1; table[0].beliefs.len()] };
+    let moved = table.iter().map(|node| {
+        let beliefs = node.beliefs.iter().map(|&next| next + 1).collect();
+        Node { values: node.values.clone(), beliefs }
+    });
+    std::iter::once(truth).chain(moved).collect()
+}
+
 /// A ring in which character 0's beliefs go through all nodes, the others' anywhere, and `fluent` numbers the nodes.
 pub fn ring(r: &mut Random, characters: usize, fluents: usize, fluent: usize, count: usize) -> Vec<Node> {
     (0..count)
@@ -76,9 +87,9 @@ pub fn ring(r: &mut Random, characters: usize, fluents: usize, fluent: usize, co
         .collect()
 }
 
-/// Two tables that differ first after exactly `length` (1 to 62) beliefs of the characters that move; the others' beliefs
-/// are of the state itself. Both are words read along the beliefs, one of period p and one of period p - 1, after
-/// a first node where that is needed for an even length. By Fine and Wilf such words can agree for 2p - 3 letters.
+/// Two tables that differ first after exactly `length` (1 to 62) beliefs of the characters that move; the others'
+/// beliefs are of the state itself. Both are words read along the beliefs, one of period p and one of period p - 1,
+/// after a first node where an even length needs it. By Fine and Wilf such words can agree for 2p - 3 letters.
 pub fn long_difference(r: &mut Random, characters: usize, fluents: usize, length: usize) -> (Vec<Node>, Vec<Node>) {
     let even = length % 2 == 0;
     let period = if even { (length + 2) / 2 } else { (length + 3) / 2 };

@@ -1,5 +1,5 @@
-//! The plain second way: the calls once more by the definitions alone, without merging, numbering or remembering. It shares
-//! the readers of packs and charts with the first way and nothing else, and gives up where it would take too long.
+//! The plain second way: the calls once more by the definitions alone, without merging, numbering or remembering. It
+//! shares the readers of packs and charts with the first way and nothing else, and gives up where it takes too long.
 
 mod lists;
 mod places;

@@ -1,6 +1,6 @@
 //! States read chain by chain. A place is where a chain has led: a node of the table at first, then what became of
-//! a place by an action or a round. Nothing is merged and nothing is numbered breadth first: what a place finds and whom it
-//! believes is worked out from the place it came from, as document 01 says it.
+//! a place by an action or a round. Nothing is merged and nothing is numbered breadth first: what a place finds and
+//! what is believed there is worked out from the place it came from, as document 01 says it.
 
 use std::collections::{HashMap, HashSet};
 use std::rc::Rc;

@@ -118,7 +118,8 @@ impl Search {
         self.states.verdicts[at] == YES
     }
 
-    /// Whether some list of at most `left` actions, each explained to its consenters other than the character, ends above.
+    /// Whether some list of at most `left` actions, each explained to its consenters other than the character, ends
+    /// above.
     fn within(&mut self, rules: &Rules, character: usize, above: u32, state: Id, left: usize, nesting: usize) -> bool {
         if self.utility(rules, state, character + 1) > above {
             return true;

@@ -1,8 +1,8 @@
 //! Step from table to table without allocation.
 //!
-//! The rows of a new graph are described by keys, numbered breadth first through a table of all keys. In part 1 there are at
-//! most 225 of them: the old rows (32), the root, and for each belief of an acting row (32 times 6) one. After a round
-//! it is at most 193.
+//! The rows of a new graph are described by keys, numbered breadth first through a table of all keys. In part 1 there
+//! are at most 225 of them: the old rows (32), the root, and for each belief of an acting row (32 times 6) one. After
+//! a round it is at most 193.
 
 use super::rules::{Rules, Span};
 use super::table::{Fresh, Row, Table, MOST, MOST_FRESH};

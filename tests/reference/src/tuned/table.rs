@@ -1,7 +1,7 @@
 //! Tables of fixed size, and merging without allocation.
 //!
-//! A row is 32 bytes: 24 for values and 6 for beliefs, the rest 0, so that rows are compared as words. Rows that are being
-//! built are numbered breadth first, of which there are at most 225 (see `step`), so a number fits a byte.
+//! A row is 32 bytes: 24 for values and 6 for beliefs, the rest 0, so that rows are compared as words. Rows that are
+//! being built are numbered breadth first; there are at most 225 of them (see `step`), so a number fits a byte.
 
 pub const MOST: usize = 32;
 pub const MOST_FRESH: usize = 256;
