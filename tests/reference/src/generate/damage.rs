@@ -101,7 +101,7 @@ fn damage(r: &mut Random, bytes: &mut Vec<u8>) {
             bytes.truncate(at);
             bytes.extend(vec![r.pick(&[0x80, 0x81, 0xFF]); r.from(1, 3)]);
         }
-        2 => bytes.insert(at, r.next() as u8),
+        2 => bytes.insert(at, r.word() as u8),
         3 => bytes.extend((0..r.from(1, 3)).map(|_| r.pick(&[0, 1, 0x80, 0xFF]))),
         4 => replace(bytes, near, &[0x80, 0x00]),
         5 => {
@@ -115,7 +115,7 @@ fn damage(r: &mut Random, bytes: &mut Vec<u8>) {
         7 => replace(bytes, near, &[0xFF, 0xFF, 0xFF]),
         8 if !bytes.is_empty() => drop(bytes.remove(near)),
         9 => bytes.iter_mut().skip(near).take(1).for_each(|byte| *byte = 0),
-        10 => bytes.iter_mut().skip(near).take(1).for_each(|byte| *byte = r.next() as u8),
+        10 => bytes.iter_mut().skip(near).take(1).for_each(|byte| *byte = r.word() as u8),
         11 => bytes.iter_mut().take(1).for_each(|byte| *byte = r.pick(&[0, 2, 33, 34])),
         _ => bytes.iter_mut().skip(near).take(1).for_each(|byte| *byte = byte.wrapping_add(1)),
     }

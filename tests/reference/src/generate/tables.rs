@@ -91,7 +91,7 @@ pub fn ring(r: &mut Random, characters: usize, fluents: usize, fluent: usize, co
 /// beliefs are of the state itself. Both are words read along the beliefs, one of period p and one of period p - 1,
 /// after a first node where an even length needs it. By Fine and Wilf such words can agree for 2p - 3 letters.
 pub fn long_difference(r: &mut Random, characters: usize, fluents: usize, length: usize) -> (Vec<Node>, Vec<Node>) {
-    let even = length % 2 == 0;
+    let even = length.is_multiple_of(2);
     let period = if even { (length + 2) / 2 } else { (length + 3) / 2 };
     let word = agreeing(period, period - 1);
     let moves: Vec<bool> = (0..characters).map(|_| r.chance(2, 3)).collect();

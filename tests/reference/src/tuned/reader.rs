@@ -4,7 +4,10 @@ use super::rules::{Action, Effects, Rule, Rules, Span, Test, Trigger, Write, NOT
 use super::table::Row;
 use crate::refusal::{Refusal, ABSENT, AFTER, BLANK, ENDS, FORM, IN_CHART, LIMIT, ORDER};
 
-type Read<T> = Result<T, Refusal>;
+/// A fault was met; the reader has the refusal. So a number read fits a register.
+struct Fault;
+
+type Read<T> = Result<T, Fault>;
 
 struct Reader<'a> {
     bytes: &'a [u8],
@@ -12,16 +15,18 @@ struct Reader<'a> {
     /// Where the number read last begins.
     place: usize,
     added: u8,
+    refusal: Refusal,
 }
 
 impl<'a> Reader<'a> {
     fn new(bytes: &'a [u8], added: u8) -> Self {
-        Reader { bytes, at: 0, place: 0, added }
+        Reader { bytes, at: 0, place: 0, added, refusal: Refusal { number: 0, place: 0 } }
     }
 
     #[cold]
-    fn refuse<T>(&self, number: u8, place: usize) -> Read<T> {
-        Err(Refusal { number: number + self.added, place })
+    fn refuse<T>(&mut self, number: u8, place: usize) -> Read<T> {
+        self.refusal = Refusal { number: number + self.added, place };
+        Err(Fault)
     }
 
     /// Nearly all numbers are one byte.
@@ -74,7 +79,7 @@ impl<'a> Reader<'a> {
         }
     }
 
-    fn end(&self) -> Read<()> {
+    fn end(&mut self) -> Read<()> {
         if self.at < self.bytes.len() {
             self.refuse(AFTER, self.at)
         } else {
@@ -108,18 +113,22 @@ impl<'a> Reader<'a> {
 }
 
 /// Reads a chart's table.
-pub fn chart(rules: &Rules, bytes: &[u8], rows: &mut Vec<Row>) -> Read<()> {
+pub fn chart(rules: &Rules, bytes: &[u8], rows: &mut Vec<Row>) -> Result<(), Refusal> {
     let mut reader = Reader::new(bytes, IN_CHART);
-    reader.nodes(rules, rows)?;
-    reader.end()
+    let read = reader.nodes(rules, rows).and_then(|()| reader.end());
+    read.map_err(|Fault| reader.refusal)
 }
 
 /// Reads a pack into lists that are emptied first.
-pub fn pack(rules: &mut Rules, bytes: &[u8]) -> Read<()> {
+pub fn pack(rules: &mut Rules, bytes: &[u8]) -> Result<(), Refusal> {
     if bytes.len() > 8_192 {
         return Err(Refusal { number: LIMIT, place: 0 });
     }
     let mut reader = Reader::new(bytes, 0);
+    whole(rules, &mut reader).map_err(|Fault| reader.refusal)
+}
+
+fn whole(rules: &mut Rules, reader: &mut Reader) -> Read<()> {
     rules.clear();
     reader.within(1, 1)?;
     rules.characters = reader.within(1, 6)?;
@@ -132,12 +141,11 @@ pub fn pack(rules: &mut Rules, bytes: &[u8]) -> Read<()> {
     rules.start = start;
     read?;
     for _ in 0..reader.within(0, 32)? {
-        let action = rules.read_action(&mut reader)?;
+        let action = rules.read_action(reader)?;
         rules.actions.push(action);
     }
     for _ in 0..reader.within(0, 16)? {
-        let trigger =
-            Trigger { condition: rules.read_condition(&mut reader)?, effects: rules.read_effects(&mut reader)? };
+        let trigger = Trigger { condition: rules.read_condition(reader)?, effects: rules.read_effects(reader)? };
         for write in trigger.effects.writes[0].of(&rules.writes) {
             rules.moved |= 1 << write.fluent;
         }
@@ -146,7 +154,7 @@ pub fn pack(rules: &mut Rules, bytes: &[u8]) -> Read<()> {
     for who in 0..=rules.characters {
         let first = rules.rules.len() as u16;
         for _ in 0..reader.within(0, 8)? {
-            let rule = Rule { condition: rules.read_condition(&mut reader)?, worth: reader.number()? as u32 };
+            let rule = Rule { condition: rules.read_condition(reader)?, worth: reader.number()? as u32 };
             rules.rules.push(rule);
         }
         rules.utilities[who] = Span { first, end: rules.rules.len() as u16 };
@@ -197,19 +205,46 @@ impl Rules {
         Ok(Span { first, end: self.alternatives.len() as u16 })
     }
 
+    /// A test. Where all its numbers are in range at once, they are one byte each; else it is read number by number to
+    /// find the fault.
     #[inline]
     fn read_test(&mut self, reader: &mut Reader) -> Read<Test> {
-        let length = reader.within(0, 4)?;
-        let mut chain = [0; 4];
-        for link in &mut chain[..length] {
-            *link = reader.one_of(self.characters)? as u8;
+        if let Some(test) = self.good_test(&reader.bytes[reader.at..]) {
+            reader.at += 4 + (test.length & 7) as usize;
+            return Ok(test);
         }
-        let kind = reader.one_of(3)?;
+        let length = reader.within(0, 4)?;
+        for _ in 0..length {
+            reader.one_of(self.characters)?;
+        }
+        reader.one_of(3)?;
         let fluent = reader.one_of(self.fluents)?;
-        let low = reader.one_of(self.domains[fluent] as usize)? as u8;
+        reader.one_of(self.domains[fluent] as usize)?;
+        unreachable!("a test without fault was read at once")
+    }
+
+    #[inline(always)]
+    fn good_test(&self, bytes: &[u8]) -> Option<Test> {
+        let length = *bytes.first()?;
+        if length > 4 {
+            return None;
+        }
+        let bytes = bytes.get(1..4 + length as usize)?;
+        let (links, rest) = bytes.split_at(length as usize);
+        let mut chain = [0; 4];
+        for (link, &character) in chain.iter_mut().zip(links) {
+            if character as usize >= self.characters {
+                return None;
+            }
+            *link = character;
+        }
+        let (kind, fluent, low) = (rest[0], rest[1], rest[2]);
+        if kind > 2 || fluent as usize >= self.fluents || low >= self.domains[fluent as usize] {
+            return None;
+        }
         let not = if kind == 1 { NOT } else { 0 };
         let width = if kind == 2 { 127 - low } else { 0 };
-        Ok(Test { chain, length: length as u8 | not, fluent: fluent as u8, low, width })
+        Some(Test { chain, length: length | not, fluent, low, width })
     }
 
     /// Effects, sorted by whom; among those for one target the order stays.
