@@ -62,6 +62,18 @@ impl Search {
         self.states.next[at]
     }
 
+    /// Whether an action may yet turn out playable: its condition holds, as far as no more is known.
+    fn allowed(&mut self, rules: &Rules, state: Id, action: usize) -> bool {
+        let at = self.states.action(state, action);
+        if self.states.next[at] == UNKNOWN {
+            self.load(state);
+            if !rules.holds(rules.actions[action].condition, &self.here.rows, 0) {
+                self.states.next[at] = NOWHERE;
+            }
+        }
+        self.states.next[at] != NOWHERE
+    }
+
     fn belief(&mut self, rules: &Rules, state: Id, character: usize) -> Id {
         let at = self.states.character(state, character);
         if self.states.beliefs[at] == UNKNOWN {
@@ -83,16 +95,13 @@ impl Search {
     /// The state after a last action, if it is playable and ends above. Where no rule above can hold on the values that
     /// the action leaves, no step is made.
     fn ends_above(&mut self, rules: &Rules, state: Id, action: usize, who: usize, above: u32) -> bool {
+        if !self.allowed(rules, state, action) {
+            return false;
+        }
         if self.states.next[self.states.action(state, action)] == UNKNOWN {
             self.load(state);
-            let deed = &rules.actions[action];
-            if !rules.holds(deed.condition, &self.here.rows, 0) {
-                let at = self.states.action(state, action);
-                self.states.next[at] = NOWHERE;
-                return false;
-            }
             let mut row = self.here.rows[0];
-            rules.write(deed.effects.writes[0], &mut row);
+            rules.write(rules.actions[action].effects.writes[0], &mut row);
             if !rules.could_exceed(who, above, &row) {
                 return false;
             }
@@ -142,13 +151,12 @@ impl Search {
                 }
                 continue;
             }
+            if !self.allowed(rules, state, action) || !self.consented(rules, asked, action, state, nesting) {
+                continue;
+            }
             let next = self.next(rules, state, action);
             // A step that changes nothing can be left out of a list.
-            if next != NOWHERE
-                && next != state
-                && self.consented(rules, asked, action, state, nesting)
-                && self.within(rules, character, above, next, left - 1, nesting)
-            {
+            if next != NOWHERE && next != state && self.within(rules, character, above, next, left - 1, nesting) {
                 return true;
             }
         }
@@ -176,11 +184,10 @@ impl Search {
             let found = if left == 1 {
                 self.ends_above(rules, state, action, 0, above) && self.consented(rules, asked, action, state, nesting)
             } else {
-                let next = self.next(rules, state, action);
-                next != NOWHERE
-                    && self.states.exhausted[next as usize] >> (left - 1) & 1 == 0
-                    && self.consented(rules, asked, action, state, nesting)
-                    && self.extend(rules, above, next, left - 1, length, nesting)
+                self.allowed(rules, state, action) && self.consented(rules, asked, action, state, nesting) && {
+                    let next = self.next(rules, state, action);
+                    next != NOWHERE && self.extend(rules, above, next, left - 1, length, nesting)
+                }
             };
             if found {
                 self.list[length - left] = action as u8;
