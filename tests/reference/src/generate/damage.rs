@@ -4,9 +4,15 @@ use super::random::Random;
 use crate::call::{Ask, Call};
 use crate::pack::LONGEST_PACK;
 
-/// One to three faults in a call, anywhere.
+/// One to three faults in a call, anywhere; or one in each place after the pack, to see which is told.
 pub fn spoil(r: &mut Random, call: &mut Call) {
-    for _ in 0..r.pick(&[1, 1, 1, 2, 3]) {
+    if r.chance(1, 8) {
+        charts(&mut call.ask).into_iter().for_each(|chart| damage(r, chart));
+        buffers(r, call);
+        number(r, call);
+        return;
+    }
+    for _ in 0..r.pick(&[1, 1, 1, 2, 2, 3]) {
         match r.below(8) {
             0 | 1 => damage(r, &mut call.pack),
             2 | 3 => charts(&mut call.ask).into_iter().for_each(|chart| {
@@ -49,45 +55,36 @@ fn lengthen(r: &mut Random, pack: &mut Vec<u8>) {
     pack.resize(length.max(pack.len()), 0);
 }
 
-/// Makes a number handed in too large, by a little or so that its low bits alone would do.
+/// Puts a number handed in at or past its limits.
 fn number(r: &mut Random, call: &mut Call) {
-    let over = |r: &mut Random, n: u64| {
-        r.pick(&[
-            0,
-            n + 1,
-            n + 2,
-            4,
-            6,
-            7,
-            9,
-            24,
-            32,
-            n + 256,
-            n + 65_536,
-            n + (1 << 32),
-            n.wrapping_add(1 << 63),
-            u64::MAX,
-        ])
-    };
-    let bad_chain = |r: &mut Random, chain: &mut Vec<u8>| {
-        let at = r.below(chain.len() + 1);
-        chain.insert(at, r.pick(&[1, 2, 3, 5, 6, 7, 128, 255]));
-    };
     match &mut call.ask {
-        Ask::Query { chain, .. } if r.chance(1, 2) => bad_chain(r, chain),
-        Ask::Query { fluent: n, .. } | Ask::Step { action: n, .. } => *n = over(r, *n),
-        Ask::Explained { character, action, foresight, nesting, .. } => {
-            let which = r.below(4);
-            let n = [character, action, foresight, nesting].into_iter().nth(which).unwrap();
-            *n = over(r, *n);
+        Ask::Query { chain, .. } if r.chance(1, 2) => {
+            let at = r.below(chain.len() + 1);
+            chain.insert(at, r.pick(&[1, 2, 3, 5, 6, 7, 128, 255]));
         }
-        Ask::Search { story, foresight, nesting } => {
-            let which = r.below(3);
-            let n = [story, foresight, nesting].into_iter().nth(which).unwrap();
-            *n = over(r, *n);
-        }
+        Ask::Query { fluent, .. } => *fluent = past(r, *fluent, &[1, 2, 3, 24]),
+        Ask::Step { action, .. } => *action = past(r, *action, &[1, 2, 3, 4, 32]),
+        Ask::Explained { character, action, foresight, nesting, .. } => match r.below(4) {
+            0 => *character = past(r, *character, &[1, 2, 3, 6]),
+            1 => *action = past(r, *action, &[1, 2, 3, 4, 32]),
+            2 => *foresight = past(r, *foresight, &[0, 6, 7]),
+            _ => *nesting = past(r, *nesting, &[0, 3, 4]),
+        },
+        Ask::Search { story, foresight, nesting } => match r.below(3) {
+            0 => *story = past(r, *story, &[0, 8, 9]),
+            1 => *foresight = past(r, *foresight, &[0, 6, 7]),
+            _ => *nesting = past(r, *nesting, &[0, 3, 4]),
+        },
         Ask::Start | Ask::Compare { .. } | Ask::Ending => {}
     }
+}
+
+/// One of the numbers about a limit, or one whose low bits alone would do.
+fn past(r: &mut Random, n: u64, about: &[u64]) -> u64 {
+    if r.chance(1, 2) {
+        return r.pick(about);
+    }
+    r.pick(&[n + 1, n + 256, n + 65_536, n + (1 << 32), n.wrapping_add(1 << 63), u64::MAX])
 }
 
 /// One fault in the bytes of a pack or chart, often near the beginning, where the nodes are.

@@ -27,8 +27,11 @@ pub fn small(r: &mut Random) -> Pack {
 fn fill(r: &mut Random, pack: &mut Pack) {
     let over = r.below(2);
     let tests = |r: &mut Random, count: usize| (0..count).map(|_| random_test(r, pack)).collect::<Vec<_>>();
-    match r.below(9) {
+    match r.below(12) {
         0 => pack.actions[0].consenters = (0..r.from(2, 7)).map(|_| r.below(pack.characters + 1)).collect(),
+        9 => pack.actions[0].consenters = vec![pack.characters - 1; 2],
+        10 => pack.triggers = vec![trigger(is(0, (pack.domains[0] - 1 + over) as u8), vec![])],
+        11 => pack.actions[0].effects = vec![effect(over, 0, (pack.domains[0] - 1 + over) as u8)],
         1 => pack.actions[0].condition.alternatives = (0..8 + over).map(|_| tests(r, 1)).collect(),
         2 => pack.actions[0].observations[0] = all(tests(r, 8 + over)),
         3 => pack.actions[0].effects = (0..16 + over).map(|i| effect(i % 2, 0, (i / 2 % 2) as u8)).collect(),
@@ -154,6 +157,10 @@ fn random_trigger(r: &mut Random, pack: &Pack) -> Trigger {
         if r.chance(3, 4) { value + (value < greatest) as u8 } else { fluent_and_value(r, pack).1.min(greatest) };
     let mut effects = random_effects(r, pack, 1);
     effects.push(effect(0, fluent, next));
+    if r.chance(1, 4) {
+        // What the belief's own trigger would write too.
+        effects.push(effect(r.from(1, pack.characters), fluent, r.below(pack.domains[fluent]) as u8));
+    }
     trigger(if r.chance(1, 8) { condition(r, pack) } else { all(tests) }, effects)
 }
 
