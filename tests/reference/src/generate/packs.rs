@@ -22,16 +22,13 @@ pub fn small(r: &mut Random) -> Pack {
     pack
 }
 
-/// Makes some count as large as it may be or one larger. Where it is one larger, or the consenters don't rise or aren't
-/// there, the pack will be refused.
+/// Makes some count or value as large as it may be or one larger. Where it is one larger, or the consenters don't rise
+/// or aren't there, the pack will be refused.
 fn fill(r: &mut Random, pack: &mut Pack) {
     let over = r.below(2);
     let tests = |r: &mut Random, count: usize| (0..count).map(|_| random_test(r, pack)).collect::<Vec<_>>();
     match r.below(12) {
         0 => pack.actions[0].consenters = (0..r.from(2, 7)).map(|_| r.below(pack.characters + 1)).collect(),
-        9 => pack.actions[0].consenters = vec![pack.characters - 1; 2],
-        10 => pack.triggers = vec![trigger(is(0, (pack.domains[0] - 1 + over) as u8), vec![])],
-        11 => pack.actions[0].effects = vec![effect(over, 0, (pack.domains[0] - 1 + over) as u8)],
         1 => pack.actions[0].condition.alternatives = (0..8 + over).map(|_| tests(r, 1)).collect(),
         2 => pack.actions[0].observations[0] = all(tests(r, 8 + over)),
         3 => pack.actions[0].effects = (0..16 + over).map(|i| effect(i % 2, 0, (i / 2 % 2) as u8)).collect(),
@@ -42,6 +39,9 @@ fn fill(r: &mut Random, pack: &mut Pack) {
         }
         6 => pack.domains[0] = 128 + over,
         7 => pack.nodes = tables::random(r, pack.characters, &pack.domains, 32 + over),
+        9 => pack.actions[0].consenters = vec![pack.characters - 1; 2],
+        10 => pack.triggers = vec![trigger(is(0, (pack.domains[0] - 1 + over) as u8), vec![])],
+        11 => pack.actions[0].effects = vec![effect(over, 0, (pack.domains[0] - 1 + over) as u8)],
         _ => pack.triggers = (0..16 + over).map(|_| random_trigger(r, pack)).collect(),
     }
 }
