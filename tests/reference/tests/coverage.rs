@@ -39,6 +39,11 @@ fn wanted() -> Vec<(String, usize)> {
         want(format!("search: foresight limit {foresight} matters"), 4);
     }
     want("search: list with several consenters".to_string(), 20);
+    for limit in ["story", "foresight", "nesting"] {
+        want(format!("search: near miss by the {limit} limit"), 10);
+    }
+    want("a false belief".to_string(), 200);
+    want("a nested false belief".to_string(), 100);
     for length in [0, 1, 2, 3, 20, 40, 61, 62] {
         want(format!("compare: chain of {length:02}"), 5);
     }

@@ -6,9 +6,11 @@ use super::{answer, Ask, Call};
 use crate::call::{Answer, Outcome};
 use crate::chart;
 use crate::condition::holds;
+use crate::graph::Node;
 use crate::happening;
 use crate::pack::{self, Pack};
-use crate::refusal::{ROUNDS, STATES};
+use crate::refusal::{without_place, NO_ENDING, ROUNDS, STATES};
+use crate::state::State;
 
 #[derive(Default)]
 pub struct Coverage {
@@ -79,8 +81,12 @@ impl Coverage {
                 _ if first != second => self.note("compare: same in other bytes".to_string()),
                 _ => {}
             },
-            Ask::Step { chart, action } => self.rounds(pack, chart, *action as usize),
+            Ask::Step { chart, action } => {
+                self.beliefs(pack, &chart::table(pack, chart).unwrap());
+                self.rounds(pack, chart, *action as usize);
+            }
             Ask::Search { .. } | Ask::Explained { .. } => {
+                self.beliefs(pack, &pack.nodes);
                 if let Outcome::Found(found) = answer.outcome {
                     self.note(format!("search: list of {}", found.length));
                     let list = &answer.result[..found.length];
@@ -123,15 +129,60 @@ impl Coverage {
         }
     }
 
-    /// Which limits matter: the answer is another one if a limit is one lower.
+    /// Which limits matter: the answer is another one if a limit is one lower. And near misses: there is no ending, but
+    /// there would be if a limit were one higher.
     fn limits(&mut self, call: &Call, given: &Answer) {
-        for (what, less) in lowered(&call.ask) {
-            let lower = answer(&Call { ask: less, ..call.clone() });
-            if lower.outcome != given.outcome {
-                self.note(format!("{}: {what} matters", name(&call.ask)));
+        let name = name(&call.ask);
+        for (what, limit, least, _) in limits(&call.ask) {
+            if limit > least && asked(call, what, limit - 1).outcome != given.outcome {
+                self.note(format!("{name}: {what} limit {limit} matters"));
+            }
+        }
+        if given.outcome == Outcome::Refused(without_place(NO_ENDING)) {
+            for (what, limit, _, most) in limits(&call.ask) {
+                if limit < most && asked(call, what, limit + 1).outcome != given.outcome {
+                    self.note(format!("{name}: near miss by the {what} limit"));
+                }
             }
         }
     }
+
+    /// Whether somebody is mistaken, and whether somebody has a false belief about what another believes.
+    fn beliefs(&mut self, pack: &Pack, nodes: &[Node]) {
+        let state = State::new(nodes, 0);
+        let found = |chain: &[usize]| &state.follow(0, chain).values;
+        let characters = || 0..pack.characters;
+        if characters().any(|c| found(&[c]) != found(&[])) {
+            self.note("a false belief".to_string());
+        }
+        let nested = |c: usize, d: usize| c != d && found(&[c, d]) != found(&[c]) && found(&[c, d]) != found(&[d]);
+        if characters().any(|c| characters().any(|d| nested(c, d))) {
+            self.note("a nested false belief".to_string());
+        }
+    }
+}
+
+/// The limits of a question: what each is, and its least and greatest value.
+fn limits(ask: &Ask) -> Vec<(&'static str, u64, u64, u64)> {
+    match ask {
+        Ask::Search { story, foresight, nesting } => {
+            vec![("story", *story, 1, 8), ("foresight", *foresight, 1, 6), ("nesting", *nesting, 0, 3)]
+        }
+        Ask::Explained { foresight, nesting, .. } => vec![("foresight", *foresight, 1, 6), ("nesting", *nesting, 0, 3)],
+        _ => Vec::new(),
+    }
+}
+
+/// The answer to a question with one limit changed.
+fn asked(call: &Call, what: &str, limit: u64) -> Answer {
+    let mut call = call.clone();
+    match (&mut call.ask, what) {
+        (Ask::Search { story, .. }, "story") => *story = limit,
+        (Ask::Search { foresight, .. } | Ask::Explained { foresight, .. }, "foresight") => *foresight = limit,
+        (Ask::Search { nesting, .. } | Ask::Explained { nesting, .. }, "nesting") => *nesting = limit,
+        _ => unreachable!("no such limit"),
+    }
+    answer(&call)
 }
 
 fn name(ask: &Ask) -> &'static str {
@@ -144,46 +195,4 @@ fn name(ask: &Ask) -> &'static str {
         Ask::Search { .. } => "search",
         Ask::Ending => "ending",
     }
-}
-
-/// The same question with each limit one lower, as far as limits go.
-fn lowered(ask: &Ask) -> Vec<(String, Ask)> {
-    let mut questions = Vec::new();
-    let mut with = |what: &str, limit: u64, least: u64, lower: &dyn Fn(&mut Ask)| {
-        if limit > least {
-            let mut less = ask.clone();
-            lower(&mut less);
-            questions.push((format!("{what} {limit}"), less));
-        }
-    };
-    if let Ask::Search { story, foresight, nesting } = ask {
-        with("story limit", *story, 1, &|ask| {
-            if let Ask::Search { story, .. } = ask {
-                *story -= 1
-            }
-        });
-        with("foresight limit", *foresight, 1, &|ask| {
-            if let Ask::Search { foresight, .. } = ask {
-                *foresight -= 1
-            }
-        });
-        with("nesting limit", *nesting, 0, &|ask| {
-            if let Ask::Search { nesting, .. } = ask {
-                *nesting -= 1
-            }
-        });
-    }
-    if let Ask::Explained { foresight, nesting, .. } = ask {
-        with("foresight limit", *foresight, 1, &|ask| {
-            if let Ask::Explained { foresight, .. } = ask {
-                *foresight -= 1
-            }
-        });
-        with("nesting limit", *nesting, 0, &|ask| {
-            if let Ask::Explained { nesting, .. } = ask {
-                *nesting -= 1
-            }
-        });
-    }
-    questions
 }

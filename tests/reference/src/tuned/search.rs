@@ -92,8 +92,8 @@ impl Search {
         self.states.utilities[at]
     }
 
-    /// The state after a last action, if it is playable and ends above. Where no rule above can hold on the values that
-    /// the action leaves, no step is made.
+    /// Whether a last action is playable and ends above. Where no rule above can hold on the values that the action
+    /// leaves, no step is made.
     fn ends_above(&mut self, rules: &Rules, state: Id, action: usize, who: usize, above: u32) -> bool {
         if !self.allowed(rules, state, action) {
             return false;
