@@ -3,6 +3,7 @@
 
 mod lists;
 mod places;
+mod walks;
 
 use crate::call::{lent, Answer, Ask, Call, Outcome, Work};
 use crate::calls::{Differs, Found, WORK_ROOM};

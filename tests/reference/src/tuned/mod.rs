@@ -2,6 +2,8 @@
 //! size, a step allocates nothing, and a search keeps every state it meets with all it has found out about it.
 //! An `Engine` is kept from call to call for its memory; nothing of one call's contents is used in another.
 
+mod compare;
+mod compile;
 mod reader;
 mod rules;
 mod search;
@@ -73,7 +75,7 @@ impl Engine {
 
 impl Implementation for Engine {
     fn start(&mut self, pack: &[u8], result: &mut [u8], work: &mut [u8]) -> Result<usize, Refusal> {
-        reader::pack(&mut self.rules, pack)?;
+        compile::pack(&mut self.rules, pack)?;
         lent(result.len() >= CHART_ROOM && work.len() >= WORK_ROOM)?;
         work[..WORK_ROOM].fill(0);
         self.stepper.state(&self.rules, &self.rules.start, 0, &mut self.state);
@@ -81,7 +83,7 @@ impl Implementation for Engine {
     }
 
     fn query(&mut self, pack: &[u8], chart: &[u8], chain: &[u8], fluent: u64, work: &mut [u8]) -> Result<u8, Refusal> {
-        reader::pack(&mut self.rules, pack)?;
+        compile::pack(&mut self.rules, pack)?;
         reader::chart(&self.rules, chart, &mut self.rows)?;
         lent(work.len() >= WORK_ROOM)?;
         let characters = self.rules.characters;
@@ -99,12 +101,12 @@ impl Implementation for Engine {
         result: &mut [u8],
         work: &mut [u8],
     ) -> Result<Option<Differs>, Refusal> {
-        reader::pack(&mut self.rules, pack)?;
+        compile::pack(&mut self.rules, pack)?;
         reader::chart(&self.rules, first, &mut self.rows)?;
         reader::chart(&self.rules, second, &mut self.other)?;
         lent(result.len() >= CHAIN_ROOM && work.len() >= WORK_ROOM)?;
         work[..WORK_ROOM].fill(0);
-        Ok(difference(&self.rows, &self.other, &self.rules, result))
+        Ok(compare::difference(&self.rows, &self.other, &self.rules, result))
     }
 
     fn step(
@@ -115,7 +117,7 @@ impl Implementation for Engine {
         result: &mut [u8],
         work: &mut [u8],
     ) -> Result<usize, Refusal> {
-        reader::pack(&mut self.rules, pack)?;
+        compile::pack(&mut self.rules, pack)?;
         reader::chart(&self.rules, chart, &mut self.rows)?;
         lent(result.len() >= CHART_ROOM && work.len() >= WORK_ROOM)?;
         in_range(action < self.rules.actions.len() as u64)?;
@@ -136,7 +138,7 @@ impl Implementation for Engine {
         nesting: u64,
         work: &mut [u8],
     ) -> Result<bool, Refusal> {
-        reader::pack(&mut self.rules, pack)?;
+        compile::pack(&mut self.rules, pack)?;
         reader::chart(&self.rules, chart, &mut self.rows)?;
         lent(work.len() >= WORK_ROOM)?;
         in_range(character < self.rules.characters as u64 && action < self.rules.actions.len() as u64)?;
@@ -155,7 +157,7 @@ impl Implementation for Engine {
         result: &mut [u8],
         work: &mut [u8],
     ) -> Result<Found, Refusal> {
-        reader::pack(&mut self.rules, pack)?;
+        compile::pack(&mut self.rules, pack)?;
         lent(result.len() >= LIST_ROOM && work.len() >= WORK_ROOM)?;
         in_range((1..=8).contains(&story) && (1..=6).contains(&foresight) && nesting <= 3)?;
         work[..WORK_ROOM].fill(0);
@@ -165,7 +167,7 @@ impl Implementation for Engine {
     }
 
     fn ending(&mut self, pack: &[u8]) -> String {
-        let found = reader::pack(&mut self.rules, pack)
+        let found = compile::pack(&mut self.rules, pack)
             .and_then(|()| self.find(ending::STORY, ending::FORESIGHT, ending::NESTING));
         ending::lines(found.map(|found| (&self.search.list[..found.length], found.before, found.after)))
     }
@@ -185,43 +187,4 @@ fn in_range(there: bool) -> Result<(), Refusal> {
     } else {
         Err(without_place(RANGE))
     }
-}
-
-/// The first difference of two tables, breadth first over pairs of rows; its chain is read back along the way.
-fn difference(first: &[Row], second: &[Row], rules: &Rules, result: &mut [u8]) -> Option<Differs> {
-    let mut met = [0u32; 32];
-    let mut pairs = [(0u8, 0u8); 1_024];
-    let mut way = [(0u16, 0u8); 1_024];
-    let (mut count, mut done) = (1, 0);
-    met[0] = 1;
-    while done < count {
-        let (left, right) = (&first[pairs[done].0 as usize], &second[pairs[done].1 as usize]);
-        if left.words()[..3] != right.words()[..3] {
-            let fluent = (0..rules.fluents).find(|&f| left.0[f] != right.0[f])?;
-            return Some(Differs { length: trace(&way, done, result), fluent });
-        }
-        for character in 0..rules.characters {
-            let (l, r) = (left.belief(character), right.belief(character));
-            if met[l] >> r & 1 == 0 {
-                met[l] |= 1 << r;
-                (pairs[count], way[count]) = ((l as u8, r as u8), (done as u16, character as u8));
-                count += 1;
-            }
-        }
-        done += 1;
-    }
-    None
-}
-
-/// Writes the chain that leads to a pair and gives its length.
-fn trace(way: &[(u16, u8)], pair: usize, result: &mut [u8]) -> usize {
-    let mut length = 0;
-    let mut at = pair;
-    while at > 0 {
-        result[length] = way[at].1;
-        length += 1;
-        at = way[at].0 as usize;
-    }
-    result[..length].reverse();
-    length
 }
