@@ -1,32 +1,17 @@
 -- Bytes and rows of a buffer: their number, each of them, one more, and the same where the bytes are. Assumes nothing.
-use mathlib.Core.Path.{_≡_, refl, sym, _∙_, ap, ap₂}
-use mathlib.Core.Logic.{⊎-elim}
+use mathlib.Core.Path.{_≡_, refl, _∙_, ap₂}
 use mathlib.Core.List.{List, [], _∷_, _++_}
 use Prim.Native.Nat.{ℕ, zero, suc, _+_, _*_, _<_, _≤_}
-use native.Mathlib.Nat.{eq-or-lt-of-le, le-of-suc-le-suc, suc-mul, mul-le-mul-right}
+use native.Mathlib.Nat.{suc-mul, mul-le-mul-right}
 use native.Mathlib.Numerals.{add-one}
 use native.Mathlib.Omega.{arith}
-use lib.ListN.{length, getD, set, length-append, List·getD-append}
-use lib.Seq.{getD-append-seam, getD-at, getD-set-same, getD-set-other}
+use lib.ListN.{length, getD, set}
+use lib.Seq.{getD-set-same, getD-set-other}
 use borrow.Author.Count.{below-more}
-use Rattle.pack.specs.Syntax.{Node}
 use Rattle.pack.specs.State.{node, nowhere}
-use Rattle.chart.specs.Inner.Bytes.{upto, cells, rowAt, rowsAt, Below, Above}
+use Rattle.pack.proofs.Tables.{upto-length, upto-at}
+use Rattle.pack.specs.Table.{upto, cells, rowAt, rowsAt}
 use Rattle.chart.specs.Inner.Put.{Cleared, PartCopied}
-
-module _ {A : Type 0} (g : ℕ → A) where
-  upto-length : (n : ℕ) → length (upto g n) ≡ n
-  unfolding upto
-  upto-length zero = refl
-  upto-length (suc n) = omega (arith, length-append (upto g n) (g n ∷ []), upto-length n)
-
-  upto-at : (d : A) (n i : ℕ) → i < n → getD (upto g n) i d ≡ g i
-  unfolding upto
-  upto-at d zero i h = absurd (omega arith)
-  upto-at d (suc n) i h =
-      ⊎-elim (λ (e : i ≡ n). ap (λ (i : ℕ). getD (upto g n ++ (g n ∷ [])) i d) e ∙ getD-at (upto g n) (g n) [] d n (upto-length n) ∙ ap g (sym e))
-      (λ (l : i < n). List·getD-append (upto g n) (g n ∷ []) d i (omega (arith, upto-length n)) ∙ upto-at d n i l)
-      (eq-or-lt-of-le (le-of-suc-le-suc h))
 
 upto-same : {A : Type 0} (g h : ℕ → A) (n : ℕ) → ((i : ℕ) → i < n → g i ≡ h i) → upto g n ≡ upto h n
 unfolding upto
@@ -37,10 +22,6 @@ module _ (bytes : List ℕ) (a : ℕ) where
   pub cells-length : (k : ℕ) → length (cells bytes a k) ≡ k
   unfolding cells
   cells-length k = upto-length (λ i. getD bytes (a + i) 0) k
-
-  pub cells-at : (k i : ℕ) → i < k → getD (cells bytes a k) i 0 ≡ getD bytes (a + i) 0
-  unfolding cells
-  cells-at k i h = upto-at (λ i. getD bytes (a + i) 0) 0 k i h
 
   pub cells-none : cells bytes a 0 ≡ []
   unfolding cells upto
@@ -59,13 +40,9 @@ pub row-in : (n w i : ℕ) → i < n → i * w + w ≤ n * w
 row-in n w i h = omega (arith, suc-mul i w, mul-le-mul-right w h)
 
 module _ (bytes : List ℕ) (w f c a : ℕ) where
-  pub rows-length : (n : ℕ) → length (rowsAt bytes w f c a n) ≡ n
-  unfolding rowsAt
-  rows-length n = upto-length (λ i. rowAt bytes f c (a + i * w)) n
-
   pub rows-node : (n i : ℕ) → i < n → node (rowsAt bytes w f c a n) i ≡ record { values = cells bytes (a + i * w) f; beliefs = cells bytes (a + i * w + f) c }
   unfolding rowsAt rowAt
-  rows-node n i h = upto-at (λ i. rowAt bytes f c (a + i * w)) nowhere n i h
+  rows-node n i h = upto-at (λ i. rowAt bytes f c (a + i * w)) n i nowhere h
 
   pub rows-none : rowsAt bytes w f c a 0 ≡ []
   unfolding rowsAt upto

@@ -7,16 +7,17 @@ use native.Mathlib.Nat.{suc-mul, add-zero, zero-mul}
 use native.Mathlib.Numerals.{add-one}
 use native.Mathlib.Decide.{decLt}
 use native.Mathlib.Omega.{arith}
-use lib.ListN.{length, getD, drop, length-append, length-drop, length-map, List·getD-append}
-use lib.Seq.{getD-append-add, getD-drop, ext-getD}
+use lib.ListN.{length, getD, set, drop, length-append, length-drop, length-map, List·getD-append}
+use lib.Seq.{getD-set-same, getD-set-other, getD-append-add, getD-drop, ext-getD}
 use Rattle.pack.specs.Syntax.{Node}
-use Rattle.pack.specs.State.{node}
-use Rattle.pack.specs.Layout.{numberBytes, listBytes, nodeBytes, chartBytes, Each, NodeFits, ChartFits}
-use Rattle.pack.specs.Laws.Fits.{each-from, each-in, fits-node, values-small, plain-bytes, next-bytes, list-snoc, one-byte}
+use Rattle.pack.specs.Layout.{numberBytes, listBytes, nodeBytes, chartBytes, NodeFits, ChartFits}
+use Rattle.pack.specs.Laws.Fits.{each-from, each-in, fits-node, values-small, plain-bytes, next-bytes, list-snoc}
 use Rattle.chart.specs.Laws.Merged.{getD-map}
-use Rattle.chart.specs.Inner.Bytes.{cells, rowsAt, Below, Above}
-use Rattle.chart.specs.Inner.Out.{RowsOut}
-use Rattle.chart.proofs.Cells.{cells-length, cells-at, cells-none, cells-more, cells-same, row-in, rows-length, rows-node, rows-none, rows-more}
+use Rattle.pack.specs.Table.{cells, rowsAt}
+use Rattle.chart.specs.Inner.Bytes.{Above}
+use Rattle.chart.specs.Inner.Out.{RowsPut}
+use Rattle.pack.proofs.Tables.{cells-at, rows-length}
+use Rattle.chart.proofs.Cells.{cells-length, cells-none, cells-more, cells-same, rows-node, rows-none, rows-more}
 
 -- a part and the part behind it
 cells-append : (bytes : List ℕ) (a k m : ℕ) → cells bytes a (k + m) ≡ cells bytes a k ++ cells bytes (a + k) m
@@ -40,7 +41,10 @@ front-back was now n h long above = ext-getD 0 now (cells now 0 n ++ drop n was)
         (λ k. let e : i ≡ length (cells now 0 n) + (i - n) = omega (arith, cells-length now 0 n) in let z : n + (i - n) ≡ i = omega arith in
         above i (omega arith) ∙ ap (λ (p : ℕ). getD was p 0) (sym z) ∙ sym (getD-drop n was (i - n) 0) ∙ sym (ap (λ (p : ℕ). getD (cells now 0 n ++ drop n was) p 0) e ∙ getD-append-add (cells now 0 n) (drop n was) (i - n) 0))
 
-module _ {src was now : List ℕ} {n w f c u : ℕ} (D : List ℕ) (slim : w ≡ f + c) (fluents : length D ≡ f) (small : (g : ℕ) → getD D g 0 ≤ 128) (x : RowsOut src was now n w f c u n)
+plus-one : (v : ℕ) → (v + 1) - 0 ≡ suc v
+plus-one v = omega arith
+
+module _ {src : List ℕ} (was : List ℕ) {now : List ℕ} {n w f c u : ℕ} (D : List ℕ) (slim : w ≡ f + c) (fluents : length D ≡ f) (small : (g : ℕ) → getD D g 0 ≤ 128) (x : RowsPut src (set was 0 n) now w f c u 1 1 0 n) (some : 0 < length was)
     (fit : ChartFits c D (rowsAt src w f c u n)) where
   -- row i as it is written
   row-bytes : (i : ℕ) → i < n → cells now (1 + i * w) w ≡ nodeBytes (record { values = cells src (u + i * w) f; beliefs = cells src (u + i * w + f) c })
@@ -54,7 +58,7 @@ module _ {src was now : List ℕ} {n w f c u : ℕ} (D : List ℕ) (slim : w ≡
       ∙ ap₂ _++_ (cells-same src now (u + i * w) (1 + i * w) f (λ q l. x .values i q h l) ∙ sym values)
       (ext-getD 0 (cells now (1 + i * w + f) c) (map suc (nd .beliefs)) (cells-length now (1 + i * w + f) c ∙ sym (length-map (nd .beliefs) suc ∙ cells-length src (u + i * w + f) c))
       (λ d l. let g : d < c = omega (arith, cells-length now (1 + i * w + f) c) in
-      cells-at now (1 + i * w + f) c d g ∙ x .beliefs i d h g ∙ add-one _ ∙ ap suc (sym (cells-at src (u + i * w + f) c d g)) ∙ sym (getD-map suc (nd .beliefs) d (omega (arith, cells-length src (u + i * w + f) c))))
+      cells-at now (1 + i * w + f) c d g ∙ x .beliefs i d h g ∙ plus-one (getD src (u + i * w + f + d) 0) ∙ ap suc (sym (cells-at src (u + i * w + f) c d g)) ∙ sym (getD-map suc (nd .beliefs) d (omega (arith, cells-length src (u + i * w + f) c))))
       ∙ sym beliefs)
 
   rows-bytes : (i : ℕ) → i ≤ n → cells now 1 (i * w) ≡ listBytes nodeBytes (rowsAt src w f c u i)
@@ -74,9 +78,9 @@ module _ {src was now : List ℕ} {n w f c u : ℕ} (D : List ℕ) (slim : w ≡
       let few : n < 128 = omega (arith, fit .1) in
       let head : numberBytes (length (rowsAt src w f c u n)) ≡ n ∷ [] = ap numberBytes size ∙ one-number n few in
       let front : cells now 0 (1 + n * w) ≡ chartBytes (rowsAt src w f c u n) =
-      cells-append now 0 1 (n * w) ∙ ap₂ _++_ (cells-more now 0 0 ∙ ap₂ (λ (l : List ℕ) (v : ℕ). l ++ (v ∷ [])) (cells-none now 0) (x .head) ∙ sym head) (rows-bytes n (omega arith)) in
+      cells-append now 0 1 (n * w) ∙ ap₂ _++_ (cells-more now 0 0 ∙ ap₂ (λ (l : List ℕ) (v : ℕ). l ++ (v ∷ [])) (cells-none now 0) (x .low 0 (omega arith) ∙ getD-set-same was 0 n 0 some) ∙ sym head) (rows-bytes n (omega arith)) in
       let count : length (chartBytes (rowsAt src w f c u n)) ≡ 1 + n * w = ap length (sym front) ∙ cells-length now 0 (1 + n * w) in
-      (front-back was now (1 + n * w) room long (x .high) ∙ ap₂ (λ (l : List ℕ) (k : ℕ). l ++ drop k was) front (sym count), count)
+      (front-back was now (1 + n * w) room long (λ p h. x .high p h ∙ getD-set-other was 0 p n 0 (omega arith)) ∙ ap₂ (λ (l : List ℕ) (k : ℕ). l ++ drop k was) front (sym count), count)
     where
       one-number : (v : ℕ) → v < 128 → numberBytes v ≡ v ∷ []
       one-number v h = rw (borrow.Author.Tests.lt-ltb v 128 h) refl

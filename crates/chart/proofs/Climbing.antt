@@ -1,26 +1,27 @@
 -- The levels of the partition, one more at a time, until two rows part. Assumes nothing.
 use mathlib.Core.Path.{_≡_, refl, sym, _∙_, ap, subst}
-use mathlib.Core.Logic.{_↔_, by-cases}
+use mathlib.Core.Logic.{by-cases}
 use mathlib.Core.List.{List}
-use Prim.Native.Nat.{ℕ, zero, suc, _+_, _*_, _-_, _<_, _≤_}
-use native.Mathlib.Decide.{decLt, decLe}
+use Prim.Native.Nat.{ℕ, suc, _+_, _-_, _<_, _≤_}
+use native.Mathlib.Decide.{decLe}
 use native.Mathlib.Numerals.{add-one}
 use native.Mathlib.Omega.{arith}
-use lib.ListN.{getD, length}
+use lib.ListN.{length}
 use Rattle.pack.specs.Syntax.{Node}
-use Rattle.pack.specs.State.{State, node, target, meaning, Closed}
+use Rattle.pack.specs.State.{target, meaning, Closed}
 use Rattle.chart.specs.Laws.Merged.{classes, Numbered, grows}
-use Rattle.chart.specs.Laws.Bridge.{val, meaning-at}
+use Rattle.chart.specs.Laws.Bridge.{val}
 use Rattle.chart.specs.Laws.Moore as moore
-use Rattle.chart.specs.Inner.Bytes.{rowsAt, Below, Above, Between}
+use Rattle.pack.specs.Table.{rowsAt}
+use Rattle.chart.specs.Inner.Bytes.{Below, Above}
 use Rattle.chart.specs.Inner.Put.{Cleared}
 use Rattle.chart.specs.Inner.Numbers.{Sound}
 use Rattle.chart.specs.Inner.Classed.{classAt}
 use Rattle.chart.specs.Inner.Level.{Levels, Finer, Leveled}
 use Rattle.chart.specs.Inner.Climb.{levelAt, Stack, Agree, LevelExact, Climbed}
-use Rattle.chart.proofs.Cells.{rows-length, rows-same}
-use Rattle.chart.proofs.Sorting.{classes-same}
-use Rattle.chart.proofs.Parting.{Exactly, exactly-zero, exactly-as, stops, tableAt, zero-classes, table-closed, table-long, still-sound, level-finer, level-exact}
+use Rattle.pack.proofs.Tables.{rows-length}
+use Rattle.chart.proofs.Cells.{rows-same}
+use Rattle.chart.proofs.Parting.{Exactly, exactly-zero, exactly-as, stops, tableAt, zero-classes, table-closed, still-sound, level-finer, level-exact}
 
 -- Levels 0 to k stand; rows x and y have not parted
 pub record Climbing (was : List ℕ) (n w f c t : ℕ) (now : List ℕ) (b r x y k count : ℕ) : Type 0 where

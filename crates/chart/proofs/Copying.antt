@@ -1,5 +1,5 @@
 -- The copy of a table: the pass whose slots are the source's rows. Assumes nothing.
-use mathlib.Core.Path.{_≡_, refl, sym, _∙_, ap, subst}
+use mathlib.Core.Path.{_≡_, sym, _∙_, ap}
 use mathlib.Core.List.{List}
 use Prim.Native.Nat.{ℕ, suc, _+_, _*_, _<_, _≤_, max}
 use native.Mathlib.Omega.{arith}
@@ -8,10 +8,11 @@ use Rattle.pack.specs.Syntax.{Node}
 use Rattle.pack.specs.State.{node, meaning}
 use Rattle.pack.specs.State.{target}
 use Rattle.chart.specs.Laws.Built.{copied}
-use Rattle.chart.specs.Inner.Bytes.{cells, rowsAt, Below, Above}
-use Rattle.chart.specs.Inner.Put.{Cleared}
-use Rattle.chart.specs.Inner.Numbers.{keyAt, Numbering, Given, RowFilled, Laid, Sound, Copied}
-use Rattle.chart.proofs.Cells.{cells-at, cells-same, row-in, rows-node, rows-same}
+use Rattle.pack.specs.Table.{cells, rowsAt}
+use Rattle.chart.specs.Inner.Bytes.{Below, Above}
+use Rattle.chart.specs.Inner.Numbers.{keyAt, Given, RowFilled, Laid, Sound, Copied}
+use Rattle.pack.proofs.Tables.{cells-at}
+use Rattle.chart.proofs.Cells.{cells-same, row-in, rows-node, rows-same}
 use Rattle.chart.proofs.Passing.{Going, going-start, going-row, going-end}
 
 pub laid-same : {was now : List ℕ} {n w f c s m t : ℕ} → Laid was n w f c s m t → length now ≡ length was → Laid now n w f c s m t

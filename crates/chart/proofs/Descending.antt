@@ -2,22 +2,23 @@
 use mathlib.Core.Path.{_≡_, refl, sym, _∙_, ap, ap₂, subst}
 use mathlib.Core.Logic.{by-cases}
 use mathlib.Core.List.{List, [], _∷_, _++_, append-assoc, append-nil}
-use Prim.Native.Nat.{ℕ, zero, suc, _+_, _*_, _-_, _<_, _≤_}
-use native.Mathlib.Numerals.{add-one}
+use Prim.Native.Nat.{ℕ, suc, _+_, _*_, _-_, _<_, _≤_}
 use native.Mathlib.Decide.{decLt}
 use native.Mathlib.Omega.{arith}
-use lib.ListN.{getD, length, set, length-set}
+use lib.ListN.{getD, length, set}
 use lib.Seq.{getD-set-same, getD-set-other}
 use Rattle.pack.specs.Syntax.{Node}
-use Rattle.pack.specs.State.{State, node, target, meaning, Closed}
+use Rattle.pack.specs.State.{State, target, Closed}
 use Rattle.chart.specs.Laws.Bridge.{val, meaning-at}
 use Rattle.chart.specs.Laws.Descent.{Down}
 use Rattle.chart.specs.Laws.Moore as moore
-use Rattle.chart.specs.Inner.Bytes.{cells, rowsAt, Above}
+use Rattle.pack.specs.Table.{cells}
+use Rattle.chart.specs.Inner.Bytes.{Above}
 use Rattle.chart.specs.Inner.Classed.{classAt}
 use Rattle.chart.specs.Inner.Level.{Agrees, SameClass, RowOk}
-use Rattle.chart.specs.Inner.Climb.{levelAt, LevelExact, Ladder, Parts, Descended}
-use Rattle.chart.proofs.Cells.{cells-none, cells-more, cells-same, row-in, rows-length}
+use Rattle.chart.specs.Inner.Climb.{levelAt, Ladder, Parts, Descended}
+use Rattle.pack.proofs.Tables.{rows-length}
+use Rattle.chart.proofs.Cells.{cells-none, cells-more, cells-same, row-in}
 use Rattle.chart.proofs.Parting.{tableAt, target-at, sound-closed}
 
 module _ {work : List ℕ} {n w f c t b k x y : ℕ} (l : Ladder work n w f c t b k x y) where

@@ -1,9 +1,8 @@
 -- Writing the merged table: beliefs by class, a row, the rows of the new classes. Assumes nothing.
-use mathlib.Core.Path.{_≡_, refl, sym, _∙_, ap, ap₂, subst}
-use mathlib.Core.Logic.{⊎-elim, by-cases}
-use mathlib.Core.List.{List, [], _∷_, _++_, map}
-use Prim.Native.Nat.{ℕ, zero, suc, _+_, _*_, _<_, _≤_, max}
-use native.Mathlib.Nat.{eq-or-lt-of-le, le-of-suc-le-suc}
+use mathlib.Core.Path.{_≡_, refl, sym, _∙_, ap, subst}
+use mathlib.Core.Logic.{by-cases}
+use mathlib.Core.List.{List, map}
+use Prim.Native.Nat.{ℕ, zero, _+_, _*_, _<_, _≤_}
 use native.Mathlib.Decide.{decLt}
 use native.Mathlib.Numerals.{add-one}
 use native.Mathlib.Omega.{arith}
@@ -12,14 +11,16 @@ use lib.Seq.{getD-set-same, getD-set-other, ext-getD}
 use borrow.Author.Count.{below-more}
 use Rattle.pack.specs.Syntax.{Node}
 use Rattle.pack.specs.State.{node, meaning}
-use Rattle.chart.specs.Chart.{Ordered, Written}
+use Rattle.chart.specs.Chart.{Ordered}
 use Rattle.chart.specs.Laws.Unique.{some}
 use Rattle.chart.specs.Laws.Merged.{classes, getD-map, Numbered, grows, Merged, merged, kept}
-use Rattle.chart.specs.Inner.Bytes.{cells, rowsAt, Below, Above}
+use Rattle.pack.specs.Table.{cells, rowsAt}
+use Rattle.chart.specs.Inner.Bytes.{Below, Above}
 use Rattle.chart.specs.Inner.Put.{PartCopied}
 use Rattle.chart.specs.Inner.Numbers.{Sound}
 use Rattle.chart.specs.Inner.Classed.{classAt, Mapped, RowPut, ClassPut, Room, Classed, WrittenOut}
-use Rattle.chart.proofs.Cells.{cells-length, cells-at, cells-same, row-in, rows-length, rows-node}
+use Rattle.pack.proofs.Tables.{cells-at, rows-length}
+use Rattle.chart.proofs.Cells.{cells-length, cells-same, row-in, rows-node}
 
 pub mapped-none : (was : List ℕ) (from to k : ℕ) → Mapped was was from to k 0
 mapped-none was from to k = record { part = λ d l. absurd (omega arith); low = λ p l. refl; high = λ p l. refl }

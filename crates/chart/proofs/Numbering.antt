@@ -1,15 +1,15 @@
 -- Numbers given on demand: no more than there are slots; one more; kept where their bytes are. Assumes nothing.
-use mathlib.Core.Path.{_≡_, refl, sym, _∙_, ap, subst}
+use mathlib.Core.Path.{_≡_, refl, sym, _∙_, ap}
 use mathlib.Core.Logic.{⊎-elim, by-cases}
 use mathlib.Core.List.{List}
-use Prim.Native.Nat.{ℕ, zero, suc, _+_, _-_, _*_, _<_, _≤_, max}
+use Prim.Native.Nat.{ℕ, suc, _+_, _-_, _<_, _≤_, max}
 use native.Mathlib.Nat.{eq-or-lt-of-le, le-of-suc-le-suc}
 use native.Mathlib.Decide.{decLt, ℕ-discrete}
 use native.Mathlib.Omega.{arith}
 use lib.ListN.{length, getD, set, length-set}
 use lib.Seq.{getD-set-same, getD-set-other}
 use Rattle.chart.specs.Laws.Count.{all, count-all, count-inj}
-use Rattle.chart.specs.Inner.Bytes.{Below, Above, Between}
+use Rattle.chart.specs.Inner.Bytes.{Between}
 use Rattle.chart.specs.Inner.Put.{Cleared}
 use Rattle.chart.specs.Inner.Numbers.{slotAt, keyAt, Numbering, Given}
 

@@ -1,24 +1,26 @@
 -- The partition over the bytes, level by level: each level tells apart what chains one longer do, and where the next has no more classes it is what the rows mean. Assumes nothing.
 use mathlib.Core.Path.{_≡_, refl, sym, _∙_, ap, subst}
-use mathlib.Core.Logic.{_↔_, Iff·trans, by-cases}
+use mathlib.Core.Logic.{_↔_, Iff·trans}
 use mathlib.Core.List.{List}
-use Prim.Native.Nat.{ℕ, zero, suc, _+_, _*_, _<_, _≤_, max}
+use Prim.Native.Nat.{ℕ, zero, suc, _+_, _*_, _<_, _≤_}
 use native.Mathlib.Omega.{arith}
 use lib.ListN.{getD, length}
 use lib.Seq.{ext-getD}
 use Rattle.pack.specs.Syntax.{Node}
-use Rattle.pack.specs.State.{State, node, target, meaning, Closed}
+use Rattle.pack.specs.State.{target, meaning, Closed}
 use Rattle.chart.specs.States.{AtMost}
 use Rattle.chart.specs.Chart.{Ordered}
 use Rattle.chart.specs.Laws.Merged.{classes, Numbered, grows, first}
 use Rattle.chart.specs.Laws.Bridge.{val, exact, coarse, many}
 use Rattle.chart.specs.Laws.Moore as moore
-use Rattle.chart.specs.Inner.Bytes.{cells, rowsAt, Below, Above, Between}
+use Rattle.pack.specs.Table.{cells, rowsAt}
+use Rattle.chart.specs.Inner.Bytes.{Below, Above}
 use Rattle.chart.specs.Inner.Put.{Cleared, PartCopied}
 use Rattle.chart.specs.Inner.Numbers.{Sound}
-use Rattle.chart.specs.Inner.Classed.{classAt, Classed}
-use Rattle.chart.specs.Inner.Level.{Alike, Levels, Finer, Sorted, Leveled, Parted}
-use Rattle.chart.proofs.Cells.{cells-length, cells-at, row-in, rows-length, rows-node, rows-same}
+use Rattle.chart.specs.Inner.Classed.{classAt}
+use Rattle.chart.specs.Inner.Level.{Alike, Levels, Finer, Leveled, Parted}
+use Rattle.pack.proofs.Tables.{cells-at, rows-length}
+use Rattle.chart.proofs.Cells.{cells-length, row-in, rows-node, rows-same}
 use Rattle.chart.proofs.Sorting.{classes-same}
 use Rattle.chart.proofs.Merging.{ordered-sound}
 

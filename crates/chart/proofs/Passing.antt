@@ -2,24 +2,25 @@
 use mathlib.Core.Path.{_≡_, refl, sym, _∙_, ap, ap₂, subst}
 use mathlib.Core.Logic.{⊎-elim}
 use mathlib.Core.List.{List, [], _∷_, _++_}
-use Prim.Native.Nat.{ℕ, zero, suc, _+_, _*_, _<_, _≤_, max}
+use Prim.Native.Nat.{ℕ, suc, _+_, _*_, _<_, _≤_, max}
 use native.Mathlib.Omega.{arith}
 use lib.ListN.{length, getD, set}
 use lib.Seq.{getD-set-same, getD-set-other}
 use borrow.Author.Count.{below-more}
 use Rattle.pack.specs.State.{State}
 use Rattle.pack.specs.Syntax.{Node}
-use Rattle.pack.specs.State.{node, nowhere, meaning}
-use Rattle.pack.specs.State.{target}
-use Rattle.chart.specs.Laws.Built.{Family, Rows, built, copied}
+use Rattle.pack.specs.State.{meaning}
+use Rattle.chart.specs.Laws.Built.{Family, built}
 use Rattle.chart.specs.Chart.{meets, Fresh, met, Ordered}
 use Rattle.chart.specs.Laws.Unique.{named}
 use Rattle.chart.specs.Laws.Merged.{meets-up, meets-in}
 use Rattle.chart.specs.Laws.Pass.{numbered, Pass, pass-start, pass-row, pass-count, pass-end}
-use Rattle.chart.specs.Inner.Bytes.{cells, rowsAt, Below, Above, Between}
-use Rattle.chart.specs.Inner.Put.{Cleared, PartCopied}
-use Rattle.chart.specs.Inner.Numbers.{slotAt, keyAt, Numbering, Given, Named, RowFilled, Laid, Sound, Copied}
-use Rattle.chart.proofs.Cells.{cells-length, cells-at, cells-none, cells-more, cells-same, row-in, rows-length, rows-node, rows-none, rows-more, rows-same}
+use Rattle.pack.specs.Table.{cells, rowsAt}
+use Rattle.chart.specs.Inner.Bytes.{Below, Above}
+use Rattle.chart.specs.Inner.Put.{PartCopied}
+use Rattle.chart.specs.Inner.Numbers.{keyAt, Numbering, Given, Named, RowFilled}
+use Rattle.pack.proofs.Tables.{cells-at, rows-length}
+use Rattle.chart.proofs.Cells.{cells-length, cells-none, cells-more, cells-same, row-in, rows-none, rows-more, rows-same}
 use Rattle.chart.proofs.Numbering.{few, numbering-same}
 
 meets-more : (k : ℕ) (bs : List ℕ) (b : ℕ) → meets k (bs ++ (b ∷ [])) ≡ max (meets k bs) (suc b)

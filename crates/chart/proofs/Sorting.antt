@@ -2,12 +2,10 @@
 use mathlib.Core.Path.{_≡_, refl, sym, _∙_, ap, subst}
 use mathlib.Core.Bool.{Bool, true, false}
 use mathlib.Core.Logic.{_↔_, ⊎-elim, by-cases}
-use mathlib.Core.List.{List}
-use Prim.Native.Nat.{ℕ, zero, suc, _+_, _*_, _<_, _≤_, max}
+use Prim.Native.Nat.{ℕ, zero, suc, _<_, _≤_}
 use native.Mathlib.Nat.{eq-or-lt-of-le, le-of-suc-le-suc}
 use native.Mathlib.Omega.{arith}
-use lib.ListN.{getD, length}
-use Rattle.chart.specs.Laws.Merged.{classes, Numbered, grows}
+use Rattle.chart.specs.Laws.Merged.{classes, grows}
 use Rattle.chart.specs.Inner.Level.{Decides, Agrees, Sorted}
 use native.Mathlib.Decide.{decLt}
 use lib.Dec.{leb}

@@ -7,7 +7,7 @@ use crate::number::more;
 use crate::number::number_of;
 ghost use Prim.Native.Nat.{_+_, _*_, _<_};
 ghost use lib.ListN.{getD};
-ghost use Rattle.chart.specs.Inner.Bytes.{cells};
+ghost use Rattle.pack.specs.Table.{cells};
 ghost use Rattle.chart.specs.Inner.Numbers.{Numbering, RowFilled, Laid, Sound, Copied, keyAt};
 
 // Fills row i: the values and the beliefs of the source row that number i was given to.

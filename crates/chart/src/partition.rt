@@ -6,7 +6,7 @@ ghost use mathlib.Core.Path.{_≡_};
 ghost use Prim.Native.Nat.{ℕ, _+_, _*_, _<_, _≤_};
 ghost use lib.ListN.{length, getD};
 ghost use Rattle.chart.specs.Chart.{Ordered};
-ghost use Rattle.chart.specs.Inner.Bytes.{rowsAt};
+ghost use Rattle.pack.specs.Table.{rowsAt};
 ghost use Rattle.chart.specs.Inner.Numbers.{Sound};
 ghost use Rattle.chart.specs.Inner.Level.{Decides, Agrees, SameByte, SameClass, Alike, RowOk, Against, ClassIs, Levels, Finer, Sorted, RowClassed, Leveled, Parted};
 

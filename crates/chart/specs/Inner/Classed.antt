@@ -4,11 +4,11 @@ use mathlib.Core.Logic.{_↔_}
 use mathlib.Core.List.{List}
 use Prim.Native.Nat.{ℕ, _+_, _*_, _<_, _≤_}
 use lib.ListN.{getD, length}
-use Rattle.pack.specs.Syntax.{Node}
 use Rattle.pack.specs.State.{meaning}
 use Rattle.chart.specs.Chart.{Ordered, Written}
 use Rattle.chart.specs.Laws.Merged.{Numbered}
-use Rattle.chart.specs.Inner.Bytes.{rowsAt, Below, Above}
+use Rattle.pack.specs.Table.{rowsAt}
+use Rattle.chart.specs.Inner.Bytes.{Below, Above}
 
 -- the class of row i: the classes stand from k on
 abbrev pub classAt : List ℕ → ℕ → ℕ → ℕ

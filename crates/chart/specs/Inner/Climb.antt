@@ -7,7 +7,8 @@ use Rattle.pack.specs.State.{node, target, meaning}
 use Rattle.chart.specs.Laws.Bridge.{val}
 use Rattle.chart.specs.Laws.Descent.{Down}
 use Rattle.chart.specs.Laws.Moore as moore
-use Rattle.chart.specs.Inner.Bytes.{cells, rowsAt, Below, Above}
+use Rattle.pack.specs.Table.{cells, rowsAt}
+use Rattle.chart.specs.Inner.Bytes.{Below, Above}
 use Rattle.chart.specs.Inner.Numbers.{Sound}
 use Rattle.chart.specs.Inner.Classed.{classAt}
 use Rattle.chart.specs.Inner.Level.{Agrees, SameClass}

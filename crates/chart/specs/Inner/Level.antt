@@ -9,8 +9,8 @@ use Rattle.pack.specs.State.{node, target, meaning}
 use Rattle.chart.specs.States.{AtMost}
 use Rattle.chart.specs.Laws.Merged.{classes, Numbered}
 use Rattle.chart.specs.Laws.Moore as moore
-use Rattle.chart.specs.Inner.Bytes.{rowsAt, Below, Above, Between}
-use Rattle.chart.specs.Inner.Numbers.{Sound}
+use Rattle.pack.specs.Table.{rowsAt}
+use Rattle.chart.specs.Inner.Bytes.{Below, Above, Between}
 use Rattle.chart.specs.Inner.Classed.{classAt, Classed}
 
 -- the flag r says whether P holds

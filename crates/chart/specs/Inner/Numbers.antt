@@ -1,12 +1,12 @@
 -- Numbers given on demand: of `size` slots, each has a number (kept one higher, 0 for none), and each number the slot that it was given to. Assumes nothing.
 use mathlib.Core.Path.{_≡_}
 use mathlib.Core.List.{List}
-use Prim.Native.Nat.{ℕ, zero, suc, _+_, _*_, _<_, _≤_, max}
+use Prim.Native.Nat.{ℕ, suc, _+_, _*_, _<_, _≤_, max}
 use lib.ListN.{getD, length}
-use Rattle.pack.specs.Syntax.{Node}
 use Rattle.pack.specs.State.{meaning}
 use Rattle.chart.specs.Chart.{meets, Fresh, Ordered}
-use Rattle.chart.specs.Inner.Bytes.{cells, rowsAt, Below, Above, Between}
+use Rattle.pack.specs.Table.{cells, rowsAt}
+use Rattle.chart.specs.Inner.Bytes.{Below, Above, Between}
 
 -- one more than slot x's number; and the slot that number i was given to
 abbrev pub slotAt : List ℕ → ℕ → ℕ → ℕ

@@ -1,26 +1,35 @@
--- A table written out as a chart's bytes. Assumes nothing.
+-- Rows of bytes put from one buffer into another, their beliefs with a number added and one taken away: a table written out as a chart's bytes (1 and 0), and a chart's or a
+-- pack's rows loaded as a table (how many rows stand before them, and 1). Assumes nothing.
 use mathlib.Core.Path.{_≡_}
 use mathlib.Core.List.{List}
-use Prim.Native.Nat.{ℕ, _+_, _*_, _<_, _≤_}
-use lib.ListN.{getD, length}
+use Prim.Native.Nat.{ℕ, _+_, _*_, _-_, _<_, _≤_}
+use lib.ListN.{getD}
 use Rattle.chart.specs.Inner.Bytes.{Below, Above}
 
--- the k bytes of `from` on in src, each with `more` added, stand from `to` on
-pub record PartOut (src was now : List ℕ) (from to k more : ℕ) : Type 0 where
-  pub part : (q : ℕ) → q < k → getD now (to + q) 0 ≡ getD src (from + q) 0 + more
+-- a byte of src as it is put
+abbrev pub shifted : List ℕ → (more less p : ℕ) → ℕ
+shifted src more less p = (getD src p 0 + more) - less
+
+-- and that it is a byte
+abbrev pub Shifts : List ℕ → (more less p : ℕ) → Type 0
+Shifts src more less p = (less ≤ getD src p 0 + more) × (getD src p 0 + more < 256)
+
+-- the k bytes of src from `from` on stand from `to` on
+pub record PartPut (src was now : List ℕ) (from to k more less : ℕ) : Type 0 where
+  pub part : (q : ℕ) → q < k → getD now (to + q) 0 ≡ shifted src more less (from + q)
   pub low : Below was now to
   pub high : Above was now (to + k)
 
--- a row: its values, and its beliefs plus 1
-pub record RowOut (src was now : List ℕ) (from to f c : ℕ) : Type 0 where
+-- a row: its values, and its beliefs shifted
+pub record RowPutIn (src was now : List ℕ) (from to f c more less : ℕ) : Type 0 where
   pub values : (q : ℕ) → q < f → getD now (to + q) 0 ≡ getD src (from + q) 0
-  pub beliefs : (d : ℕ) → d < c → getD now (to + f + d) 0 ≡ getD src (from + f + d) 0 + 1
+  pub beliefs : (d : ℕ) → d < c → getD now (to + f + d) 0 ≡ shifted src more less (from + f + d)
   pub low : Below was now to
   pub high : Above was now (to + f + c)
 
--- the first i of the n rows from u on, behind their count
-pub record RowsOut (src was now : List ℕ) (n w f c u i : ℕ) : Type 0 where
-  pub head : getD now 0 0 ≡ n
-  pub values : (j q : ℕ) → j < i → q < f → getD now (1 + j * w + q) 0 ≡ getD src (u + j * w + q) 0
-  pub beliefs : (j d : ℕ) → j < i → d < c → getD now (1 + j * w + f + d) 0 ≡ getD src (u + j * w + f + d) 0 + 1
-  pub high : Above was now (1 + i * w)
+-- the first i rows
+pub record RowsPut (src was now : List ℕ) (w f c from to more less i : ℕ) : Type 0 where
+  pub values : (j q : ℕ) → j < i → q < f → getD now (to + j * w + q) 0 ≡ getD src (from + j * w + q) 0
+  pub beliefs : (j d : ℕ) → j < i → d < c → getD now (to + j * w + f + d) 0 ≡ shifted src more less (from + j * w + f + d)
+  pub low : Below was now to
+  pub high : Above was now (to + i * w)

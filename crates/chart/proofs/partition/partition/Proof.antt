@@ -1,11 +1,11 @@
 -- The old classes are exact at some depth, and there are `count` of them, at most `limit`; so `limit - count` falls. Assumes nothing.
 use mathlib.Core.Path.{_≡_, refl, _∙_}
-use Prim.Native.Nat.{_-_, _<_, _≤_}
+use Prim.Native.Nat.{_-_}
 use lib.ListN.{length}
 use native.Mathlib.Omega.{arith}
 use borrow.Author.Needs.{needs}
 use Rattle.chart.specs.Chart.{Ordered}
-use Rattle.chart.specs.Inner.Bytes.{rowsAt}
+use Rattle.pack.specs.Table.{rowsAt}
 use Rattle.chart.specs.Inner.Level.{Levels}
 use Rattle.chart.proofs.Parting.{Parting, levels-same, parting-sound, parting-start, parting-finer, parting-many, parting-done, parting-more, parted-since, ordered-since}
 use Rattle.chart.proofs.partition.partition.Statement.{statement}
