@@ -5,3 +5,4 @@ pub mod Low
 pub mod Tables
 pub mod OneByte
 pub mod Judging
+pub mod Writing

@@ -9,10 +9,10 @@ use native.Mathlib.Omega.{arith}
 use lib.ListN.{length, getD}
 use lib.Dec.{ltb, leb, eqb}
 use borrow.Author.Tests.{ltb-true, ltb-false, leb-false, eqb-false}
-use Rattle.pack.specs.Syntax.{Test}
+use Rattle.pack.specs.Syntax.{Test, Effect}
 use Rattle.pack.specs.Reading.{Reading, done, refused, Reader, pick, bind, mapped, runs, many}
 use Rattle.pack.specs.Number.{numberAt, between, item, counted}
-use Rattle.pack.specs.Grammar.{Dimensions, kindOf, fluentAt, valueAt, testAt}
+use Rattle.pack.specs.Grammar.{Dimensions, kindOf, fluentAt, valueAt, testAt, effectAt}
 use Rattle.pack.specs.State.{Valid}
 use Rattle.pack.specs.Judge.{bytesAt, Small}
 use Rattle.pack.specs.Laws.Reading.{never, same-value, same-place, Both, both, Mapped, unmapped, passed, failed}
@@ -175,3 +175,34 @@ pub test-in : (d : Dimensions) (C F : ℕ) → Small d → d .characters ≡ C �
 test-in d C F small ec ef s at x n e k q =
     let b = test-bytes d small s at x n e in
     subst (TestIn d C F s at) q (record { valid = subst (λ (c : ℕ). Valid c (bytesAt s (at + 1) (getD s at 0))) ec (b .valid); below = let p = b .below in omega arith; inside = b .inside })
+
+-- an effect, byte by byte: whom, the fluent and the value
+pub record EffectBytes (d : Dimensions) (s : List ℕ) (at : ℕ) (x : Effect) (n : ℕ) : Type 0 where
+  pub whom : x .whom ≡ getD s at 0
+  pub fluent : x .fluent ≡ getD s (at + 1) 0
+  pub below : getD s (at + 1) 0 < length (d .domains)
+  pub value : x .value ≡ getD s (at + 2) 0
+  pub ends : n ≡ at + 3
+  pub inside : at + 2 < length s
+
+pub effect-bytes : (d : Dimensions) → Small d → (s : List ℕ) (at : ℕ) (x : Effect) (n : ℕ) → effectAt d s at ≡ done x n → EffectBytes d s at x n
+unfolding effectAt
+effect-bytes d small s at x n e =
+    let b1 = both (item (d .characters + 1) s at) _ x n e in
+    let o1 = between-byte 0 (d .characters + 1) 4 s at (b1 .value) (b1 .place) (let q = small .characters in omega arith) (b1 .left) in
+    let b2 = both (fluentAt d s (b1 .place)) _ x n (b1 .right) in
+    let e2 : fluentAt d s (at + 1) ≡ done (b2 .value) (b2 .place) = ap (fluentAt d s) (sym (o1 .next)) ∙ b2 .left in
+    let o2 = between-byte 0 (length (d .domains)) 4 s (at + 1) (b2 .value) (b2 .place) (let q = small .fluents in omega arith) e2 in
+    let w2 = between-within 0 (length (d .domains)) 4 s (at + 1) (b2 .value) (b2 .place) e2 in
+    let u = unmapped (λ value. record { whom = b1 .value; fluent = b2 .value; value = value }) (valueAt d (b2 .value) s (b2 .place)) x n (b2 .right) in
+    let two : (at + 1) + 1 ≡ at + 2 = omega arith in
+    let e3 : valueAt d (b2 .value) s (at + 2) ≡ done (u .value) n = ap (valueAt d (b2 .value) s) (sym (o2 .next ∙ two)) ∙ u .left in
+    let o3 = between-byte 0 (getD (d .domains) (b2 .value) 0) 4 s (at + 2) (u .value) n (small .sizes (b2 .value)) e3 in
+    record {
+      whom = ap (λ (y : Effect). y .whom) (sym (u .right)) ∙ sym (o1 .value);
+      fluent = ap (λ (y : Effect). y .fluent) (sym (u .right)) ∙ sym (o2 .value);
+      below = let p = o2 .value in let q = w2 .1 in omega arith;
+      value = ap (λ (y : Effect). y .value) (sym (u .right)) ∙ sym (o3 .value);
+      ends = let p = o3 .next in omega arith;
+      inside = o3 .inside;
+    }

@@ -11,3 +11,4 @@ pub mod number;
 pub mod places;
 pub mod table;
 pub mod utility;
+pub mod write;
