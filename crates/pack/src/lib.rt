@@ -3,6 +3,7 @@
 pub mod chart;
 pub mod condition;
 pub mod contents;
+pub mod copy;
 pub mod effect;
 pub mod head;
 pub mod judge;
