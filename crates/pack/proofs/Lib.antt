@@ -5,3 +5,5 @@ pub mod Low
 pub mod Tables
 pub mod OneByte
 pub mod Judging
+pub mod Writing
+pub mod Copying

@@ -9,10 +9,10 @@ use native.Mathlib.Omega.{arith}
 use lib.ListN.{length, getD}
 use lib.Dec.{ltb, leb, eqb}
 use borrow.Author.Tests.{ltb-true, ltb-false, leb-false, eqb-false}
-use Rattle.pack.specs.Syntax.{Test}
+use Rattle.pack.specs.Syntax.{Test, Effect}
 use Rattle.pack.specs.Reading.{Reading, done, refused, Reader, pick, bind, mapped, runs, many}
-use Rattle.pack.specs.Number.{numberAt, between, item, counted}
-use Rattle.pack.specs.Grammar.{Dimensions, kindOf, fluentAt, valueAt, testAt}
+use Rattle.pack.specs.Number.{numberAt, between, item, counted, beliefAt, risingAt}
+use Rattle.pack.specs.Grammar.{Dimensions, kindOf, fluentAt, valueAt, testAt, effectAt, consentersAt, nodeAt}
 use Rattle.pack.specs.State.{Valid}
 use Rattle.pack.specs.Judge.{bytesAt, Small}
 use Rattle.pack.specs.Laws.Reading.{never, same-value, same-place, Both, both, Mapped, unmapped, passed, failed}
@@ -175,3 +175,77 @@ pub test-in : (d : Dimensions) (C F : ℕ) → Small d → d .characters ≡ C �
 test-in d C F small ec ef s at x n e k q =
     let b = test-bytes d small s at x n e in
     subst (TestIn d C F s at) q (record { valid = subst (λ (c : ℕ). Valid c (bytesAt s (at + 1) (getD s at 0))) ec (b .valid); below = let p = b .below in omega arith; inside = b .inside })
+
+-- an effect, byte by byte: whom, the fluent and the value
+pub record EffectBytes (d : Dimensions) (s : List ℕ) (at : ℕ) (x : Effect) (n : ℕ) : Type 0 where
+  pub whom : x .whom ≡ getD s at 0
+  pub fluent : x .fluent ≡ getD s (at + 1) 0
+  pub below : getD s (at + 1) 0 < length (d .domains)
+  pub value : x .value ≡ getD s (at + 2) 0
+  pub ends : n ≡ at + 3
+  pub inside : at + 2 < length s
+
+pub effect-bytes : (d : Dimensions) → Small d → (s : List ℕ) (at : ℕ) (x : Effect) (n : ℕ) → effectAt d s at ≡ done x n → EffectBytes d s at x n
+unfolding effectAt
+effect-bytes d small s at x n e =
+    let b1 = both (item (d .characters + 1) s at) _ x n e in
+    let o1 = between-byte 0 (d .characters + 1) 4 s at (b1 .value) (b1 .place) (let q = small .characters in omega arith) (b1 .left) in
+    let b2 = both (fluentAt d s (b1 .place)) _ x n (b1 .right) in
+    let e2 : fluentAt d s (at + 1) ≡ done (b2 .value) (b2 .place) = ap (fluentAt d s) (sym (o1 .next)) ∙ b2 .left in
+    let o2 = between-byte 0 (length (d .domains)) 4 s (at + 1) (b2 .value) (b2 .place) (let q = small .fluents in omega arith) e2 in
+    let w2 = between-within 0 (length (d .domains)) 4 s (at + 1) (b2 .value) (b2 .place) e2 in
+    let u = unmapped (λ value. record { whom = b1 .value; fluent = b2 .value; value = value }) (valueAt d (b2 .value) s (b2 .place)) x n (b2 .right) in
+    let two : (at + 1) + 1 ≡ at + 2 = omega arith in
+    let e3 : valueAt d (b2 .value) s (at + 2) ≡ done (u .value) n = ap (valueAt d (b2 .value) s) (sym (o2 .next ∙ two)) ∙ u .left in
+    let o3 = between-byte 0 (getD (d .domains) (b2 .value) 0) 4 s (at + 2) (u .value) n (small .sizes (b2 .value)) e3 in
+    record {
+      whom = ap (λ (y : Effect). y .whom) (sym (u .right)) ∙ sym (o1 .value);
+      fluent = ap (λ (y : Effect). y .fluent) (sym (u .right)) ∙ sym (o2 .value);
+      below = let p = o2 .value in let q = w2 .1 in omega arith;
+      value = ap (λ (y : Effect). y .value) (sym (u .right)) ∙ sym (o3 .value);
+      ends = let p = o3 .next in omega arith;
+      inside = o3 .inside;
+    }
+
+pub rising-byte : (C least : ℕ) (s : List ℕ) (at v n : ℕ) → C ≤ 128 → risingAt C least s at ≡ done v n → ByteAt s at v n
+unfolding risingAt
+rising-byte C least s at v n h e =
+    let b = both (item C s at) (λ v n. pick (ltb v least) (refused 6 at) (done v n)) v n e in
+    let (rises, given) = failed (ltb (b .value) least) 6 at (done (b .value) (b .place)) v n (b .right) in
+    between-byte 0 C 4 s at v n h (b .left ∙ given)
+
+-- consenters, byte by byte
+pub rising-bytes : (C : ℕ) (s : List ℕ) (k least at : ℕ) (cs : List ℕ) (n : ℕ) → C ≤ 128 → runs (risingAt C) (λ least v. v + 1) least k s at ≡ done cs n
+    → (length cs ≡ k) × ((i : ℕ) → i < k → (getD cs i 0 ≡ getD s (at + i) 0) × (at + i < length s))
+unfolding runs
+rising-bytes C s zero least at cs n h e = (ap length (sym (same-value e)), λ i l. absurd (omega arith))
+rising-bytes C s (suc k) least at cs n h e =
+    let b = both (risingAt C least s at) (λ a n. mapped (λ rest. a ∷ rest) (runs (risingAt C) (λ least v. v + 1) (a + 1) k s n)) cs n e in
+    let u = unmapped (λ rest. b .value ∷ rest) (runs (risingAt C) (λ least v. v + 1) (b .value + 1) k s (b .place)) cs n (b .right) in
+    let o = rising-byte C least s at (b .value) (b .place) h (b .left) in
+    let (long, rest) = rising-bytes C s k (b .value + 1) (at + 1) (u .value) n h (ap (runs (risingAt C) (λ least v. v + 1) (b .value + 1) k s) (sym (o .next)) ∙ u .left) in
+    (ap length (sym (u .right)) ∙ ap suc long, go (b .value) (u .value) (u .right) (o .value) (o .inside) rest)
+  where
+    go : (v : ℕ) (vs : List ℕ) → v ∷ vs ≡ cs → getD s at 0 ≡ v → at < length s → ((i : ℕ) → i < k → (getD vs i 0 ≡ getD s ((at + 1) + i) 0) × ((at + 1) + i < length s))
+        → (i : ℕ) → i < suc k → (getD cs i 0 ≡ getD s (at + i) 0) × (at + i < length s)
+    go v vs same value inside rest zero l = (ap (λ (c : List ℕ). getD c 0 0) (sym same) ∙ sym value ∙ ap (λ (j : ℕ). getD s j 0) (sym (add-zero at)), omega arith)
+    go v vs same value inside rest (suc i) l =
+        let r = rest i (omega arith) in
+        let e : (at + 1) + i ≡ at + suc i = omega arith in
+        (ap (λ (c : List ℕ). getD c (suc i) 0) (sym same) ∙ r .0 ∙ ap (λ (j : ℕ). getD s j 0) e, let m = r .1 in omega arith)
+
+pub record ConsenterBytes (s : List ℕ) (at : ℕ) (cs : List ℕ) : Type 0 where
+  pub inside : at < length s
+  pub long : length cs ≡ getD s at 0
+  pub each : (i : ℕ) → i < getD s at 0 → (getD cs i 0 ≡ getD s ((at + 1) + i) 0) × ((at + 1) + i < length s)
+
+pub consenter-bytes : (d : Dimensions) → Small d → (s : List ℕ) (at : ℕ) (cs : List ℕ) (n : ℕ) → consentersAt d s at ≡ done cs n → ConsenterBytes s at cs
+unfolding consentersAt
+consenter-bytes d small s at cs n e =
+    let b = both (between 0 7 3 s at) (λ k n. runs (risingAt (d .characters)) (λ least v. v + 1) 0 k s n) cs n e in
+    let o = between-byte 0 7 3 s at (b .value) (b .place) (omega arith) (b .left) in
+    let k = getD s at 0 in
+    let run : runs (risingAt (d .characters)) (λ least v. v + 1) 0 k s (at + 1) ≡ done cs n
+    = ap (λ (v : ℕ). runs (risingAt (d .characters)) (λ least v. v + 1) 0 v s (at + 1)) (o .value) ∙ ap (runs (risingAt (d .characters)) (λ least v. v + 1) 0 (b .value) s) (sym (o .next)) ∙ b .right in
+    let r = rising-bytes (d .characters) s k 0 (at + 1) cs n (let q = small .characters in omega arith) run in
+    record { inside = o .inside; long = r .0; each = r .1 }

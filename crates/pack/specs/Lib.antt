@@ -10,4 +10,5 @@ pub mod Places
 pub mod Contents
 pub mod Table
 pub mod Judge
+pub mod Copy
 pub mod Laws

@@ -37,3 +37,10 @@ pub record TableFits (t : Table) (buffer : List ℕ) : Type 0 where
   pub wide : t .fluents + t .characters ≡ t .width
   pub inside : t .rows + t .nodes * t .width ≤ length buffer
   pub closed : Closed (t .characters) (tableOf t buffer)
+
+-- bytes below a place, and from a place on, as they were
+abbrev pub Below : (was now : List ℕ) → ℕ → Type 0
+Below was now a = (p : ℕ) → p < a → getD now p 0 ≡ getD was p 0
+
+abbrev pub Above : (was now : List ℕ) → ℕ → Type 0
+Above was now b = (p : ℕ) → b ≤ p → getD now p 0 ≡ getD was p 0

@@ -3,6 +3,7 @@
 pub mod chart;
 pub mod condition;
 pub mod contents;
+pub mod copy;
 pub mod effect;
 pub mod head;
 pub mod judge;
@@ -11,3 +12,4 @@ pub mod number;
 pub mod places;
 pub mod table;
 pub mod utility;
+pub mod write;

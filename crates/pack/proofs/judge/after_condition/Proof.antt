@@ -1,0 +1,37 @@
+-- What is left ends where the whole ends. Assumes nothing.
+use Rattle.pack.specs.Judge.{alternativeAt, Small}
+use Rattle.pack.specs.Grammar.{Dimensions}
+use Rattle.pack.proofs.Judging.{Left, left-start, left-one, left-next, left-end, counted-starts}
+use borrow.Author.Needs.{needs}
+use native.Mathlib.Omega.{arith}
+use Prim.Native.Nat.{ℕ, _-_}
+use mathlib.Core.Path.{_≡_, refl, sym}
+use Rattle.pack.specs.Syntax.{Condition}
+use Rattle.pack.specs.Reading.{done}
+use Rattle.pack.specs.Grammar.{conditionAt}
+use Rattle.pack.proofs.judge.after_condition.Statement.{statement}
+use Rattle.pack.proofs.judge.after_condition.Tie as tie
+
+abbrev Inv-loop : tie.InvT-loop
+Inv-loop s at n₀ left₀ n left =
+    (d : Dimensions) → Small d → (xs : Condition) (end : ℕ) → conditionAt d s at ≡ done xs end → Left (alternativeAt d) s n left (λ (l : Condition). tt {0}) xs end
+
+abbrev μ-loop : tie.MeasureT-loop
+μ-loop s at n₀ left₀ n left = left
+
+pub after-condition-spec : {M : Type 1} → statement M
+unfolding conditionAt
+after-condition-spec =
+    tie.close
+    (tie.spec
+    Inv-loop
+    μ-loop
+    (λ c. omega (arith, counted-starts 9 (alternativeAt (c .before .pre .over)) (c .before .args .s .now) (c .before .args .at) (c .before .pre .value) (c .before .pre .end) (omega arith) (c .before .pre .reads) _ refl .1))
+    (λ c. counted-starts 9 (alternativeAt (c .before .before .pre .over)) (c .before .before .args .s .now) (c .before .before .args .at) (c .before .before .pre .value) (c .before .before .pre .end) (omega arith) (c .before .before .pre .reads) _ refl .1)
+    (λ c κs. search needs)
+    (λ c. λ d small xs end e. left-start _ _ _ _ _ _ _ (counted-starts 9 (alternativeAt d) (c .before .before .before .args .s .now) (c .before .before .before .args .at) xs end (omega arith) e _ (c .wide .ensures) .0))
+    (λ c κs. let x = (left-one (alternativeAt (c .before .before .before .before .before .pre .over)) (c .before .before .before .before .before .args .s .now) (λ (l : Condition). tt {0}) (c .before .before .before .before .before .pre .value) (c .before .before .before .before .before .pre .end) (c .before .loop .n) (c .before .loop .left) (c .before .loop .inv (c .before .before .before .before .before .pre .over) (c .before .before .before .before .before .pre .small) (c .before .before .before .before .before .pre .value) (c .before .before .before .before .before .pre .end) (c .before .before .before .before .before .pre .reads)) (c .loop-test .taken)) in record { over = c .before .before .before .before .before .pre .over; small = c .before .before .before .before .before .pre .small; value = x .item; end = x .place; reads = x .here })
+    (λ c. search needs)
+    (λ c. search needs)
+    (λ c. λ d small xs end e. let x = left-one (alternativeAt d) (c .before .before .before .before .before .before .args .s .now) (λ (l : Condition). tt {0}) xs end (c .before .before .loop .n) (c .before .before .loop .left) (c .before .before .loop .inv d small xs end e) (c .before .loop-test .taken) in left-next _ _ _ _ _ _ _ x _ (sym (c .after-alternative .ensures d small (x .item) (x .place) (x .here))) refl)
+    (λ c. λ d small xs end e. left-end _ _ (λ (l : Condition). tt {0}) _ _ _ _ (c .before .loop .inv d small xs end e) (c .loop-test .left)))
