@@ -172,7 +172,7 @@ theory-dims d s at t n e =
     let u = unmapped (λ utilities. record { characters = d .characters; domains = d .domains; actions = b0 .value; triggers = b1 .value; utilities = utilities }) (many (rulesAt d) (suc (d .characters)) s (b1 .place)) t n (b1 .right) in
     ap (λ (x : Theory). dims (x .characters) (x .domains)) (sym (u .right))
 
-many-length : {A : Type 0} (p : Reader A) (k : ℕ) (s : List ℕ) (at : ℕ) (xs : List A) (n : ℕ) → many p k s at ≡ done xs n → length xs ≡ k
+pub many-length : {A : Type 0} (p : Reader A) (k : ℕ) (s : List ℕ) (at : ℕ) (xs : List A) (n : ℕ) → many p k s at ≡ done xs n → length xs ≡ k
 many-length p k s at xs n e = same-value (ap (mapped length) (sym e) ∙ runs-length _ _ _ k s at ∙ ap (λ (r : Reading _). mapped (λ (u : Unit {0}). k) (mapped forget r)) e)
 
 pub body-found : (characters fluents : ℕ) (sizes : List ℕ) (s : List ℕ) (at : ℕ) (places : List ℕ) (k first m : ℕ) (c : Counts) (answer : Checked)

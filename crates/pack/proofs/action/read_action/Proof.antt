@@ -9,8 +9,8 @@ use lib.ListN.{length-set}
 use Rattle.pack.specs.Grammar.{conditionAt}
 use Rattle.pack.specs.Answer.{shown, dims}
 use Rattle.pack.proofs.Laws.{action-forget}
-use Rattle.pack.proofs.places.read_action.Statement.{statement}
-use Rattle.pack.proofs.places.read_action.Tie as tie
+use Rattle.pack.proofs.action.read_action.Statement.{statement}
+use Rattle.pack.proofs.action.read_action.Tie as tie
 
 pub read-action-spec : {M : Type 1} → statement M
 read-action-spec =

@@ -9,8 +9,8 @@ use lib.ListN.{length}
 use Rattle.pack.specs.Grammar.{actionAt}
 use Rattle.pack.specs.Answer.{said, shown, dims}
 use Rattle.pack.proofs.Laws.{between-within, counted-length}
-use Rattle.pack.proofs.places.read_actions.Statement.{statement}
-use Rattle.pack.proofs.places.read_actions.Tie as tie
+use Rattle.pack.proofs.action.read_actions.Statement.{statement}
+use Rattle.pack.proofs.action.read_actions.Tie as tie
 
 abbrev Inv-loop : tie.InvT-loop
 Inv-loop s at characters domains places₀ count first i₀ n₀ left₀ places i n left =

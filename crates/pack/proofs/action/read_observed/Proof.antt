@@ -7,8 +7,8 @@ use mathlib.Core.Path.{_≡_, refl, ap, _∙_}
 use lib.ListN.{length, length-set}
 use Rattle.pack.specs.Grammar.{conditionAt}
 use Rattle.pack.specs.Answer.{shown, dims}
-use Rattle.pack.proofs.places.read_observed.Statement.{statement}
-use Rattle.pack.proofs.places.read_observed.Tie as tie
+use Rattle.pack.proofs.action.read_observed.Statement.{statement}
+use Rattle.pack.proofs.action.read_observed.Tie as tie
 
 abbrev Inv-loop : tie.InvT-loop
 Inv-loop s at characters domains places₀ base i₀ n₀ left₀ places i n left =

@@ -7,8 +7,8 @@ use mathlib.Core.Path.{ap, _∙_}
 use lib.ListN.{length-set}
 use Rattle.pack.specs.Answer.{shown, dims}
 use Rattle.pack.proofs.Laws.{trigger-forget}
-use Rattle.pack.proofs.places.read_trigger.Statement.{statement}
-use Rattle.pack.proofs.places.read_trigger.Tie as tie
+use Rattle.pack.proofs.trigger.read_trigger.Statement.{statement}
+use Rattle.pack.proofs.trigger.read_trigger.Tie as tie
 
 pub read-trigger-spec : {M : Type 1} → statement M
 read-trigger-spec =

@@ -7,8 +7,8 @@ use mathlib.Core.Path.{_≡_, refl, ap, _∙_}
 use lib.ListN.{length, length-set}
 use Rattle.pack.specs.Grammar.{rulesAt}
 use Rattle.pack.specs.Answer.{shown, dims}
-use Rattle.pack.proofs.places.read_utilities.Statement.{statement}
-use Rattle.pack.proofs.places.read_utilities.Tie as tie
+use Rattle.pack.proofs.utility.read_utilities.Statement.{statement}
+use Rattle.pack.proofs.utility.read_utilities.Tie as tie
 
 abbrev Inv-loop : tie.InvT-loop
 Inv-loop s at characters domains places₀ i₀ n₀ left₀ places i n left =
