@@ -1,12 +1,12 @@
 -- The conditions that are read are marked, and what is left tells what the whole tells. Assumes nothing.
-use Rattle.pack.proofs.Marks.{Marking, marking-start, marking-set, marking-refused, marking-whole, marking-all, set-below}
 use borrow.Author.Needs.{needs}
 use native.Mathlib.Omega.{arith}
-use Prim.Native.Nat.{_+_, _-_}
+use Prim.Native.Nat.{_+_}
 use mathlib.Core.Path.{_≡_, refl, ap, _∙_}
 use lib.ListN.{length, length-set}
 use Rattle.pack.specs.Grammar.{conditionAt}
 use Rattle.pack.specs.Answer.{shown, dims}
+use Rattle.pack.proofs.Marks.{Marking, marking-start, marking-set, marking-refused, marking-whole, marking-all, set-below}
 use Rattle.pack.proofs.action.read_observed.Statement.{statement}
 use Rattle.pack.proofs.action.read_observed.Tie as tie
 
@@ -30,11 +30,18 @@ read-observed-spec =
     (λ c κs. search needs)
     (λ c. search needs)
     (λ c. search needs)
-    (λ c. record { answer = marking-refused _ _ _ _ _ _ _ _ _ _ _ (c .before .before .before .before .before .loop .inv .0) (c .before .before .before .before .loop-test .taken) _ _ (c .before .before .before .check-condition .ensures ∙ ap shown (c .before .k .given .1)); marked = tt; kept = λ k l. set-below (c .before .before .before .before .before .loop .places) (c .before .before .before .before .before .before .before .before .before .args .base + c .before .before .before .before .before .loop .i) (c .before .before .before .before .before .loop .n) (c .before .before .before .before .before .before .before .before .before .args .base) (omega arith) k l ∙ c .before .before .before .before .before .loop .inv .0 .kept k l })
+    (λ c.
+    let start = c .before .before .before .before .before .before .before .before .before in
+    let turn = c .before .before .before .before .before in
+    record { answer = marking-refused _ _ _ _ _ _ _ _ _ _ _ (turn .loop .inv .0) (c .before .before .before .before .loop-test .taken) _ _ (c .before .before .before .check-condition .ensures ∙ ap shown (c .before .k .given .1)); marked = tt; kept = λ k l. set-below (turn .loop .places) (start .args .base + turn .loop .i) (turn .loop .n) (start .args .base) (omega arith) k l ∙ turn .loop .inv .0 .kept k l })
     (λ c. search needs)
     (λ c. search needs)
     (λ c. search needs)
     (λ c. search needs)
-    (λ c. (marking-set _ _ _ (λ b. c .before .before .before .before .before .before .before .before .before .args .base + b) _ _ _ _ (c .before .before .before .before .before .loop .i) _ _ (c .before .before .before .before .before .loop .inv .0) (c .before .before .before .before .loop-test .taken) (omega (arith, c .before .before .before .before .before .loop .inv .1, c .before .before .before .before .before .loop .inv .0 .counts)) (λ j l. omega arith) (omega arith) _ (c .before .before .before .check-condition .ensures ∙ ap shown (c .before .next .given .1)), simp length-set (c .before .before .before .before .before .loop .inv .1)))
+    (λ c.
+    let turn = c .before .before .before .before .before in
+    (marking-set _ _ _ (λ b. c .before .before .before .before .before .before .before .before .before .args .base + b) _ _ _ _ (turn .loop .i) _ _ (turn .loop .inv .0) (c .before .before .before .before .loop-test .taken) (omega (arith, turn .loop .inv .1, turn .loop .inv .0 .counts)) (λ j l. omega arith) (omega arith) _ (c .before .before .before .check-condition .ensures ∙ ap shown (c .before .next .given .1)), simp length-set (turn .loop .inv .1)))
     (λ c. search needs)
-    (λ c. record { answer = marking-whole _ _ _ _ _ _ _ _ _ _ _ (c .before .loop .inv .0) (c .loop-test .left); marked = marking-all _ _ _ _ _ _ _ _ _ _ _ (c .before .loop .inv .0) (c .loop-test .left); kept = c .before .loop .inv .0 .kept }))
+    (λ c.
+    let turn = c .before in
+    record { answer = marking-whole _ _ _ _ _ _ _ _ _ _ _ (turn .loop .inv .0) (c .loop-test .left); marked = marking-all _ _ _ _ _ _ _ _ _ _ _ (turn .loop .inv .0) (c .loop-test .left); kept = turn .loop .inv .0 .kept }))

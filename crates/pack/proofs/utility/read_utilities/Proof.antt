@@ -1,12 +1,12 @@
 -- The rules that are read are marked, and what is left tells what the whole tells. Assumes nothing.
-use Rattle.pack.proofs.Marks.{Marking, marking-start, marking-set, marking-refused, marking-whole, marking-all, set-below}
 use borrow.Author.Needs.{needs}
 use native.Mathlib.Omega.{arith}
-use Prim.Native.Nat.{_+_, _-_}
+use Prim.Native.Nat.{_+_}
 use mathlib.Core.Path.{_≡_, refl, ap, _∙_}
 use lib.ListN.{length, length-set}
 use Rattle.pack.specs.Grammar.{rulesAt}
 use Rattle.pack.specs.Answer.{shown, dims}
+use Rattle.pack.proofs.Marks.{Marking, marking-start, marking-set, marking-refused, marking-whole, marking-all, set-below}
 use Rattle.pack.proofs.utility.read_utilities.Statement.{statement}
 use Rattle.pack.proofs.utility.read_utilities.Tie as tie
 
@@ -27,15 +27,23 @@ read-utilities-spec =
     (λ c. (marking-start _ _ _ _ _ _ _, refl))
     (λ c. omega (arith, c .before .loop .inv .0 .counts, c .before .before .before .before .before .pre))
     (λ c. omega (arith, c .before .loop .inv .0 .counts, c .before .before .before .before .before .pre))
-    (λ c. omega (arith, c .before .loop .inv .1, c .before .loop .inv .0 .counts, c .before .before .before .before .before .pre))
+    (λ c.
+    let turn = c .before in
+    omega (arith, turn .loop .inv .1, turn .loop .inv .0 .counts, c .before .before .before .before .before .pre))
     (λ c κs. search needs)
     (λ c. search needs)
     (λ c. simp length-set (c .before .before .before .before .before .loop .inv .1))
-    (λ c. record { answer = marking-refused _ _ _ _ _ _ _ _ _ _ _ (c .before .before .before .before .before .loop .inv .0) (c .before .before .before .before .loop-test .taken) _ _ (c .before .before .before .check-rules .ensures ∙ ap shown (c .before .k .given .1)); marked = tt; kept = λ k l. set-below (c .before .before .before .before .before .loop .places) (320 + c .before .before .before .before .before .loop .i) (c .before .before .before .before .before .loop .n) 320 (omega arith) k l ∙ c .before .before .before .before .before .loop .inv .0 .kept k l })
+    (λ c.
+    let turn = c .before .before .before .before .before in
+    record { answer = marking-refused _ _ _ _ _ _ _ _ _ _ _ (turn .loop .inv .0) (c .before .before .before .before .loop-test .taken) _ _ (c .before .before .before .check-rules .ensures ∙ ap shown (c .before .k .given .1)); marked = tt; kept = λ k l. set-below (turn .loop .places) (320 + turn .loop .i) (turn .loop .n) 320 (omega arith) k l ∙ turn .loop .inv .0 .kept k l })
     (λ c. search needs)
     (λ c. omega (arith, c .before .before .before .before .before .loop .inv .0 .counts, c .before .before .before .before .before .before .before .before .before .pre))
     (λ c. search needs)
     (λ c. search needs)
-    (λ c. (marking-set _ _ _ (λ b. 320 + b) _ _ _ _ (c .before .before .before .before .before .loop .i) _ _ (c .before .before .before .before .before .loop .inv .0) (c .before .before .before .before .loop-test .taken) (omega (arith, c .before .before .before .before .before .loop .inv .1, c .before .before .before .before .before .loop .inv .0 .counts, c .before .before .before .before .before .before .before .before .before .pre)) (λ j l. omega arith) (omega arith) _ (c .before .before .before .check-rules .ensures ∙ ap shown (c .before .next .given .1)), simp length-set (c .before .before .before .before .before .loop .inv .1)))
+    (λ c.
+    let turn = c .before .before .before .before .before in
+    (marking-set _ _ _ (λ b. 320 + b) _ _ _ _ (turn .loop .i) _ _ (turn .loop .inv .0) (c .before .before .before .before .loop-test .taken) (omega (arith, turn .loop .inv .1, turn .loop .inv .0 .counts, c .before .before .before .before .before .before .before .before .before .pre)) (λ j l. omega arith) (omega arith) _ (c .before .before .before .check-rules .ensures ∙ ap shown (c .before .next .given .1)), simp length-set (turn .loop .inv .1)))
     (λ c. c .before .loop .inv .1)
-    (λ c. record { answer = marking-whole _ _ _ _ _ _ _ _ _ _ _ (c .before .loop .inv .0) (c .loop-test .left); marked = marking-all _ _ _ _ _ _ _ _ _ _ _ (c .before .loop .inv .0) (c .loop-test .left); kept = c .before .loop .inv .0 .kept }))
+    (λ c.
+    let turn = c .before in
+    record { answer = marking-whole _ _ _ _ _ _ _ _ _ _ _ (turn .loop .inv .0) (c .loop-test .left); marked = marking-all _ _ _ _ _ _ _ _ _ _ _ (turn .loop .inv .0) (c .loop-test .left); kept = turn .loop .inv .0 .kept }))
