@@ -17,7 +17,8 @@ use Rattle.pack.specs.Reading.{Reading, done, refused, Reader, pick, bin
 use Rattle.pack.specs.Number.{numberAt, between, item, beliefAt}
 use Rattle.pack.specs.Grammar.{Dimensions, valueAt, nodeAt}
 use Rattle.pack.specs.Table.{upto, cells, rowAt, rowsAt, Below, Above}
-use Rattle.pack.specs.Judge.{Small, RowOnly}
+use Rattle.pack.specs.Judge.{Small}
+use Rattle.pack.specs.Write.{RowOnly}
 use Rattle.pack.specs.Copy.{Copyable, Copied, Shaped, RowCopied}
 use Rattle.pack.specs.Laws.Reading.{same-value, same-place, Both, both, Mapped, unmapped, passed, failed}
 use Rattle.pack.proofs.Tables.{upto-length, cells-at}

@@ -109,6 +109,8 @@ module _ (d : Dimensions) (s places : List ℕ) where
       record {
         actions = ap (λ (x : Theory). length (x .actions)) (sym (u .right)) ∙ c0 .long;
         triggers = ap (λ (x : Theory). length (x .triggers)) (sym (u .right)) ∙ c1 .long;
+        mostActions = let w = between-within 0 33 3 s at ka fa ba in let h = w .1 in omega arith;
+        mostTriggers = let w = between-within 0 17 3 s na kt ft bt in let h = w .1 in omega arith;
         action = λ i l x. let g = nth (actionAt d) s ka i fa (getD places (9 * i) 0) (b0 .value) (b0 .place) x (c0 .reads) l (acts .starts i l) in
             subst (ActionStands d s places (9 * i)) (ap (λ (y : Theory). getD (y .actions) i x) (u .right)) (action-found (9 * i) (getD (b0 .value) i x) (g .end) (acts .parts i l) (g .reads));
         trigger = λ i l x. let g = nth (triggerAt d) s kt i ft (getD places (288 + 2 * i) 0) (b1 .value) (b1 .place) x (c1 .reads) l (trigs .starts i l) in
@@ -164,7 +166,7 @@ pub body-forget : (d : Dimensions) (s : List ℕ) (at : ℕ)
 unfolding bodyAt nodesAt
 body-forget d s at = simp (mapped-bind, bind-mapped, mapped-mapped) (bind-bind (between 1 33 3 s at) _ _)
 
-theory-dims : (d : Dimensions) (s : List ℕ) (at : ℕ) (t : Theory) (n : ℕ) → theoryAt d s at ≡ done t n → dims (t .characters) (t .domains) ≡ d
+pub theory-dims : (d : Dimensions) (s : List ℕ) (at : ℕ) (t : Theory) (n : ℕ) → theoryAt d s at ≡ done t n → dims (t .characters) (t .domains) ≡ d
 unfolding theoryAt
 theory-dims d s at t n e =
     let b0 = both (counted 0 33 (actionAt d) s at) _ t n e in
@@ -172,7 +174,7 @@ theory-dims d s at t n e =
     let u = unmapped (λ utilities. record { characters = d .characters; domains = d .domains; actions = b0 .value; triggers = b1 .value; utilities = utilities }) (many (rulesAt d) (suc (d .characters)) s (b1 .place)) t n (b1 .right) in
     ap (λ (x : Theory). dims (x .characters) (x .domains)) (sym (u .right))
 
-many-length : {A : Type 0} (p : Reader A) (k : ℕ) (s : List ℕ) (at : ℕ) (xs : List A) (n : ℕ) → many p k s at ≡ done xs n → length xs ≡ k
+pub many-length : {A : Type 0} (p : Reader A) (k : ℕ) (s : List ℕ) (at : ℕ) (xs : List A) (n : ℕ) → many p k s at ≡ done xs n → length xs ≡ k
 many-length p k s at xs n e = same-value (ap (mapped length) (sym e) ∙ runs-length _ _ _ k s at ∙ ap (λ (r : Reading _). mapped (λ (u : Unit {0}). k) (mapped forget r)) e)
 
 pub body-found : (characters fluents : ℕ) (sizes : List ℕ) (s : List ℕ) (at : ℕ) (places : List ℕ) (k first m : ℕ) (c : Counts) (answer : Checked)
@@ -196,6 +198,7 @@ body-found characters fluents sizes s at places k first m c answer few long b ro
       domains = ap (λ (x : Dimensions). x .domains) (sym same);
       fluents = ap (λ (x : Dimensions). length (x .domains)) (sym same) ∙ length-take-le fluents sizes (omega arith);
       nodes = ap (λ (x : Pack). length (x .nodes)) (sym (u .right)) ∙ many-length (nodeAt d k) k s first (b0 .value) (b0 .place) r0;
+      mostNodes = let w = between-within 1 33 3 s at k first b in let h = w .1 in omega arith;
       rows = subst (λ (x : Dimensions). Gives (many (nodeAt x k) k) s first (p .nodes)) same (record { end = b0 .place; reads = r0 ∙ ap (λ (x : Pack). done (x .nodes) (b0 .place)) (u .right) });
       theory = subst (λ (x : Dimensions). TheoryFound x s places (p .theory) (c .actions) (c .triggers)) same (subst (λ (x : Pack). TheoryFound d s places (x .theory) (c .actions) (c .triggers)) (u .right) f);
     }

@@ -12,8 +12,8 @@ use Rattle.pack.specs.Number.{numberAt, between, counted}
 use Rattle.pack.specs.Grammar.{Dimensions, kindOf, testAt, conditionAt, ruleAt}
 use Rattle.pack.specs.Condition.{compares, passes, allPass, holds, utility}
 use Rattle.pack.specs.State.{State, node, meaning, walk, Valid}
-use Rattle.pack.specs.Table.{tableOf, stateOf, TableFits}
-use Rattle.pack.specs.Judge.{bytesAt, Small, Over}
+use Rattle.pack.specs.Table.{tableOf, stateOf, TableFits, bytesAt}
+use Rattle.pack.specs.Judge.{Small, Over}
 use Rattle.pack.specs.declared.table.Table.{Table}
 use Rattle.pack.specs.Laws.Reading.{same-value, same-place, Both, both, Mapped, unmapped}
 use Rattle.pack.specs.Laws.Table.{finds-walk}

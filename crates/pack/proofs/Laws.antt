@@ -39,11 +39,6 @@ unfolding runs
 many-forget p zero s at h = absurd (omega arith)
 many-forget p (suc k) s at h = simp (sub-one, mapped-bind, bind-mapped, mapped-mapped)
 
--- one thing and then another, where nothing is told of the values
-pub forget-then : {A B C : Type 0} (x : Reading A) (g : A → B → C) (y : ℕ → Reading B)
-    → mapped forget (bind x (λ a n. mapped (g a) (y n))) ≡ bind (mapped forget x) (λ u n. mapped forget (y n))
-forget-then x g y = simp (mapped-bind, bind-mapped, mapped-mapped)
-
 -- three things one after the other, of two of which something is told
 pub three-forget : {A B C D X Y : Type 0} (g : A → X) (h : B → Y) (mk : A → B → C → D) (x : Reading A) (y : ℕ → Reading B) (z : ℕ → Reading C)
     → mapped forget (bind x (λ a n. bind (y n) (λ b n. mapped (mk a b) (z n)))) ≡ bind (mapped g x) (λ k n. bind (mapped h (y n)) (λ l n. mapped forget (z n)))

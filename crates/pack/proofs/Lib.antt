@@ -7,3 +7,4 @@ pub mod OneByte
 pub mod Judging
 pub mod Writing
 pub mod Copying
+pub mod Ready

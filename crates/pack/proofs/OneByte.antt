@@ -14,7 +14,8 @@ use Rattle.pack.specs.Reading.{Reading, done, refused, Reader, pick, bin
 use Rattle.pack.specs.Number.{numberAt, between, item, counted, beliefAt, risingAt}
 use Rattle.pack.specs.Grammar.{Dimensions, kindOf, fluentAt, valueAt, testAt, effectAt, consentersAt, nodeAt}
 use Rattle.pack.specs.State.{Valid}
-use Rattle.pack.specs.Judge.{bytesAt, Small}
+use Rattle.pack.specs.Table.{bytesAt}
+use Rattle.pack.specs.Judge.{Small}
 use Rattle.pack.specs.Laws.Reading.{never, same-value, same-place, Both, both, Mapped, unmapped, passed, failed}
 use Rattle.pack.proofs.Laws.{between-within}
 

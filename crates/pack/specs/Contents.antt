@@ -35,6 +35,8 @@ pub record TriggerStands (d : Dimensions) (s places : List ℕ) (base : ℕ) (t 
 pub record TheoryFound (d : Dimensions) (s places : List ℕ) (t : Theory) (k l : ℕ) : Type 0 where
   pub actions : length (t .actions) ≡ k
   pub triggers : length (t .triggers) ≡ l
+  pub mostActions : k ≤ 32
+  pub mostTriggers : l ≤ 16
   pub action : (i : ℕ) → i < k → (x : Action) → ActionStands d s places (9 * i) (getD (t .actions) i x)
   pub trigger : (i : ℕ) → i < l → (x : Trigger) → TriggerStands d s places (288 + 2 * i) (getD (t .triggers) i x)
   pub rules : (c : ℕ) → c < d .characters + 1 → Gives (rulesAt d) s (getD places (320 + c) 0) (getD (t .utilities) c [])
@@ -49,6 +51,7 @@ pub record PackFound (s places : List ℕ) (p : Pack) (r : Contents) : Type 0 wh
   pub domains : p .theory .domains ≡ take (r .fluents) (r .sizes)
   pub fluents : length (p .theory .domains) ≡ r .fluents
   pub nodes : length (p .nodes) ≡ r .nodes
+  pub mostNodes : r .nodes ≤ 32
   pub rows : Gives (many (nodeAt (dims (p .theory .characters) (p .theory .domains)) (r .nodes)) (r .nodes)) s (r .first) (p .nodes)
   pub theory : TheoryFound (dims (p .theory .characters) (p .theory .domains)) s places (p .theory) (r .actions) (r .triggers)
 

@@ -7,7 +7,8 @@ use Rattle.pack.specs.Syntax.{Node}
 use Rattle.pack.specs.Reading.{done, many}
 use Rattle.pack.specs.Grammar.{Dimensions, nodeAt}
 use Rattle.pack.specs.Table.{rowAt, rowsAt, Below, Above}
-use Rattle.pack.specs.Judge.{Small, RowOnly}
+use Rattle.pack.specs.Judge.{Small}
+use Rattle.pack.specs.Write.{RowOnly}
 
 pub record Copyable (s : List ℕ) (from : ℕ) (buffer : List ℕ) (to count less : ℕ) : Type 0 where
   pub source : (i : ℕ) → i < count → from + i < length s

@@ -10,5 +10,6 @@ pub mod Places
 pub mod Contents
 pub mod Table
 pub mod Judge
+pub mod Write
 pub mod Copy
 pub mod Laws

@@ -44,3 +44,8 @@ Below was now a = (p : ℕ) → p < a → getD now p 0 ≡ getD was p 0
 
 abbrev pub Above : (was now : List ℕ) → ℕ → Type 0
 Above was now b = (p : ℕ) → b ≤ p → getD now p 0 ≡ getD was p 0
+
+-- the bytes from a place on
+unfoldable pub bytesAt : List ℕ → ℕ → ℕ → List ℕ
+bytesAt s at zero = []
+bytesAt s at (suc k) = getD s at 0 ∷ bytesAt s (at + 1) k

@@ -1,12 +1,12 @@
 // A whole pack: its head, its nodes, and what can happen and who wants what.
+use crate::action::read_actions;
 use crate::head::read_head;
 use crate::node::check_rows;
 use crate::number::Checked;
 use crate::number::Number;
 use crate::number::read_between;
-use crate::places::read_actions;
-use crate::places::read_triggers;
-use crate::places::read_utilities;
+use crate::trigger::read_triggers;
+use crate::utility::read_utilities;
 ghost use Prim.Native.Nat.{_≤_};
 ghost use lib.ListN.{length, take};
 ghost use mathlib.Core.Path.{_≡_};

@@ -66,8 +66,9 @@ pub fn read_between(s: &[u8], at: usize, low: usize, limit: usize, number: u8) -
         Number::Refused(k, p) => Number::Refused(k, p),
         Number::Is(v, n) => {
             if v < low {
-                Number::Refused(number, at)
-            } else if v < limit {
+                return Number::Refused(number, at);
+            }
+            if v < limit {
                 Number::Is(v, n)
             } else {
                 Number::Refused(number, at)

@@ -1,13 +1,16 @@
-// Utilities ("worths"): rules, each a condition and a number.
+// Utilities ("worths"): rules, each a condition and a number. The rules of the author and of each character have a place each, from 320 on.
 use crate::condition::check_condition;
 use crate::number::Checked;
 use crate::number::Number;
 use crate::number::read_between;
 use crate::number::read_number;
+ghost use Prim.Native.Nat.{_≤_};
 ghost use mathlib.Core.Path.{_≡_};
+ghost use lib.ListN.{length};
 ghost use Rattle.pack.specs.Reading.{mapped};
 ghost use Rattle.pack.specs.Grammar.{ruleAt, rulesAt};
 ghost use Rattle.pack.specs.Answer.{shown, forget, dims};
+ghost use Rattle.pack.specs.Places.{UtilitiesRead};
 
 // A condition and a number.
 pub fn check_rule(s: &[u8], at: usize, characters: usize, domains: &[u8]) -> Checked
@@ -45,4 +48,34 @@ pub fn check_rules(s: &[u8], at: usize, characters: usize, domains: &[u8]) -> Ch
             Checked::Passed(n)
         }
     }
+}
+
+// The rules of the author and of each character, marked from 320 on.
+pub fn read_utilities(
+    s: &[u8],
+    at: usize,
+    characters: usize,
+    domains: &[u8],
+    places: &mut [usize],
+) -> Checked
+    requires { ⌜ (characters ≤ 6) × (327 ≤ length (now places)) ⌝ }
+    ensures { λ r. ⌜ UtilitiesRead (dims characters (now (domains .entry))) (now (s .entry)) at (now (places .entry)) (now (places .exit)) r ⌝ }
+{
+    let mut i: usize = 0;
+    let mut n = at;
+    let mut left = characters + 1;
+    while 0 < left {
+        places[320 + i] = n;
+        match check_rules(s, n, characters, domains) {
+            Checked::Refused(k, p) => {
+                return Checked::Refused(k, p);
+            }
+            Checked::Passed(next) => {
+                i = i + 1;
+                n = next;
+                left = left - 1;
+            }
+        }
+    }
+    Checked::Passed(n)
 }

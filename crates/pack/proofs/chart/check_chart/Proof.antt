@@ -1,14 +1,13 @@
 -- A refusal is one of the nodes, with 20 added; what is read is judged by where it ends. Assumes nothing.
-use Rattle.pack.proofs.Low.{nodes-low, low-told}
 use borrow.Author.Tests.{eq-eqb, ne-eqb}
-use Rattle.pack.proofs.Found.{chart-refused, chart-read}
 use borrow.Author.Needs.{needs}
 use native.Mathlib.Omega.{arith}
-use Prim.Native.Nat.{_-_}
 use mathlib.Core.Path.{ap, _∙_}
 use lib.ListN.{length}
 use Rattle.pack.specs.Grammar.{nodesAt}
 use Rattle.pack.specs.Answer.{said, dims}
+use Rattle.pack.proofs.Low.{nodes-low, low-told}
+use Rattle.pack.proofs.Found.{chart-refused, chart-read}
 use Rattle.pack.proofs.chart.check_chart.Statement.{statement}
 use Rattle.pack.proofs.chart.check_chart.Tie as tie
 
@@ -18,8 +17,16 @@ check-chart-spec =
     (tie.spec
     (λ c κs. search needs)
     (λ c. search needs)
-    (λ c. omega (arith, low-told length (nodesAt (dims (c .before .before .before .before .before .before .args .characters) (c .before .before .before .before .before .before .args .domains .now)) (c .before .before .before .before .before .before .args .s .now) 0) _ _ (nodes-low _ _ _) (c .before .before .before .check-nodes .ensures ∙ ap said (c .before .k .given .1))))
+    (λ c.
+    let start = c .before .before .before .before .before .before in
+    omega (arith, low-told length (nodesAt (dims (start .args .characters) (start .args .domains .now)) (start .args .s .now) 0) _ _ (nodes-low _ _ _) (c .before .before .before .check-nodes .ensures ∙ ap said (c .before .k .given .1))))
     (λ c. search needs)
-    (λ c. chart-refused length (length (c .before .before .before .before .before .before .args .s .now)) (nodesAt (dims (c .before .before .before .before .before .before .args .characters) (c .before .before .before .before .before .before .args .domains .now)) (c .before .before .before .before .before .before .args .s .now) 0) _ _ (c .before .before .before .check-nodes .ensures ∙ ap said (c .before .k .given .1)))
-    (λ c. chart-read length (length (c .before .before .before .before .before .before .before .args .s .now)) (nodesAt (dims (c .before .before .before .before .before .before .before .args .characters) (c .before .before .before .before .before .before .before .args .domains .now)) (c .before .before .before .before .before .before .before .args .s .now) 0) _ _ (c .before .before .before .before .check-nodes .ensures ∙ ap said (c .before .before .nodes .given .1)) ∙ rw (eq-eqb _ _ (c .if1 .taken)))
-    (λ c. chart-read length (length (c .before .before .before .before .before .before .before .args .s .now)) (nodesAt (dims (c .before .before .before .before .before .before .before .args .characters) (c .before .before .before .before .before .before .before .args .domains .now)) (c .before .before .before .before .before .before .before .args .s .now) 0) _ _ (c .before .before .before .before .check-nodes .ensures ∙ ap said (c .before .before .nodes .given .1)) ∙ rw (ne-eqb _ _ (c .if1 .left))))
+    (λ c.
+    let start = c .before .before .before .before .before .before in
+    chart-refused length (length (start .args .s .now)) (nodesAt (dims (start .args .characters) (start .args .domains .now)) (start .args .s .now) 0) _ _ (c .before .before .before .check-nodes .ensures ∙ ap said (c .before .k .given .1)))
+    (λ c.
+    let start = c .before .before .before .before .before .before .before in
+    chart-read length (length (start .args .s .now)) (nodesAt (dims (start .args .characters) (start .args .domains .now)) (start .args .s .now) 0) _ _ (c .before .before .before .before .check-nodes .ensures ∙ ap said (c .before .before .nodes .given .1)) ∙ rw (eq-eqb _ _ (c .if1 .taken)))
+    (λ c.
+    let start = c .before .before .before .before .before .before .before in
+    chart-read length (length (start .args .s .now)) (nodesAt (dims (start .args .characters) (start .args .domains .now)) (start .args .s .now) 0) _ _ (c .before .before .before .before .check-nodes .ensures ∙ ap said (c .before .before .nodes .given .1)) ∙ rw (ne-eqb _ _ (c .if1 .left))))

@@ -1,14 +1,13 @@
 -- The nodes stand before the rest, and the domains are the first of the sizes. Assumes nothing.
-use lib.Seq.{length-take-le}
-use Rattle.pack.specs.Contents.{bodyAt}
-use Rattle.pack.proofs.Found.{no-value, body-forget, body-found}
 use borrow.Author.Needs.{needs}
 use native.Mathlib.Omega.{arith}
-use Prim.Native.Nat.{_-_}
 use mathlib.Core.Path.{_≡_, sym, ap, _∙_}
+use lib.Seq.{length-take-le}
 use lib.ListN.{take}
+use Rattle.pack.specs.Contents.{bodyAt}
 use Rattle.pack.specs.Reading.{refused, mapped}
 use Rattle.pack.specs.Answer.{said, shown, forget, dims}
+use Rattle.pack.proofs.Found.{no-value, body-forget, body-found}
 use Rattle.pack.proofs.contents.read_body.Statement.{statement}
 use Rattle.pack.proofs.contents.read_body.Tie as tie
 
@@ -17,7 +16,9 @@ read-body-spec =
     tie.close
     (tie.spec
     (λ c. search needs)
-    (λ c. sym (length-take-le (c .before .before .before .args .fluents) (c .before .before .before .args .t5) (omega (arith, c .before .before .before .pre))))
+    (λ c.
+    let start = c .before .before .before in
+    sym (length-take-le (start .args .fluents) (start .args .t5) (omega (arith, start .pre))))
     (λ c κs. search needs)
     (λ c. search needs)
     (λ c κs. search needs)
@@ -26,8 +27,18 @@ read-body-spec =
     (λ c. search needs)
     (λ c κs. search needs)
     (λ c. search needs)
-    (λ c κs. (c .before .before .before .before .before .before .before .before .before .before .before .before .pre .0, c .before .before .before .before .before .before .before .before .before .before .before .before .pre .3))
-    (λ c. let a : mapped forget (bodyAt (dims (c .before .before .before .before .before .before .before .before .args .characters) (take (c .before .before .before .before .before .before .before .before .args .fluents) (c .before .before .before .before .before .before .before .before .args .t5))) (c .before .before .before .before .before .before .before .before .args .s .now) (c .before .before .before .before .before .before .before .before .args .at)) ≡ refused (c .before .before .k .given .0 .0) (c .before .before .k .given .0 .1 .0) = rw (body-forget, c .before .before .before .before .read-between .ensures, c .before .before .k .given .1) in record { answer = a ∙ ap shown (sym (c .refusal .ensures .answer)); found = λ p n e. no-value (bodyAt (dims (c .before .before .before .before .before .before .before .before .args .characters) (take (c .before .before .before .before .before .before .before .before .args .fluents) (c .before .before .before .before .before .before .before .before .args .t5))) (c .before .before .before .before .before .before .before .before .args .s .now) (c .before .before .before .before .before .before .before .before .args .at)) _ _ p n a e; few = c .refusal .ensures .few })
-    (λ c. let a : mapped forget (bodyAt (dims (c .before .before .before .before .before .before .before .before .before .before .before .before .args .characters) (take (c .before .before .before .before .before .before .before .before .before .before .before .before .args .fluents) (c .before .before .before .before .before .before .before .before .before .before .before .before .args .t5))) (c .before .before .before .before .before .before .before .before .before .before .before .before .args .s .now) (c .before .before .before .before .before .before .before .before .before .before .before .before .args .at)) ≡ refused (c .before .before .k2 .given .0 .0) (c .before .before .k2 .given .0 .1 .0) = rw (body-forget, c .before .before .before .before .before .before .before .before .read-between .ensures, c .before .before .before .before .before .before .nodes .given .1, c .before .before .before .before .check-rows .ensures, c .before .before .k2 .given .1) in record { answer = a ∙ ap shown (sym (c .refusal2 .ensures .answer)); found = λ p n e. no-value (bodyAt (dims (c .before .before .before .before .before .before .before .before .before .before .before .before .args .characters) (take (c .before .before .before .before .before .before .before .before .before .before .before .before .args .fluents) (c .before .before .before .before .before .before .before .before .before .before .before .before .args .t5))) (c .before .before .before .before .before .before .before .before .before .before .before .before .args .s .now) (c .before .before .before .before .before .before .before .before .before .before .before .before .args .at)) _ _ p n a e; few = c .refusal2 .ensures .few })
+    (λ c κs.
+    let start = c .before .before .before .before .before .before .before .before .before .before .before .before in
+    (start .pre .0, start .pre .3))
+    (λ c.
+    let start = c .before .before .before .before .before .before .before .before in
+    let a : mapped forget (bodyAt (dims (start .args .characters) (take (start .args .fluents) (start .args .t5))) (start .args .s .now) (start .args .at)) ≡ refused (c .before .before .k .given .0 .0) (c .before .before .k .given .0 .1 .0) = rw (body-forget, c .before .before .before .before .read-between .ensures, c .before .before .k .given .1) in
+    record { answer = a ∙ ap shown (sym (c .refusal .ensures .answer)); found = λ p n e. no-value (bodyAt (dims (start .args .characters) (take (start .args .fluents) (start .args .t5))) (start .args .s .now) (start .args .at)) _ _ p n a e; few = c .refusal .ensures .few })
+    (λ c.
+    let start = c .before .before .before .before .before .before .before .before .before .before .before .before in
+    let a : mapped forget (bodyAt (dims (start .args .characters) (take (start .args .fluents) (start .args .t5))) (start .args .s .now) (start .args .at)) ≡ refused (c .before .before .k2 .given .0 .0) (c .before .before .k2 .given .0 .1 .0) = rw (body-forget, c .before .before .before .before .before .before .before .before .read-between .ensures, c .before .before .before .before .before .before .nodes .given .1, c .before .before .before .before .check-rows .ensures, c .before .before .k2 .given .1) in
+    record { answer = a ∙ ap shown (sym (c .refusal2 .ensures .answer)); found = λ p n e. no-value (bodyAt (dims (start .args .characters) (take (start .args .fluents) (start .args .t5))) (start .args .s .now) (start .args .at)) _ _ p n a e; few = c .refusal2 .ensures .few })
     (λ c. c .before .before .read-theory .kept .1 .1 .1 .1 .0)
-    (λ c. record { answer = rw (body-forget, c .before .before .before .before .before .before .before .before .before .before .before .read-between .ensures, c .before .before .before .before .before .before .before .before .before .nodes .given .1, c .before .before .before .before .before .before .before .check-rows .ensures, c .before .before .before .before .before .n .given .1, c .before .before .read-theory .ensures .answer); found = body-found _ _ _ _ _ _ _ _ _ _ _ (c .before .before .before .before .before .before .before .before .before .before .before .before .before .before .before .pre .1) (c .before .before .before .before .before .before .before .before .before .before .before .before .before .before .before .pre .2) (c .before .before .before .before .before .before .before .before .before .before .before .read-between .ensures ∙ ap said (c .before .before .before .before .before .before .before .before .before .nodes .given .1)) (c .before .before .before .before .before .before .before .check-rows .ensures ∙ ap shown (c .before .before .before .before .before .n .given .1)) (c .before .before .read-theory .ensures); few = c .before .before .before .before .before .before .before .before .before .before .before .before .before .before .before .pre .1 }))
+    (λ c.
+    let start = c .before .before .before .before .before .before .before .before .before .before .before .before .before .before .before in
+    record { answer = rw (body-forget, c .before .before .before .before .before .before .before .before .before .before .before .read-between .ensures, c .before .before .before .before .before .before .before .before .before .nodes .given .1, c .before .before .before .before .before .before .before .check-rows .ensures, c .before .before .before .before .before .n .given .1, c .before .before .read-theory .ensures .answer); found = body-found _ _ _ _ _ _ _ _ _ _ _ (start .pre .1) (start .pre .2) (c .before .before .before .before .before .before .before .before .before .before .before .read-between .ensures ∙ ap said (c .before .before .before .before .before .before .before .before .before .nodes .given .1)) (c .before .before .before .before .before .before .before .check-rows .ensures ∙ ap shown (c .before .before .before .before .before .n .given .1)) (c .before .before .read-theory .ensures); few = start .pre .1 }))

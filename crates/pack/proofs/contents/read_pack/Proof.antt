@@ -1,13 +1,12 @@
 -- The limit of length is tested first, the end last, and in between the parts are read. Assumes nothing.
-use Rattle.pack.specs.Contents.{replied}
-use Rattle.pack.specs.Reading.{told}
-use Rattle.pack.specs.Laws.Reading.{never-gives}
-use Rattle.pack.proofs.Found.{pack-long, pack-told, pack-all, ended-refused, ended-passed, ended-early, no-pack}
 use borrow.Author.Needs.{needs}
-use Prim.Native.Nat.{_-_}
 use mathlib.Core.Path.{sym, ap, _∙_}
 use lib.ListN.{length}
+use Rattle.pack.specs.Contents.{replied}
+use Rattle.pack.specs.Reading.{told}
 use Rattle.pack.specs.Answer.{forget}
+use Rattle.pack.specs.Laws.Reading.{never-gives}
+use Rattle.pack.proofs.Found.{pack-long, pack-told, pack-all, ended-refused, ended-passed, ended-early, no-pack}
 use Rattle.pack.proofs.contents.read_pack.Statement.{statement}
 use Rattle.pack.proofs.contents.read_pack.Tie as tie
 
@@ -16,14 +15,23 @@ read-pack-spec =
     tie.close
     (tie.spec
     (λ c κs. search needs)
-    (λ c. record { answer = ap (told forget) (pack-long (c .before .before .before .before .args .s .now) (c .before .if1 .taken)) ∙ ap replied (sym (c .refusal .ensures .answer)); found = λ p e. never-gives (sym (pack-long (c .before .before .before .before .args .s .now) (c .before .if1 .taken)) ∙ e); few = c .refusal .ensures .few })
+    (λ c.
+    let start = c .before .before .before .before in
+    record { answer = ap (told forget) (pack-long (start .args .s .now) (c .before .if1 .taken)) ∙ ap replied (sym (c .refusal .ensures .answer)); found = λ p e. never-gives (sym (pack-long (start .args .s .now) (c .before .if1 .taken)) ∙ e); few = c .refusal .ensures .few })
     (λ c κs. search needs)
     (λ c. search needs)
     (λ c. search needs)
     (λ c κs. search needs)
     (λ c. c .before .before .before .before .read-parts .kept .1 .0)
-    (λ c. record { answer = pack-told (c .before .before .before .before .before .before .before .before .before .args .s .now) (c .before .before .before .before .read-parts .result .answer) (c .before .before .before .before .before .before .if1 .left) (c .before .before .before .before .read-parts .ensures .answer) ∙ ended-refused (length (c .before .before .before .before .before .before .before .before .before .args .s .now)) _ _ _ (c .enum-told .given .1); found = λ p e. c .before .before .before .before .read-parts .ensures .found p _ (pack-all (c .before .before .before .before .before .before .before .before .before .args .s .now) (c .before .before .before .before .before .before .if1 .left) p e); few = c .before .before .before .before .read-parts .ensures .few })
+    (λ c.
+    let start = c .before .before .before .before .before .before .before .before .before in
+    record { answer = pack-told (start .args .s .now) (c .before .before .before .before .read-parts .result .answer) (c .before .before .before .before .before .before .if1 .left) (c .before .before .before .before .read-parts .ensures .answer) ∙ ended-refused (length (start .args .s .now)) _ _ _ (c .enum-told .given .1); found = λ p e. c .before .before .before .before .read-parts .ensures .found p _ (pack-all (start .args .s .now) (c .before .before .before .before .before .before .if1 .left) p e); few = c .before .before .before .before .read-parts .ensures .few })
     (λ c. c .before .before .before .before .before .before .read-parts .kept .1 .0)
-    (λ c. record { answer = pack-told (c .before .before .before .before .before .before .before .before .before .before .before .args .s .now) (c .before .before .before .before .before .before .read-parts .result .answer) (c .before .before .before .before .before .before .before .before .if1 .left) (c .before .before .before .before .before .before .read-parts .ensures .answer) ∙ ended-passed _ _ _ (c .before .before .answer .given .1) (c .if2 .taken); found = λ p e. c .before .before .before .before .before .before .read-parts .ensures .found p _ (pack-all (c .before .before .before .before .before .before .before .before .before .before .before .args .s .now) (c .before .before .before .before .before .before .before .before .if1 .left) p e); few = c .before .before .before .before .before .before .read-parts .ensures .few })
+    (λ c.
+    let start = c .before .before .before .before .before .before .before .before .before .before .before in
+    record { answer = pack-told (start .args .s .now) (c .before .before .before .before .before .before .read-parts .result .answer) (c .before .before .before .before .before .before .before .before .if1 .left) (c .before .before .before .before .before .before .read-parts .ensures .answer) ∙ ended-passed _ _ _ (c .before .before .answer .given .1) (c .if2 .taken); found = λ p e. c .before .before .before .before .before .before .read-parts .ensures .found p _ (pack-all (start .args .s .now) (c .before .before .before .before .before .before .before .before .if1 .left) p e); few = c .before .before .before .before .before .before .read-parts .ensures .few })
     (λ c. c .before .before .before .before .before .before .before .read-parts .kept .1 .0)
-    (λ c. let a = pack-told (c .before .before .before .before .before .before .before .before .before .before .before .before .args .s .now) (c .before .before .before .before .before .before .before .read-parts .result .answer) (c .before .before .before .before .before .before .before .before .before .if1 .left) (c .before .before .before .before .before .before .before .read-parts .ensures .answer) ∙ ended-early _ _ _ (c .before .before .before .answer .given .1) (c .before .if2 .left) in record { answer = a ∙ ap replied (sym (c .refusal2 .ensures .answer)); found = λ p e. no-pack (c .before .before .before .before .before .before .before .before .before .before .before .before .args .s .now) _ _ p a e; few = c .refusal2 .ensures .few }))
+    (λ c.
+    let start = c .before .before .before .before .before .before .before .before .before .before .before .before in
+    let a = pack-told (start .args .s .now) (c .before .before .before .before .before .before .before .read-parts .result .answer) (c .before .before .before .before .before .before .before .before .before .if1 .left) (c .before .before .before .before .before .before .before .read-parts .ensures .answer) ∙ ended-early _ _ _ (c .before .before .before .answer .given .1) (c .before .if2 .left) in
+    record { answer = a ∙ ap replied (sym (c .refusal2 .ensures .answer)); found = λ p e. no-pack (start .args .s .now) _ _ p a e; few = c .refusal2 .ensures .few }))

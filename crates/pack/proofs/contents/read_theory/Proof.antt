@@ -1,12 +1,11 @@
 -- Each walk begins where the one before it ends, and leaves the places that it marked. Assumes nothing.
-use Rattle.pack.proofs.Found.{no-value, theory-marked}
 use borrow.Author.Needs.{needs}
 use native.Mathlib.Omega.{arith}
-use Prim.Native.Nat.{_-_}
 use mathlib.Core.Path.{_≡_, _∙_}
 use Rattle.pack.specs.Reading.{refused, mapped}
 use Rattle.pack.specs.Grammar.{theoryAt}
 use Rattle.pack.specs.Answer.{shown, forget, dims}
+use Rattle.pack.proofs.Found.{no-value, theory-marked}
 use Rattle.pack.proofs.Laws.{theory-forget}
 use Rattle.pack.proofs.contents.read_theory.Statement.{statement}
 use Rattle.pack.proofs.contents.read_theory.Tie as tie
@@ -18,13 +17,26 @@ read-theory-spec =
     (λ c κs. search needs)
     (λ c. search needs)
     (λ c. search needs)
-    (λ c κs. (c .before .before .before .before .before .before .before .before .before .before .before .pre .0, omega (arith, c .before .before .before .before .before .before .before .before .before .before .before .pre .1, c .before .before .before .before .before .before .read-actions .kept .1 .1 .1 .1 .0)))
+    (λ c κs.
+    let start = c .before .before .before .before .before .before .before .before .before .before .before in
+    (start .pre .0, omega (arith, start .pre .1, c .before .before .before .before .before .before .read-actions .kept .1 .1 .1 .1 .0)))
     (λ c. search needs)
     (λ c. search needs)
-    (λ c κs. (c .before .before .before .before .before .before .before .before .before .before .before .before .before .before .before .before .before .before .pre .0, omega (arith, c .before .before .before .before .before .before .before .before .before .before .before .before .before .before .before .before .before .before .pre .1, c .before .before .before .before .before .before .before .before .before .before .before .before .before .read-actions .kept .1 .1 .1 .1 .0, c .before .before .before .before .before .before .read-triggers .kept .1 .1 .1 .1 .0)))
+    (λ c κs.
+    let start = c .before .before .before .before .before .before .before .before .before .before .before .before .before .before .before .before .before .before in
+    (start .pre .0, omega (arith, start .pre .1, c .before .before .before .before .before .before .before .before .before .before .before .before .before .read-actions .kept .1 .1 .1 .1 .0, c .before .before .before .before .before .before .read-triggers .kept .1 .1 .1 .1 .0)))
     (λ c. c .before .before .before .before .before .read-actions .kept .1 .1 .1 .1 .0)
-    (λ c. let a : mapped forget (theoryAt (dims (c .before .before .before .before .before .before .before .before .before .before .args .characters) (c .before .before .before .before .before .before .before .before .before .before .args .domains .now)) (c .before .before .before .before .before .before .before .before .before .before .args .s .now) (c .before .before .before .before .before .before .before .before .before .before .args .at)) ≡ refused (c .before .k .given .0 .0) (c .before .k .given .0 .1 .0) = rw (theory-forget, c .before .before .before .before .before .read-actions .ensures .answer, c .before .k .given .1) in record { answer = a; found = λ t n e. no-value (theoryAt (dims (c .before .before .before .before .before .before .before .before .before .before .args .characters) (c .before .before .before .before .before .before .before .before .before .before .args .domains .now)) (c .before .before .before .before .before .before .before .before .before .before .args .s .now) (c .before .before .before .before .before .before .before .before .before .before .args .at)) _ _ t n a e })
+    (λ c.
+    let start = c .before .before .before .before .before .before .before .before .before .before in
+    let a : mapped forget (theoryAt (dims (start .args .characters) (start .args .domains .now)) (start .args .s .now) (start .args .at)) ≡ refused (c .before .k .given .0 .0) (c .before .k .given .0 .1 .0) = rw (theory-forget, c .before .before .before .before .before .read-actions .ensures .answer, c .before .k .given .1) in
+    record { answer = a; found = λ t n e. no-value (theoryAt (dims (start .args .characters) (start .args .domains .now)) (start .args .s .now) (start .args .at)) _ _ t n a e })
     (λ c. c .before .before .before .before .before .read-triggers .kept .1 .1 .1 .1 .0 ∙ c .before .before .before .before .before .before .before .before .before .before .before .before .read-actions .kept .1 .1 .1 .1 .0)
-    (λ c. let a : mapped forget (theoryAt (dims (c .before .before .before .before .before .before .before .before .before .before .before .before .before .before .before .before .before .args .characters) (c .before .before .before .before .before .before .before .before .before .before .before .before .before .before .before .before .before .args .domains .now)) (c .before .before .before .before .before .before .before .before .before .before .before .before .before .before .before .before .before .args .s .now) (c .before .before .before .before .before .before .before .before .before .before .before .before .before .before .before .before .before .args .at)) ≡ refused (c .before .k2 .given .0 .0) (c .before .k2 .given .0 .1 .0) = rw (theory-forget, c .before .before .before .before .before .before .before .before .before .before .before .before .read-actions .ensures .answer, c .before .before .before .before .before .before .before .before .actions .given .1, c .before .before .before .before .before .read-triggers .ensures .answer, c .before .k2 .given .1) in record { answer = a; found = λ t n e. no-value (theoryAt (dims (c .before .before .before .before .before .before .before .before .before .before .before .before .before .before .before .before .before .args .characters) (c .before .before .before .before .before .before .before .before .before .before .before .before .before .before .before .before .before .args .domains .now)) (c .before .before .before .before .before .before .before .before .before .before .before .before .before .before .before .before .before .args .s .now) (c .before .before .before .before .before .before .before .before .before .before .before .before .before .before .before .before .before .args .at)) _ _ t n a e })
+    (λ c.
+    let start = c .before .before .before .before .before .before .before .before .before .before .before .before .before .before .before .before .before in
+    let a : mapped forget (theoryAt (dims (start .args .characters) (start .args .domains .now)) (start .args .s .now) (start .args .at)) ≡ refused (c .before .k2 .given .0 .0) (c .before .k2 .given .0 .1 .0) = rw (theory-forget, c .before .before .before .before .before .before .before .before .before .before .before .before .read-actions .ensures .answer, c .before .before .before .before .before .before .before .before .actions .given .1, c .before .before .before .before .before .read-triggers .ensures .answer, c .before .k2 .given .1) in
+    record { answer = a; found = λ t n e. no-value (theoryAt (dims (start .args .characters) (start .args .domains .now)) (start .args .s .now) (start .args .at)) _ _ t n a e })
     (λ c. c .before .before .read-utilities .kept .1 .1 .1 .1 .0 ∙ c .before .before .before .before .before .before .before .before .before .read-triggers .kept .1 .1 .1 .1 .0 ∙ c .before .before .before .before .before .before .before .before .before .before .before .before .before .before .before .before .read-actions .kept .1 .1 .1 .1 .0)
-    (λ c. let a : mapped forget (theoryAt (dims (c .before .before .before .before .before .before .before .before .before .before .before .before .before .before .before .before .before .before .before .before .before .args .characters) (c .before .before .before .before .before .before .before .before .before .before .before .before .before .before .before .before .before .before .before .before .before .args .domains .now)) (c .before .before .before .before .before .before .before .before .before .before .before .before .before .before .before .before .before .before .before .before .before .args .s .now) (c .before .before .before .before .before .before .before .before .before .before .before .before .before .before .before .before .before .before .before .before .before .args .at)) ≡ shown (c .before .before .read-utilities .result) = rw (theory-forget, c .before .before .before .before .before .before .before .before .before .before .before .before .before .before .before .before .read-actions .ensures .answer, c .before .before .before .before .before .before .before .before .before .before .before .before .actions .given .1, c .before .before .before .before .before .before .before .before .before .read-triggers .ensures .answer, c .before .before .before .before .before .triggers .given .1, c .before .before .read-utilities .ensures .answer) in record { answer = a; found = theory-marked _ _ _ _ _ _ _ _ _ _ _ _ _ (c .before .before .before .before .before .before .before .before .before .before .before .before .before .before .before .before .before .before .before .before .before .pre .0) (c .before .before .before .before .before .before .before .before .before .before .before .before .before .before .before .before .read-actions .ensures) (c .before .before .before .before .before .before .before .before .before .before .before .before .actions .given .1) (c .before .before .before .before .before .before .before .before .before .read-triggers .ensures) (c .before .before .before .before .before .triggers .given .1) (c .before .before .read-utilities .ensures) a }))
+    (λ c.
+    let start = c .before .before .before .before .before .before .before .before .before .before .before .before .before .before .before .before .before .before .before .before .before in
+    let a : mapped forget (theoryAt (dims (start .args .characters) (start .args .domains .now)) (start .args .s .now) (start .args .at)) ≡ shown (c .before .before .read-utilities .result) = rw (theory-forget, c .before .before .before .before .before .before .before .before .before .before .before .before .before .before .before .before .read-actions .ensures .answer, c .before .before .before .before .before .before .before .before .before .before .before .before .actions .given .1, c .before .before .before .before .before .before .before .before .before .read-triggers .ensures .answer, c .before .before .before .before .before .triggers .given .1, c .before .before .read-utilities .ensures .answer) in
+    record { answer = a; found = theory-marked _ _ _ _ _ _ _ _ _ _ _ _ _ (start .pre .0) (c .before .before .before .before .before .before .before .before .before .before .before .before .before .before .before .before .read-actions .ensures) (c .before .before .before .before .before .before .before .before .before .before .before .before .actions .given .1) (c .before .before .before .before .before .before .before .before .before .read-triggers .ensures) (c .before .before .before .before .before .triggers .given .1) (c .before .before .read-utilities .ensures) a }))

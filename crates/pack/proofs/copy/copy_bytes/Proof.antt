@@ -1,9 +1,9 @@
 -- The first i bytes are copied, and nothing else is changed. Assumes nothing.
-use Rattle.pack.proofs.Copying.{Copying, copying-start, copying-more}
 use borrow.Author.Needs.{needs}
 use native.Mathlib.Omega.{arith}
 use Prim.Native.Nat.{_-_, _≤_}
 use mathlib.Core.Path.{_≡_, refl}
+use Rattle.pack.proofs.Copying.{Copying, copying-start, copying-more}
 use Rattle.pack.proofs.copy.copy_bytes.Statement.{statement}
 use Rattle.pack.proofs.copy.copy_bytes.Tie as tie
 
@@ -28,6 +28,13 @@ copy-bytes-spec =
     (λ c. omega (arith, c .before .before .before .pre .room, c .before .before .loop .inv .0 .only .long))
     (λ c. search needs)
     (λ c. search needs)
-    (λ c. (copying-more _ _ _ _ _ _ _ (c .before .before .loop .i) _ (c .before .before .loop .inv .0) (c .before .loop-test .taken) (omega (arith, c .before .before .before .pre .room, c .before .before .loop .inv .0 .only .long)) refl, omega arith))
+    (λ c.
+    let turn = c .before .before in
+    (copying-more _ _ _ _ _ _ _ (turn .loop .i) _ (turn .loop .inv .0) (c .before .loop-test .taken) (omega (arith, c .before .before .before .pre .room, turn .loop .inv .0 .only .long)) refl, omega arith))
     (λ c. c .before .loop .inv .0 .only .long)
-    (λ c. let same : (c .before .loop .i) ≡ c .before .before .args .count = (let q = c .before .loop .inv .1 in let r = (c .loop-test .left) in omega arith) in record { copied = λ i l. c .before .loop .inv .0 .copied i (omega arith); only = c .before .loop .inv .0 .only }))
+    (λ c.
+    let turn = c .before in
+    let same : (turn .loop .i) ≡ c .before .before .args .count = (let q = turn .loop .inv .1 in
+    let r = (c .loop-test .left) in
+    omega arith) in
+    record { copied = λ i l. turn .loop .inv .0 .copied i (omega arith); only = turn .loop .inv .0 .only }))

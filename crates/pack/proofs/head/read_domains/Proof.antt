@@ -1,7 +1,7 @@
 -- The sizes that are stored and those that are left are what the whole reads. Assumes nothing.
 use borrow.Author.Needs.{needs}
 use native.Mathlib.Omega.{arith}
-use Prim.Native.Nat.{_+_, _-_, _≤_}
+use Prim.Native.Nat.{_+_, _≤_}
 use mathlib.Core.Path.{_≡_, refl, sym, ap, _∙_}
 use mathlib.Core.List.{_++_}
 use lib.ListN.{length, take, length-set}
@@ -31,13 +31,19 @@ read-domains-spec =
     (λ c. (rw (c .before .before .before .read-between .ensures, c .before .fluents .given .1) (sym (mapped-id (many (between 1 129 3) (c .before .fluents .given .0 .0) (c .before .before .before .before .before .args .s .now) (c .before .fluents .given .0 .1 .0)))), omega arith, omega (arith, between-within 1 25 3 _ _ _ _ (c .before .before .before .read-between .ensures ∙ ap said (c .before .fluents .given .1)) .1), refl))
     (λ c κs. search needs)
     (λ c. search needs)
-    (λ c. record { reads = rw (c .before .before .before .before .before .loop .inv .0, stored-one (between 1 129 3) (c .before .before .before .before .before .loop .sizes) (c .before .before .before .before .before .loop .i) _ _ _ (c .before .before .before .before .loop-test .taken) (omega (arith, c .before .before .before .before .before .loop .inv)), c .before .before .before .read-between2 .ensures, c .before .k2 .given .1); few = omega arith; long = c .before .before .before .before .before .loop .inv .3 })
+    (λ c.
+    let turn = c .before .before .before .before .before in
+    record { reads = rw (turn .loop .inv .0, stored-one (between 1 129 3) (turn .loop .sizes) (turn .loop .i) _ _ _ (c .before .before .before .before .loop-test .taken) (omega (arith, turn .loop .inv)), c .before .before .before .read-between2 .ensures, c .before .k2 .given .1); few = omega arith; long = turn .loop .inv .3 })
     (λ c. search needs)
     (λ c. omega (arith, between-within 1 129 3 _ _ _ _ (c .before .before .before .read-between2 .ensures ∙ ap said (c .before .v .given .1)) .1))
     (λ c. omega (arith, c .before .before .before .before .before .loop .inv))
     (λ c. omega (arith, c .before .before .before .before .before .loop .inv))
     (λ c. search needs)
     (λ c. search needs)
-    (λ c. (rw (c .before .before .before .before .before .loop .inv .0, stored-one (between 1 129 3) (c .before .before .before .before .before .loop .sizes) (c .before .before .before .before .before .loop .i) _ _ _ (c .before .before .before .before .loop-test .taken) (omega (arith, c .before .before .before .before .before .loop .inv)), c .before .before .before .read-between2 .ensures, c .before .v .given .1), omega (arith, c .before .before .before .before .before .loop .inv), omega (arith, c .before .before .before .before .before .loop .inv), simp length-set (c .before .before .before .before .before .loop .inv .3)))
+    (λ c.
+    let turn = c .before .before .before .before .before in
+    (rw (turn .loop .inv .0, stored-one (between 1 129 3) (turn .loop .sizes) (turn .loop .i) _ _ _ (c .before .before .before .before .loop-test .taken) (omega (arith, turn .loop .inv)), c .before .before .before .read-between2 .ensures, c .before .v .given .1), omega (arith, turn .loop .inv), omega (arith, turn .loop .inv), simp length-set (turn .loop .inv .3)))
     (λ c. record { reads = rw (c .before .before .before .read-between .ensures, c .before .k .given .1); few = omega arith; long = refl })
-    (λ c. record { reads = c .before .loop .inv .0 ∙ stored-all _ _ (c .before .loop .i) _ (c .before .before .before .fluents .given .0 .0) _ _ (c .loop-test .left) (omega (arith, c .before .loop .inv)); few = c .before .loop .inv .2; long = c .before .loop .inv .3 }))
+    (λ c.
+    let turn = c .before in
+    record { reads = turn .loop .inv .0 ∙ stored-all _ _ (turn .loop .i) _ (c .before .before .before .fluents .given .0 .0) _ _ (c .loop-test .left) (omega (arith, turn .loop .inv)); few = turn .loop .inv .2; long = turn .loop .inv .3 }))

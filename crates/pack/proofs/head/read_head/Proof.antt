@@ -1,7 +1,6 @@
 -- The head is read in the order of its definition. Assumes nothing.
 use borrow.Author.Needs.{needs}
 use native.Mathlib.Omega.{arith}
-use Prim.Native.Nat.{_-_}
 use mathlib.Core.Path.{refl, ap, _∙_}
 use Rattle.pack.specs.Grammar.{headAt}
 use Rattle.pack.specs.Answer.{said, dims}

@@ -1,15 +1,14 @@
 -- What is left ends where the whole ends. Assumes nothing.
-use Rattle.pack.specs.Judge.{alternativeAt, Small}
-use Rattle.pack.specs.Grammar.{Dimensions}
-use Rattle.pack.proofs.Judging.{Left, left-start, left-one, left-next, left-end, counted-starts, test-ends}
 use borrow.Author.Needs.{needs}
 use native.Mathlib.Omega.{arith}
-use Prim.Native.Nat.{ℕ, _-_}
+use Prim.Native.Nat.{ℕ}
 use mathlib.Core.Path.{_≡_, refl}
 use mathlib.Core.List.{List}
+use Rattle.pack.specs.Judge.{alternativeAt, Small}
+use Rattle.pack.specs.Grammar.{Dimensions, testAt}
 use Rattle.pack.specs.Syntax.{Test}
 use Rattle.pack.specs.Reading.{done}
-use Rattle.pack.specs.Grammar.{testAt}
+use Rattle.pack.proofs.Judging.{Left, left-start, left-one, left-next, left-end, counted-starts, test-ends}
 use Rattle.pack.proofs.judge.after_alternative.Statement.{statement}
 use Rattle.pack.proofs.judge.after_alternative.Tie as tie
 
@@ -26,15 +25,33 @@ after-alternative-spec =
     (tie.spec
     Inv-loop
     μ-loop
-    (λ c. omega (arith, counted-starts 9 (testAt (c .before .pre .over)) (c .before .args .s .now) (c .before .args .at) (c .before .pre .value) (c .before .pre .end) (omega arith) (c .before .pre .reads) _ refl .1))
-    (λ c. counted-starts 9 (testAt (c .before .before .pre .over)) (c .before .before .args .s .now) (c .before .before .args .at) (c .before .before .pre .value) (c .before .before .pre .end) (omega arith) (c .before .before .pre .reads) _ refl .1)
+    (λ c.
+    let start = c .before in
+    omega (arith, counted-starts 9 (testAt (start .pre .over)) (start .args .s .now) (start .args .at) (start .pre .value) (start .pre .end) (omega arith) (start .pre .reads) _ refl .1))
+    (λ c.
+    let start = c .before .before in
+    counted-starts 9 (testAt (start .pre .over)) (start .args .s .now) (start .args .at) (start .pre .value) (start .pre .end) (omega arith) (start .pre .reads) _ refl .1)
     (λ c κs. search needs)
-    (λ c. λ d small xs end e. left-start _ _ _ _ _ _ _ (counted-starts 9 (testAt d) (c .before .before .before .args .s .now) (c .before .before .before .args .at) xs end (omega arith) e _ (c .wide .ensures) .0))
-    (λ c. omega (arith, test-ends (c .before .before .before .before .before .pre .over) (c .before .before .before .before .before .pre .small) (c .before .before .before .before .before .args .s .now) (c .before .loop .n) ((left-one (testAt (c .before .before .before .before .before .pre .over)) (c .before .before .before .before .before .args .s .now) (λ (l : List Test). tt {0}) (c .before .before .before .before .before .pre .value) (c .before .before .before .before .before .pre .end) (c .before .loop .n) (c .before .loop .left) (c .before .loop .inv (c .before .before .before .before .before .pre .over) (c .before .before .before .before .before .pre .small) (c .before .before .before .before .before .pre .value) (c .before .before .before .before .before .pre .end) (c .before .before .before .before .before .pre .reads)) (c .loop-test .taken)) .item) ((left-one (testAt (c .before .before .before .before .before .pre .over)) (c .before .before .before .before .before .args .s .now) (λ (l : List Test). tt {0}) (c .before .before .before .before .before .pre .value) (c .before .before .before .before .before .pre .end) (c .before .loop .n) (c .before .loop .left) (c .before .loop .inv (c .before .before .before .before .before .pre .over) (c .before .before .before .before .before .pre .small) (c .before .before .before .before .before .pre .value) (c .before .before .before .before .before .pre .end) (c .before .before .before .before .before .pre .reads)) (c .loop-test .taken)) .place) ((left-one (testAt (c .before .before .before .before .before .pre .over)) (c .before .before .before .before .before .args .s .now) (λ (l : List Test). tt {0}) (c .before .before .before .before .before .pre .value) (c .before .before .before .before .before .pre .end) (c .before .loop .n) (c .before .loop .left) (c .before .loop .inv (c .before .before .before .before .before .pre .over) (c .before .before .before .before .before .pre .small) (c .before .before .before .before .before .pre .value) (c .before .before .before .before .before .pre .end) (c .before .before .before .before .before .pre .reads)) (c .loop-test .taken)) .here) _ refl .1))
-    (λ c. omega (arith, test-ends (c .before .before .before .before .before .before .pre .over) (c .before .before .before .before .before .before .pre .small) (c .before .before .before .before .before .before .args .s .now) (c .before .before .loop .n) ((left-one (testAt (c .before .before .before .before .before .before .pre .over)) (c .before .before .before .before .before .before .args .s .now) (λ (l : List Test). tt {0}) (c .before .before .before .before .before .before .pre .value) (c .before .before .before .before .before .before .pre .end) (c .before .before .loop .n) (c .before .before .loop .left) (c .before .before .loop .inv (c .before .before .before .before .before .before .pre .over) (c .before .before .before .before .before .before .pre .small) (c .before .before .before .before .before .before .pre .value) (c .before .before .before .before .before .before .pre .end) (c .before .before .before .before .before .before .pre .reads)) (c .before .loop-test .taken)) .item) ((left-one (testAt (c .before .before .before .before .before .before .pre .over)) (c .before .before .before .before .before .before .args .s .now) (λ (l : List Test). tt {0}) (c .before .before .before .before .before .before .pre .value) (c .before .before .before .before .before .before .pre .end) (c .before .before .loop .n) (c .before .before .loop .left) (c .before .before .loop .inv (c .before .before .before .before .before .before .pre .over) (c .before .before .before .before .before .before .pre .small) (c .before .before .before .before .before .before .pre .value) (c .before .before .before .before .before .before .pre .end) (c .before .before .before .before .before .before .pre .reads)) (c .before .loop-test .taken)) .place) ((left-one (testAt (c .before .before .before .before .before .before .pre .over)) (c .before .before .before .before .before .before .args .s .now) (λ (l : List Test). tt {0}) (c .before .before .before .before .before .before .pre .value) (c .before .before .before .before .before .before .pre .end) (c .before .before .loop .n) (c .before .before .loop .left) (c .before .before .loop .inv (c .before .before .before .before .before .before .pre .over) (c .before .before .before .before .before .before .pre .small) (c .before .before .before .before .before .before .pre .value) (c .before .before .before .before .before .before .pre .end) (c .before .before .before .before .before .before .pre .reads)) (c .before .loop-test .taken)) .here) _ refl .1))
+    (λ c.
+    let start = c .before .before .before in
+    λ d small xs end e. left-start _ _ _ _ _ _ _ (counted-starts 9 (testAt d) (start .args .s .now) (start .args .at) xs end (omega arith) e _ (c .wide .ensures) .0))
+    (λ c.
+    let start = c .before .before .before .before .before in
+    let turn = c .before in
+    omega (arith, test-ends (start .pre .over) (start .pre .small) (start .args .s .now) (turn .loop .n) ((left-one _ _ _ _ _ _ _ (turn .loop .inv (start .pre .over) (start .pre .small) (start .pre .value) (start .pre .end) (start .pre .reads)) (c .loop-test .taken)) .item) ((left-one _ _ _ _ _ _ _ (turn .loop .inv (start .pre .over) (start .pre .small) (start .pre .value) (start .pre .end) (start .pre .reads)) (c .loop-test .taken)) .place) ((left-one _ _ _ _ _ _ _ (turn .loop .inv (start .pre .over) (start .pre .small) (start .pre .value) (start .pre .end) (start .pre .reads)) (c .loop-test .taken)) .here) _ refl .1))
+    (λ c.
+    let start = c .before .before .before .before .before .before in
+    let turn = c .before .before in
+    omega (arith, test-ends (start .pre .over) (start .pre .small) (start .args .s .now) (turn .loop .n) ((left-one _ _ _ _ _ _ _ (turn .loop .inv (start .pre .over) (start .pre .small) (start .pre .value) (start .pre .end) (start .pre .reads)) (c .before .loop-test .taken)) .item) ((left-one _ _ _ _ _ _ _ (turn .loop .inv (start .pre .over) (start .pre .small) (start .pre .value) (start .pre .end) (start .pre .reads)) (c .before .loop-test .taken)) .place) ((left-one _ _ _ _ _ _ _ (turn .loop .inv (start .pre .over) (start .pre .small) (start .pre .value) (start .pre .end) (start .pre .reads)) (c .before .loop-test .taken)) .here) _ refl .1))
     (λ c κs. search needs)
-    (λ c. omega (arith, test-ends (c .before .before .before .before .before .before .before .pre .over) (c .before .before .before .before .before .before .before .pre .small) (c .before .before .before .before .before .before .before .args .s .now) (c .before .before .before .loop .n) ((left-one (testAt (c .before .before .before .before .before .before .before .pre .over)) (c .before .before .before .before .before .before .before .args .s .now) (λ (l : List Test). tt {0}) (c .before .before .before .before .before .before .before .pre .value) (c .before .before .before .before .before .before .before .pre .end) (c .before .before .before .loop .n) (c .before .before .before .loop .left) (c .before .before .before .loop .inv (c .before .before .before .before .before .before .before .pre .over) (c .before .before .before .before .before .before .before .pre .small) (c .before .before .before .before .before .before .before .pre .value) (c .before .before .before .before .before .before .before .pre .end) (c .before .before .before .before .before .before .before .pre .reads)) (c .before .before .loop-test .taken)) .item) ((left-one (testAt (c .before .before .before .before .before .before .before .pre .over)) (c .before .before .before .before .before .before .before .args .s .now) (λ (l : List Test). tt {0}) (c .before .before .before .before .before .before .before .pre .value) (c .before .before .before .before .before .before .before .pre .end) (c .before .before .before .loop .n) (c .before .before .before .loop .left) (c .before .before .before .loop .inv (c .before .before .before .before .before .before .before .pre .over) (c .before .before .before .before .before .before .before .pre .small) (c .before .before .before .before .before .before .before .pre .value) (c .before .before .before .before .before .before .before .pre .end) (c .before .before .before .before .before .before .before .pre .reads)) (c .before .before .loop-test .taken)) .place) ((left-one (testAt (c .before .before .before .before .before .before .before .pre .over)) (c .before .before .before .before .before .before .before .args .s .now) (λ (l : List Test). tt {0}) (c .before .before .before .before .before .before .before .pre .value) (c .before .before .before .before .before .before .before .pre .end) (c .before .before .before .loop .n) (c .before .before .before .loop .left) (c .before .before .before .loop .inv (c .before .before .before .before .before .before .before .pre .over) (c .before .before .before .before .before .before .before .pre .small) (c .before .before .before .before .before .before .before .pre .value) (c .before .before .before .before .before .before .before .pre .end) (c .before .before .before .before .before .before .before .pre .reads)) (c .before .before .loop-test .taken)) .here) (c .wide2 .result) (c .wide2 .ensures) .1))
+    (λ c.
+    let start = c .before .before .before .before .before .before .before in
+    let turn = c .before .before .before in
+    omega (arith, test-ends (start .pre .over) (start .pre .small) (start .args .s .now) (turn .loop .n) ((left-one _ _ _ _ _ _ _ (turn .loop .inv (start .pre .over) (start .pre .small) (start .pre .value) (start .pre .end) (start .pre .reads)) (c .before .before .loop-test .taken)) .item) ((left-one _ _ _ _ _ _ _ (turn .loop .inv (start .pre .over) (start .pre .small) (start .pre .value) (start .pre .end) (start .pre .reads)) (c .before .before .loop-test .taken)) .place) ((left-one _ _ _ _ _ _ _ (turn .loop .inv (start .pre .over) (start .pre .small) (start .pre .value) (start .pre .end) (start .pre .reads)) (c .before .before .loop-test .taken)) .here) (c .wide2 .result) (c .wide2 .ensures) .1))
     (λ c. search needs)
     (λ c. search needs)
-    (λ c. λ d small xs end e. let x = left-one (testAt d) (c .before .before .before .before .before .before .before .args .s .now) (λ (l : List Test). tt {0}) xs end (c .before .before .before .loop .n) (c .before .before .before .loop .left) (c .before .before .before .loop .inv d small xs end e) (c .before .before .loop-test .taken) in left-next _ _ _ _ _ _ _ x _ (test-ends d small (c .before .before .before .before .before .before .before .args .s .now) (c .before .before .before .loop .n) (x .item) (x .place) (x .here) _ (c .wide2 .ensures) .0) refl)
+    (λ c.
+    let turn = c .before .before .before in
+    λ d small xs end e. let x = left-one _ _ _ _ _ _ _ (turn .loop .inv d small xs end e) (c .before .before .loop-test .taken) in
+    left-next _ _ _ _ _ _ _ x _ (test-ends d small (c .before .before .before .before .before .before .before .args .s .now) (turn .loop .n) (x .item) (x .place) (x .here) _ (c .wide2 .ensures) .0) refl)
     (λ c. λ d small xs end e. left-end _ _ (λ (l : List Test). tt {0}) _ _ _ _ (c .before .loop .inv d small xs end e) (c .loop-test .left)))

@@ -14,7 +14,7 @@ read-between-spec =
     (λ c κs. search needs)
     (λ c. search needs)
     (λ c. search needs)
-    (λ c. rw (c .before .before .before .read-number .ensures, c .before .k .given .1))
     (λ c. search (needs, tests, c .before .before .before .before .read-number .ensures, c .before .before .v .given .1))
+    (λ c. rw (c .before .before .before .read-number .ensures, c .before .k .given .1))
     (λ c. search (needs, tests, c .before .before .before .before .before .read-number .ensures, c .before .before .before .v .given .1))
     (λ c. search (needs, tests, c .before .before .before .before .before .read-number .ensures, c .before .before .before .v .given .1)))

@@ -1,14 +1,13 @@
 -- Where what is left leads from `there` is where the whole leads. Assumes nothing.
-use Rattle.pack.specs.State.{walk, Valid, node}
-use Rattle.pack.specs.Table.{tableOf}
-use Rattle.pack.specs.Judge.{bytesAt}
-use Rattle.pack.proofs.Tables.{cell-in, belief-in-table, walk-one}
-use Rattle.pack.proofs.OneByte.{bytes-one, bytes-none, valid-first, valid-rest}
 use borrow.Author.Needs.{needs}
 use native.Mathlib.Omega.{arith}
 use Prim.Native.Nat.{_+_, _*_, _-_, _<_, _≤_}
 use mathlib.Core.Path.{_≡_, refl, sym, ap, _∙_}
 use lib.ListN.{length, getD}
+use Rattle.pack.specs.State.{walk, Valid}
+use Rattle.pack.specs.Table.{tableOf, bytesAt}
+use Rattle.pack.proofs.Tables.{cell-in, belief-in-table, walk-one}
+use Rattle.pack.proofs.OneByte.{bytes-one, bytes-none, valid-first, valid-rest}
 use Rattle.pack.proofs.table.follow.Statement.{statement}
 use Rattle.pack.proofs.table.follow.Tie as tie
 
@@ -26,17 +25,67 @@ follow-spec =
     (tie.spec
     Inv-loop
     μ-loop
-    (λ c. (refl, c .before .before .pre .1, c .before .before .pre .3, c .before .before .pre .2))
-    (λ c. omega (arith, cell-in (c .before .before .before .before .before .args .t) (c .before .before .before .before .before .args .buffer .now) (c .before .before .before .before .before .pre .0) (c .before .before .loop .there) (c .before .before .before .before .before .args .t .fluents + (getD (c .before .before .before .before .before .args .s .now) (c .before .before .loop .n) 0)) (c .before .before .loop .inv .1) (let v = (valid-first (c .before .before .before .before .before .args .t .characters) (c .before .before .before .before .before .args .s .now) (c .before .before .loop .n) (c .before .before .loop .left) (c .before .loop-test .taken) (c .before .before .loop .inv .2)) in let w = c .before .before .before .before .before .pre .0 .wide in omega arith)))
-    (λ c. omega (arith, cell-in (c .before .before .before .before .before .before .args .t) (c .before .before .before .before .before .before .args .buffer .now) (c .before .before .before .before .before .before .pre .0) (c .before .before .before .loop .there) (c .before .before .before .before .before .before .args .t .fluents + (getD (c .before .before .before .before .before .before .args .s .now) (c .before .before .before .loop .n) 0)) (c .before .before .before .loop .inv .1) (let v = (valid-first (c .before .before .before .before .before .before .args .t .characters) (c .before .before .before .before .before .before .args .s .now) (c .before .before .before .loop .n) (c .before .before .before .loop .left) (c .before .before .loop-test .taken) (c .before .before .before .loop .inv .2)) in let w = c .before .before .before .before .before .before .pre .0 .wide in omega arith)))
-    (λ c. omega (arith, cell-in (c .before .before .before .before .before .before .before .args .t) (c .before .before .before .before .before .before .before .args .buffer .now) (c .before .before .before .before .before .before .before .pre .0) (c .before .before .before .before .loop .there) (c .before .before .before .before .before .before .before .args .t .fluents + (getD (c .before .before .before .before .before .before .before .args .s .now) (c .before .before .before .before .loop .n) 0)) (c .before .before .before .before .loop .inv .1) (let v = (valid-first (c .before .before .before .before .before .before .before .args .t .characters) (c .before .before .before .before .before .before .before .args .s .now) (c .before .before .before .before .loop .n) (c .before .before .before .before .loop .left) (c .before .before .before .loop-test .taken) (c .before .before .before .before .loop .inv .2)) in let w = c .before .before .before .before .before .before .before .pre .0 .wide in omega arith)))
+    (λ c.
+    let start = c .before .before in
+    (refl, start .pre .1, start .pre .3, start .pre .2))
+    (λ c.
+    let start = c .before .before .before .before .before in
+    let turn = c .before .before in
+    omega (
+      arith,
+      cell-in (start .args .t) (start .args .buffer .now) (start .pre .0) (turn .loop .there) (start .args .t .fluents + (getD (start .args .s .now) (turn .loop .n) 0)) (turn .loop .inv .1) (let v = (valid-first (start .args .t .characters) (start .args .s .now) (turn .loop .n) (turn .loop .left) (c .before .loop-test .taken) (turn .loop .inv .2)) in
+          let w = start .pre .0 .wide in
+          omega arith),
+    ))
+    (λ c.
+    let start = c .before .before .before .before .before .before in
+    let turn = c .before .before .before in
+    omega (
+      arith,
+      cell-in (start .args .t) (start .args .buffer .now) (start .pre .0) (turn .loop .there) (start .args .t .fluents + (getD (start .args .s .now) (turn .loop .n) 0)) (turn .loop .inv .1) (let v = (valid-first (start .args .t .characters) (start .args .s .now) (turn .loop .n) (turn .loop .left) (c .before .before .loop-test .taken) (turn .loop .inv .2)) in
+          let w = start .pre .0 .wide in
+          omega arith),
+    ))
+    (λ c.
+    let start = c .before .before .before .before .before .before .before in
+    let turn = c .before .before .before .before in
+    omega (
+      arith,
+      cell-in (start .args .t) (start .args .buffer .now) (start .pre .0) (turn .loop .there) (start .args .t .fluents + (getD (start .args .s .now) (turn .loop .n) 0)) (turn .loop .inv .1) (let v = (valid-first (start .args .t .characters) (start .args .s .now) (turn .loop .n) (turn .loop .left) (c .before .before .before .loop-test .taken) (turn .loop .inv .2)) in
+          let w = start .pre .0 .wide in
+          omega arith),
+    ))
     (λ c. omega (arith, c .before .before .before .before .before .loop .inv .3))
     (λ c κs. search needs)
-    (λ c. omega (arith, cell-in (c .before .before .before .before .before .before .before .before .before .args .t) (c .before .before .before .before .before .before .before .before .before .args .buffer .now) (c .before .before .before .before .before .before .before .before .before .pre .0) (c .before .before .before .before .before .before .loop .there) (c .before .before .before .before .before .before .before .before .before .args .t .fluents + (getD (c .before .before .before .before .before .before .before .before .before .args .s .now) (c .before .before .before .before .before .before .loop .n) 0)) (c .before .before .before .before .before .before .loop .inv .1) (let v = (valid-first (c .before .before .before .before .before .before .before .before .before .args .t .characters) (c .before .before .before .before .before .before .before .before .before .args .s .now) (c .before .before .before .before .before .before .loop .n) (c .before .before .before .before .before .before .loop .left) (c .before .before .before .before .before .loop-test .taken) (c .before .before .before .before .before .before .loop .inv .2)) in let w = c .before .before .before .before .before .before .before .before .before .pre .0 .wide in omega arith), c .wide .ensures))
-    (λ c. omega (arith, cell-in (c .before .before .before .before .before .before .before .before .before .before .args .t) (c .before .before .before .before .before .before .before .before .before .before .args .buffer .now) (c .before .before .before .before .before .before .before .before .before .before .pre .0) (c .before .before .before .before .before .before .before .loop .there) (c .before .before .before .before .before .before .before .before .before .before .args .t .fluents + (getD (c .before .before .before .before .before .before .before .before .before .before .args .s .now) (c .before .before .before .before .before .before .before .loop .n) 0)) (c .before .before .before .before .before .before .before .loop .inv .1) (let v = (valid-first (c .before .before .before .before .before .before .before .before .before .before .args .t .characters) (c .before .before .before .before .before .before .before .before .before .before .args .s .now) (c .before .before .before .before .before .before .before .loop .n) (c .before .before .before .before .before .before .before .loop .left) (c .before .before .before .before .before .before .loop-test .taken) (c .before .before .before .before .before .before .before .loop .inv .2)) in let w = c .before .before .before .before .before .before .before .before .before .before .pre .0 .wide in omega arith), c .before .wide .ensures))
+    (λ c.
+    let start = c .before .before .before .before .before .before .before .before .before in
+    let turn = c .before .before .before .before .before .before in
+    omega (
+      arith,
+      cell-in (start .args .t) (start .args .buffer .now) (start .pre .0) (turn .loop .there) (start .args .t .fluents + (getD (start .args .s .now) (turn .loop .n) 0)) (turn .loop .inv .1) (let v = (valid-first (start .args .t .characters) (start .args .s .now) (turn .loop .n) (turn .loop .left) (c .before .before .before .before .before .loop-test .taken) (turn .loop .inv .2)) in
+          let w = start .pre .0 .wide in
+          omega arith),
+      c .wide .ensures,
+    ))
+    (λ c.
+    let start = c .before .before .before .before .before .before .before .before .before .before in
+    let turn = c .before .before .before .before .before .before .before in
+    omega (
+      arith,
+      cell-in (start .args .t) (start .args .buffer .now) (start .pre .0) (turn .loop .there) (start .args .t .fluents + (getD (start .args .s .now) (turn .loop .n) 0)) (turn .loop .inv .1) (let v = (valid-first (start .args .t .characters) (start .args .s .now) (turn .loop .n) (turn .loop .left) (c .before .before .before .before .before .before .loop-test .taken) (turn .loop .inv .2)) in
+          let w = start .pre .0 .wide in
+          omega arith),
+      c .before .wide .ensures,
+    ))
     (λ c κs. search needs)
     (λ c. omega (arith, c .before .before .before .before .before .before .before .before .loop .inv .3))
     (λ c. search needs)
     (λ c. search needs)
-    (λ c. (c .before .before .before .before .before .before .before .before .loop .inv .0 ∙ ap (walk (tableOf (c .before .before .before .before .before .before .before .before .before .before .before .args .t) (c .before .before .before .before .before .before .before .before .before .before .before .args .buffer .now)) (c .before .before .before .before .before .before .before .before .loop .there)) (bytes-one (c .before .before .before .before .before .before .before .before .before .before .before .args .s .now) (c .before .before .before .before .before .before .before .before .loop .n) (c .before .before .before .before .before .before .before .before .loop .left) (c .before .before .before .before .before .before .before .loop-test .taken)) ∙ walk-one (c .before .before .before .before .before .before .before .before .before .before .before .args .t) (c .before .before .before .before .before .before .before .before .before .before .before .args .buffer .now) (c .before .before .before .before .before .before .before .before .before .before .before .pre .0) (c .before .before .before .before .before .before .before .before .loop .there) (getD (c .before .before .before .before .before .before .before .before .before .before .before .args .s .now) (c .before .before .before .before .before .before .before .before .loop .n) 0) (bytesAt (c .before .before .before .before .before .before .before .before .before .before .before .args .s .now) ((c .before .before .before .before .before .before .before .before .loop .n) + 1) ((c .before .before .before .before .before .before .before .before .loop .left) - 1)) (c .before .before .before .before .before .before .before .before .loop .inv .1) (valid-first (c .before .before .before .before .before .before .before .before .before .before .before .args .t .characters) (c .before .before .before .before .before .before .before .before .before .before .before .args .s .now) (c .before .before .before .before .before .before .before .before .loop .n) (c .before .before .before .before .before .before .before .before .loop .left) (c .before .before .before .before .before .before .before .loop-test .taken) (c .before .before .before .before .before .before .before .before .loop .inv .2)) ∙ ap (λ j. walk (tableOf (c .before .before .before .before .before .before .before .before .before .before .before .args .t) (c .before .before .before .before .before .before .before .before .before .before .before .args .buffer .now)) j (bytesAt (c .before .before .before .before .before .before .before .before .before .before .before .args .s .now) ((c .before .before .before .before .before .before .before .before .loop .n) + 1) ((c .before .before .before .before .before .before .before .before .loop .left) - 1))) (ap (λ k. getD (c .before .before .before .before .before .before .before .before .before .before .before .args .buffer .now) (((c .before .before .before .before .before .before .before .before .before .before .before .args .t .rows + (c .before .before .before .before .before .before .before .before .loop .there) * c .before .before .before .before .before .before .before .before .before .before .before .args .t .width) + c .before .before .before .before .before .before .before .before .before .before .before .args .t .fluents) + k) 0) (c .before .before .wide .ensures) ∙ c .wide2 .ensures), omega (arith, belief-in-table (c .before .before .before .before .before .before .before .before .before .before .before .args .t) (c .before .before .before .before .before .before .before .before .before .before .before .args .buffer .now) (c .before .before .before .before .before .before .before .before .before .before .before .pre .0) (c .before .before .before .before .before .before .before .before .loop .there) (getD (c .before .before .before .before .before .before .before .before .before .before .before .args .s .now) (c .before .before .before .before .before .before .before .before .loop .n) 0) (c .before .before .before .before .before .before .before .before .loop .inv .1) (valid-first (c .before .before .before .before .before .before .before .before .before .before .before .args .t .characters) (c .before .before .before .before .before .before .before .before .before .before .before .args .s .now) (c .before .before .before .before .before .before .before .before .loop .n) (c .before .before .before .before .before .before .before .before .loop .left) (c .before .before .before .before .before .before .before .loop-test .taken) (c .before .before .before .before .before .before .before .before .loop .inv .2)), (ap (λ k. getD (c .before .before .before .before .before .before .before .before .before .before .before .args .buffer .now) (((c .before .before .before .before .before .before .before .before .before .before .before .args .t .rows + (c .before .before .before .before .before .before .before .before .loop .there) * c .before .before .before .before .before .before .before .before .before .before .before .args .t .width) + c .before .before .before .before .before .before .before .before .before .before .before .args .t .fluents) + k) 0) (c .before .before .wide .ensures) ∙ c .wide2 .ensures)), valid-rest _ (c .before .before .before .before .before .before .before .before .before .before .before .args .s .now) (c .before .before .before .before .before .before .before .before .loop .n) (c .before .before .before .before .before .before .before .before .loop .left) (c .before .before .before .before .before .before .before .loop-test .taken) (c .before .before .before .before .before .before .before .before .loop .inv .2), omega (arith, c .before .before .before .before .before .before .before .before .loop .inv .3)))
-    (λ c. (sym (c .before .loop .inv .0 ∙ ap (walk (tableOf (c .before .before .before .before .args .t) (c .before .before .before .before .args .buffer .now)) (c .before .loop .there)) (bytes-none (c .before .before .before .before .args .s .now) (c .before .loop .n) (c .before .loop .left) (c .loop-test .left))), c .before .loop .inv .1)))
+    (λ c.
+    let start = c .before .before .before .before .before .before .before .before .before .before .before in
+    let turn = c .before .before .before .before .before .before .before .before in
+    (turn .loop .inv .0 ∙ ap (walk (tableOf (start .args .t) (start .args .buffer .now)) (turn .loop .there)) (bytes-one (start .args .s .now) (turn .loop .n) (turn .loop .left) (c .before .before .before .before .before .before .before .loop-test .taken)) ∙ walk-one (start .args .t) (start .args .buffer .now) (start .pre .0) (turn .loop .there) (getD (start .args .s .now) (turn .loop .n) 0) (bytesAt (start .args .s .now) ((turn .loop .n) + 1) ((turn .loop .left) - 1)) (turn .loop .inv .1) (valid-first (start .args .t .characters) (start .args .s .now) (turn .loop .n) (turn .loop .left) (c .before .before .before .before .before .before .before .loop-test .taken) (turn .loop .inv .2)) ∙ ap (λ j. walk (tableOf (start .args .t) (start .args .buffer .now)) j (bytesAt (start .args .s .now) ((turn .loop .n) + 1) ((turn .loop .left) - 1))) (ap (λ k. getD (start .args .buffer .now) (((start .args .t .rows + (turn .loop .there) * start .args .t .width) + start .args .t .fluents) + k) 0) (c .before .before .wide .ensures) ∙ c .wide2 .ensures), omega (arith, belief-in-table (start .args .t) (start .args .buffer .now) (start .pre .0) (turn .loop .there) (getD (start .args .s .now) (turn .loop .n) 0) (turn .loop .inv .1) (valid-first (start .args .t .characters) (start .args .s .now) (turn .loop .n) (turn .loop .left) (c .before .before .before .before .before .before .before .loop-test .taken) (turn .loop .inv .2)), (ap (λ k. getD (start .args .buffer .now) (((start .args .t .rows + (turn .loop .there) * start .args .t .width) + start .args .t .fluents) + k) 0) (c .before .before .wide .ensures) ∙ c .wide2 .ensures)), valid-rest _ (start .args .s .now) (turn .loop .n) (turn .loop .left) (c .before .before .before .before .before .before .before .loop-test .taken) (turn .loop .inv .2), omega (arith, turn .loop .inv .3)))
+    (λ c.
+    let start = c .before .before .before .before in
+    let turn = c .before in
+    (sym (turn .loop .inv .0 ∙ ap (walk (tableOf (start .args .t) (start .args .buffer .now)) (turn .loop .there)) (bytes-none (start .args .s .now) (turn .loop .n) (turn .loop .left) (c .loop-test .left))), turn .loop .inv .1)))

@@ -1,18 +1,15 @@
-// Where the parts of a pack stand, marked while they are checked. Action i has nine places from 9 * i on (its condition, effects,
-// consenters, and the observation condition of each character), trigger i two from 288 + 2 * i on (its condition and effects), and
-// the rules of the author and of each character one each from 320 on.
+// Actions: checked, with the places of their parts. Action i has nine places from 9 * i on: its condition, its effects, its consenters,
+// and the observation condition of each character.
 use crate::condition::check_condition;
 use crate::effect::check_consenters;
 use crate::effect::check_effects;
 use crate::number::Checked;
 use crate::number::Number;
 use crate::number::read_between;
-use crate::utility::check_rules;
-ghost use mathlib.Core.Path.{_≡_};
 ghost use Prim.Native.Nat.{_+_, _≤_};
 ghost use lib.ListN.{length};
 ghost use Rattle.pack.specs.Answer.{dims};
-ghost use Rattle.pack.specs.Places.{ObservedRead, ActionRead, ActionsRead, TriggerRead, TriggersRead, UtilitiesRead};
+ghost use Rattle.pack.specs.Places.{ObservedRead, ActionRead, ActionsRead};
 
 // The observation conditions, one for each character.
 pub fn read_observed(
@@ -78,58 +75,6 @@ pub fn read_action(
     }
 }
 
-// A trigger: a condition and effects. Its places are marked from base on.
-pub fn read_trigger(
-    s: &[u8],
-    at: usize,
-    characters: usize,
-    domains: &[u8],
-    places: &mut [usize],
-    base: usize,
-) -> Checked
-    requires { ⌜ (characters ≤ 6) × (base + 2 ≤ length (now places)) ⌝ }
-    ensures { λ r. ⌜ TriggerRead (dims characters (now (domains .entry))) (now (s .entry)) at base (now (places .entry)) (now (places .exit)) r ⌝ }
-{
-    places[base] = at;
-    match check_condition(s, at, characters, domains) {
-        Checked::Refused(k, p) => Checked::Refused(k, p),
-        Checked::Passed(effects) => {
-            places[base + 1] = effects;
-            check_effects(s, effects, characters, domains)
-        }
-    }
-}
-
-// The rules of the author and of each character, marked from 320 on.
-pub fn read_utilities(
-    s: &[u8],
-    at: usize,
-    characters: usize,
-    domains: &[u8],
-    places: &mut [usize],
-) -> Checked
-    requires { ⌜ (characters ≤ 6) × (327 ≤ length (now places)) ⌝ }
-    ensures { λ r. ⌜ UtilitiesRead (dims characters (now (domains .entry))) (now (s .entry)) at (now (places .entry)) (now (places .exit)) r ⌝ }
-{
-    let mut i: usize = 0;
-    let mut n = at;
-    let mut left = characters + 1;
-    while 0 < left {
-        places[320 + i] = n;
-        match check_rules(s, n, characters, domains) {
-            Checked::Refused(k, p) => {
-                return Checked::Refused(k, p);
-            }
-            Checked::Passed(next) => {
-                i = i + 1;
-                n = next;
-                left = left - 1;
-            }
-        }
-    }
-    Checked::Passed(n)
-}
-
 // How many actions there are, and the place after them.
 pub fn read_actions(
     s: &[u8],
@@ -149,40 +94,6 @@ pub fn read_actions(
             let mut left = count;
             while 0 < left {
                 match read_action(s, n, characters, domains, places, 9 * i) {
-                    Checked::Refused(k, p) => {
-                        return Number::Refused(k, p);
-                    }
-                    Checked::Passed(next) => {
-                        i = i + 1;
-                        n = next;
-                        left = left - 1;
-                    }
-                }
-            }
-            Number::Is(count, n)
-        }
-    }
-}
-
-// How many triggers there are, and the place after them.
-pub fn read_triggers(
-    s: &[u8],
-    at: usize,
-    characters: usize,
-    domains: &[u8],
-    places: &mut [usize],
-) -> Number
-    requires { ⌜ (characters ≤ 6) × (327 ≤ length (now places)) ⌝ }
-    ensures { λ r. ⌜ TriggersRead (dims characters (now (domains .entry))) (now (s .entry)) at (now (places .entry)) (now (places .exit)) r ⌝ }
-{
-    match read_between(s, at, 0, 17, 3) {
-        Number::Refused(k, p) => Number::Refused(k, p),
-        Number::Is(count, first) => {
-            let mut i: usize = 0;
-            let mut n = first;
-            let mut left = count;
-            while 0 < left {
-                match read_trigger(s, n, characters, domains, places, 288 + 2 * i) {
                     Checked::Refused(k, p) => {
                         return Number::Refused(k, p);
                     }

@@ -1,0 +1,54 @@
+-- Each part ends where the next begins, and each place is marked. Assumes nothing.
+use borrow.Author.Needs.{needs}
+use native.Mathlib.Omega.{arith}
+use Prim.Native.Nat.{_+_}
+use mathlib.Core.Path.{ap, _∙_}
+use lib.ListN.{length-set}
+use Rattle.pack.specs.Places.{Marked, ActionParts}
+use Rattle.pack.specs.Grammar.{conditionAt}
+use Rattle.pack.specs.Answer.{shown, dims}
+use Rattle.pack.proofs.Marks.{first-one, first-two, first-three, kept-one, kept-two, kept-three, action-first, action-kept, action-parts, when-passed}
+use Rattle.pack.proofs.Laws.{action-forget}
+use Rattle.pack.proofs.action.read_action.Statement.{statement}
+use Rattle.pack.proofs.action.read_action.Tie as tie
+
+pub read-action-spec : {M : Type 1} → statement M
+read-action-spec =
+    tie.close
+    (tie.spec
+    (λ c. search needs)
+    (λ c. search needs)
+    (λ c κs. search needs)
+    (λ c. search needs)
+    (λ c. search needs)
+    (λ c. search needs)
+    (λ c. search needs)
+    (λ c. simp length-set (omega (arith, c .before .before .before .before .before .before .before .pre)))
+    (λ c κs. search needs)
+    (λ c. search needs)
+    (λ c. search needs)
+    (λ c. search needs)
+    (λ c. search needs)
+    (λ c. simp length-set (omega (arith, c .before .before .before .before .before .before .before .before .before .before .before .pre)))
+    (λ c κs. search needs)
+    (λ c. search needs)
+    (λ c. search needs)
+    (λ c. search needs)
+    (λ c κs. simp length-set (omega (arith, c .before .before .before .before .before .before .before .before .before .before .before .before .before .before .before .before .pre)))
+    (λ c. search needs)
+    (λ c.
+    let start = c .before .before .before .before .before .before .before in
+    record { answer = rw (action-forget, c .before .before .before .check-condition .ensures, c .before .k .given .1); starts = first-one (start .args .places .now) (start .args .base) (start .args .at) 0 0 (omega (arith, start .pre)); parts = tt; kept = kept-one (start .args .places .now) (start .args .base) (start .args .at) 0 0 (omega (arith, start .pre)) })
+    (λ c. simp length-set)
+    (λ c.
+    let start = c .before .before .before .before .before .before .before .before .before .before .before in
+    record { answer = rw (action-forget, c .before .before .before .before .before .before .before .check-condition .ensures, c .before .before .before .before .before .effects .given .1, c .before .before .before .check-effects .ensures, c .before .k2 .given .1); starts = first-two (start .args .places .now) (start .args .base) (start .args .at) (c .before .before .before .before .before .effects .given .0 .0) 0 (omega (arith, start .pre)); parts = tt; kept = kept-two (start .args .places .now) (start .args .base) (start .args .at) (c .before .before .before .before .before .effects .given .0 .0) 0 (omega (arith, start .pre)) })
+    (λ c. simp length-set)
+    (λ c.
+    let start = c .before .before .before .before .before .before .before .before .before .before .before .before .before .before .before in
+    record { answer = rw (action-forget, c .before .before .before .before .before .before .before .before .before .before .before .check-condition .ensures, c .before .before .before .before .before .before .before .before .before .effects .given .1, c .before .before .before .before .before .before .before .check-effects .ensures, c .before .before .before .before .before .consenters .given .1, c .before .before .before .check-consenters .ensures, c .before .k3 .given .1); starts = first-three (start .args .places .now) (start .args .base) (start .args .at) (c .before .before .before .before .before .before .before .before .before .effects .given .0 .0) (c .before .before .before .before .before .consenters .given .0 .0) (omega (arith, start .pre)); parts = tt; kept = kept-three (start .args .places .now) (start .args .base) (start .args .at) (c .before .before .before .before .before .before .before .before .before .effects .given .0 .0) (c .before .before .before .before .before .consenters .given .0 .0) (omega (arith, start .pre)) })
+    (λ c. c .before .before .read-observed .kept .1 .1 .1 .1 .0 ∙ simp length-set)
+    (λ c.
+    let start = c .before .before .before .before .before .before .before .before .before .before .before .before .before .before .before .before .before .before .before in
+    let o = c .before .before .read-observed .ensures in
+    record { answer = rw (action-forget, c .before .before .before .before .before .before .before .before .before .before .before .before .before .before .before .check-condition .ensures, c .before .before .before .before .before .before .before .before .before .before .before .before .before .effects .given .1, c .before .before .before .before .before .before .before .before .before .before .before .check-effects .ensures, c .before .before .before .before .before .before .before .before .before .consenters .given .1, c .before .before .before .before .before .before .before .check-consenters .ensures, c .before .before .before .before .before .n .given .1, o .answer); starts = action-first (start .args .places .now) (start .args .base) (start .args .at) (c .before .before .before .before .before .before .before .before .before .before .before .before .before .effects .given .0 .0) (c .before .before .before .before .before .before .before .before .before .consenters .given .0 .0) (omega (arith, start .pre)) (c .before .before .read-observed .last .1 .1 .1 .1 .0) (o .kept); parts = when-passed (c .before .before .read-observed .result) (λ n. Marked (conditionAt (dims (start .args .characters) (start .args .domains .now))) (start .args .s .now) (c .before .before .before .before .before .n .given .0 .0) (c .before .before .read-observed .last .1 .1 .1 .1 .0) (λ b. (start .args .base + 3) + b) (start .args .characters)) (λ n. ActionParts (dims (start .args .characters) (start .args .domains .now)) (start .args .s .now) (c .before .before .read-observed .last .1 .1 .1 .1 .0) (start .args .base)) (λ n m. action-parts (start .args .places .now) (start .args .base) (start .args .at) (c .before .before .before .before .before .before .before .before .before .before .before .before .before .effects .given .0 .0) (c .before .before .before .before .before .before .before .before .before .consenters .given .0 .0) (omega (arith, start .pre)) (c .before .before .read-observed .last .1 .1 .1 .1 .0) (o .kept) (omega (arith, start .pre)) (dims (start .args .characters) (start .args .domains .now)) (start .args .s .now) (c .before .before .before .before .before .n .given .0 .0) (c .before .before .before .before .before .before .before .before .before .before .before .before .before .before .before .check-condition .ensures ∙ ap shown (c .before .before .before .before .before .before .before .before .before .before .before .before .before .effects .given .1)) (c .before .before .before .before .before .before .before .before .before .before .before .check-effects .ensures ∙ ap shown (c .before .before .before .before .before .before .before .before .before .consenters .given .1)) (c .before .before .before .before .before .before .before .check-consenters .ensures ∙ ap shown (c .before .before .before .before .before .n .given .1)) m) (o .marked); kept = action-kept (start .args .places .now) (start .args .base) (start .args .at) (c .before .before .before .before .before .before .before .before .before .before .before .before .before .effects .given .0 .0) (c .before .before .before .before .before .before .before .before .before .consenters .given .0 .0) (omega (arith, start .pre)) (c .before .before .read-observed .last .1 .1 .1 .1 .0) (o .kept) }))

@@ -1,0 +1,49 @@
+-- The rules that are read are marked, and what is left tells what the whole tells. Assumes nothing.
+use borrow.Author.Needs.{needs}
+use native.Mathlib.Omega.{arith}
+use Prim.Native.Nat.{_+_}
+use mathlib.Core.Path.{_≡_, refl, ap, _∙_}
+use lib.ListN.{length, length-set}
+use Rattle.pack.specs.Grammar.{rulesAt}
+use Rattle.pack.specs.Answer.{shown, dims}
+use Rattle.pack.proofs.Marks.{Marking, marking-start, marking-set, marking-refused, marking-whole, marking-all, set-below}
+use Rattle.pack.proofs.utility.read_utilities.Statement.{statement}
+use Rattle.pack.proofs.utility.read_utilities.Tie as tie
+
+abbrev Inv-loop : tie.InvT-loop
+Inv-loop s at characters domains places₀ i₀ n₀ left₀ places i n left =
+    Marking (rulesAt (dims characters domains)) s at (λ k. 320 + k) 320 places₀ places (characters + 1) i n left × (length places ≡ length places₀)
+
+abbrev μ-loop : tie.MeasureT-loop
+μ-loop s at characters domains places₀ i₀ n₀ left₀ places i n left = left
+
+pub read-utilities-spec : {M : Type 1} → statement M
+read-utilities-spec =
+    tie.close
+    (tie.spec
+    Inv-loop
+    μ-loop
+    (λ c. search needs)
+    (λ c. (marking-start _ _ _ _ _ _ _, refl))
+    (λ c. omega (arith, c .before .loop .inv .0 .counts, c .before .before .before .before .before .pre))
+    (λ c. omega (arith, c .before .loop .inv .0 .counts, c .before .before .before .before .before .pre))
+    (λ c.
+    let turn = c .before in
+    omega (arith, turn .loop .inv .1, turn .loop .inv .0 .counts, c .before .before .before .before .before .pre))
+    (λ c κs. search needs)
+    (λ c. search needs)
+    (λ c. simp length-set (c .before .before .before .before .before .loop .inv .1))
+    (λ c.
+    let turn = c .before .before .before .before .before in
+    record { answer = marking-refused _ _ _ _ _ _ _ _ _ _ _ (turn .loop .inv .0) (c .before .before .before .before .loop-test .taken) _ _ (c .before .before .before .check-rules .ensures ∙ ap shown (c .before .k .given .1)); marked = tt; kept = λ k l. set-below (turn .loop .places) (320 + turn .loop .i) (turn .loop .n) 320 (omega arith) k l ∙ turn .loop .inv .0 .kept k l })
+    (λ c. search needs)
+    (λ c. omega (arith, c .before .before .before .before .before .loop .inv .0 .counts, c .before .before .before .before .before .before .before .before .before .pre))
+    (λ c. search needs)
+    (λ c. search needs)
+    (λ c.
+    let turn = c .before .before .before .before .before in
+    (marking-set _ _ _ (λ b. 320 + b) _ _ _ _ (turn .loop .i) _ _ (turn .loop .inv .0) (c .before .before .before .before .loop-test .taken) (omega (arith, turn .loop .inv .1, turn .loop .inv .0 .counts, c .before .before .before .before .before .before .before .before .before .pre)) (λ j l. omega arith) (omega arith) _ (c .before .before .before .check-rules .ensures ∙ ap shown (c .before .next .given .1)), simp length-set (turn .loop .inv .1)))
+    (λ c. c .before .loop .inv .1)
+    (λ c.
+    let turn = c .before in
+    record { answer = marking-whole _ _ _ _ _ _ _ _ _ _ _ (turn .loop .inv .0) (c .loop-test .left); marked = marking-all _ _ _ _ _ _ _ _ _ _ _ (turn .loop .inv .0) (c .loop-test .left); kept = turn .loop .inv .0 .kept }))

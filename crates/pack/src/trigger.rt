@@ -1,0 +1,66 @@
+// Triggers: checked, with the places of their parts. Trigger i has two places from 288 + 2 * i on: its condition and its effects.
+use crate::condition::check_condition;
+use crate::effect::check_effects;
+use crate::number::Checked;
+use crate::number::Number;
+use crate::number::read_between;
+ghost use Prim.Native.Nat.{_+_, _≤_};
+ghost use lib.ListN.{length};
+ghost use Rattle.pack.specs.Answer.{dims};
+ghost use Rattle.pack.specs.Places.{TriggerRead, TriggersRead};
+
+// A trigger: a condition and effects. Its places are marked from base on.
+pub fn read_trigger(
+    s: &[u8],
+    at: usize,
+    characters: usize,
+    domains: &[u8],
+    places: &mut [usize],
+    base: usize,
+) -> Checked
+    requires { ⌜ (characters ≤ 6) × (base + 2 ≤ length (now places)) ⌝ }
+    ensures { λ r. ⌜ TriggerRead (dims characters (now (domains .entry))) (now (s .entry)) at base (now (places .entry)) (now (places .exit)) r ⌝ }
+{
+    places[base] = at;
+    match check_condition(s, at, characters, domains) {
+        Checked::Refused(k, p) => Checked::Refused(k, p),
+        Checked::Passed(effects) => {
+            places[base + 1] = effects;
+            check_effects(s, effects, characters, domains)
+        }
+    }
+}
+
+// How many triggers there are, and the place after them.
+pub fn read_triggers(
+    s: &[u8],
+    at: usize,
+    characters: usize,
+    domains: &[u8],
+    places: &mut [usize],
+) -> Number
+    requires { ⌜ (characters ≤ 6) × (327 ≤ length (now places)) ⌝ }
+    ensures { λ r. ⌜ TriggersRead (dims characters (now (domains .entry))) (now (s .entry)) at (now (places .entry)) (now (places .exit)) r ⌝ }
+{
+    match read_between(s, at, 0, 17, 3) {
+        Number::Refused(k, p) => Number::Refused(k, p),
+        Number::Is(count, first) => {
+            let mut i: usize = 0;
+            let mut n = first;
+            let mut left = count;
+            while 0 < left {
+                match read_trigger(s, n, characters, domains, places, 288 + 2 * i) {
+                    Checked::Refused(k, p) => {
+                        return Number::Refused(k, p);
+                    }
+                    Checked::Passed(next) => {
+                        i = i + 1;
+                        n = next;
+                        left = left - 1;
+                    }
+                }
+            }
+            Number::Is(count, n)
+        }
+    }
+}
