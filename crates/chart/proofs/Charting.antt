@@ -31,7 +31,7 @@ cells-append bytes a k (suc m) =
     ∙ ap (λ (l : List ℕ). cells bytes a k ++ l) (sym (cells-more bytes (a + k) m) ∙ ap (cells bytes (a + k)) (sym two))
 
 -- a list by its first bytes and what was behind them
-front-back : (was now : List ℕ) (n : ℕ) → n ≤ length was → length now ≡ length was → Above was now n → now ≡ cells now 0 n ++ drop n was
+pub front-back : (was now : List ℕ) (n : ℕ) → n ≤ length was → length now ≡ length was → Above was now n → now ≡ cells now 0 n ++ drop n was
 front-back was now n h long above = ext-getD 0 now (cells now 0 n ++ drop n was) (omega (arith, length-append (cells now 0 n) (drop n was), cells-length now 0 n, length-drop n was)) at
   where
     at : (i : ℕ) → i < length now → getD now i 0 ≡ getD (cells now 0 n ++ drop n was) i 0

@@ -9,5 +9,8 @@ pub mod Leveling
 pub mod Parting
 pub mod Outing
 pub mod Charting
+pub mod Calling
+pub mod Looking
+pub mod Asking
 pub mod Climbing
 pub mod Descending

@@ -6,3 +6,4 @@ pub mod Classed
 pub mod Level
 pub mod Out
 pub mod Climb
+pub mod Look

@@ -63,16 +63,19 @@ pub record BodyRead (d : Dimensions) (s : List ℕ) (at : ℕ) (places : List �
   pub answer : mapped forget (bodyAt d s at) ≡ shown (r .answer)
   pub found : (p : Pack) (n : ℕ) → bodyAt d s at ≡ done p n → PackFound s places p r
   pub few : r .fluents ≤ 24
+  pub long : length (r .sizes) ≡ 24
 
 pub record PartsRead (s places : List ℕ) (r : Contents) : Type 0 where
   pub answer : mapped forget (packAt s 0) ≡ shown (r .answer)
   pub found : (p : Pack) (n : ℕ) → packAt s 0 ≡ done p n → PackFound s places p r
   pub few : r .fluents ≤ 24
+  pub long : length (r .sizes) ≡ 24
 
 -- nothing but a refusal
 pub record Refusal (k p : ℕ) (r : Contents) : Type 0 where
   pub answer : r .answer ≡ Refused k p
   pub few : r .fluents ≤ 24
+  pub long : length (r .sizes) ≡ 24
 
 -- accepted, or the refusal
 abbrev pub replied : Checked → Reply (Unit {0})
@@ -89,3 +92,4 @@ pub record PackRead (s places : List ℕ) (r : Contents) : Type 0 where
   pub answer : told forget (packOf s) ≡ replied (r .answer)
   pub found : (p : Pack) → packOf s ≡ gives p → PackFound s places p r
   pub few : r .fluents ≤ 24
+  pub long : length (r .sizes) ≡ 24

@@ -39,6 +39,9 @@ same-place e = cc
 pub same-gift : {A : Type 0} {a b : A} → gives a ≡ gives b → a ≡ b
 same-gift e = cc
 
+pub same-number : {A : Type 0} {j k p q : ℕ} → _≡_ {A = Reply A} (refuses j p) (refuses k q) → j ≡ k
+same-number e = cc
+
 -- both halves of a bind that gives a value
 pub record Both {A B : Type 0} (x : Reading A) (f : A → ℕ → Reading B) (b : B) (n : ℕ) : Type 0 where
   pub value : A

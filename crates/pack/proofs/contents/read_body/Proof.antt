@@ -33,12 +33,12 @@ read-body-spec =
     (λ c.
     let start = c .before .before .before .before .before .before .before .before in
     let a : mapped forget (bodyAt (dims (start .args .characters) (take (start .args .fluents) (start .args .t5))) (start .args .s .now) (start .args .at)) ≡ refused (c .before .before .k .given .0 .0) (c .before .before .k .given .0 .1 .0) = rw (body-forget, c .before .before .before .before .read-between .ensures, c .before .before .k .given .1) in
-    record { answer = a ∙ ap shown (sym (c .refusal .ensures .answer)); found = λ p n e. no-value (bodyAt (dims (start .args .characters) (take (start .args .fluents) (start .args .t5))) (start .args .s .now) (start .args .at)) _ _ p n a e; few = c .refusal .ensures .few })
+    record { answer = a ∙ ap shown (sym (c .refusal .ensures .answer)); found = λ p n e. no-value (bodyAt (dims (start .args .characters) (take (start .args .fluents) (start .args .t5))) (start .args .s .now) (start .args .at)) _ _ p n a e; few = c .refusal .ensures .few; long = c .refusal .ensures .long })
     (λ c.
     let start = c .before .before .before .before .before .before .before .before .before .before .before .before in
     let a : mapped forget (bodyAt (dims (start .args .characters) (take (start .args .fluents) (start .args .t5))) (start .args .s .now) (start .args .at)) ≡ refused (c .before .before .k2 .given .0 .0) (c .before .before .k2 .given .0 .1 .0) = rw (body-forget, c .before .before .before .before .before .before .before .before .read-between .ensures, c .before .before .before .before .before .before .nodes .given .1, c .before .before .before .before .check-rows .ensures, c .before .before .k2 .given .1) in
-    record { answer = a ∙ ap shown (sym (c .refusal2 .ensures .answer)); found = λ p n e. no-value (bodyAt (dims (start .args .characters) (take (start .args .fluents) (start .args .t5))) (start .args .s .now) (start .args .at)) _ _ p n a e; few = c .refusal2 .ensures .few })
+    record { answer = a ∙ ap shown (sym (c .refusal2 .ensures .answer)); found = λ p n e. no-value (bodyAt (dims (start .args .characters) (take (start .args .fluents) (start .args .t5))) (start .args .s .now) (start .args .at)) _ _ p n a e; few = c .refusal2 .ensures .few; long = c .refusal2 .ensures .long })
     (λ c. c .before .before .read-theory .kept .1 .1 .1 .1 .0)
     (λ c.
     let start = c .before .before .before .before .before .before .before .before .before .before .before .before .before .before .before in
-    record { answer = rw (body-forget, c .before .before .before .before .before .before .before .before .before .before .before .read-between .ensures, c .before .before .before .before .before .before .before .before .before .nodes .given .1, c .before .before .before .before .before .before .before .check-rows .ensures, c .before .before .before .before .before .n .given .1, c .before .before .read-theory .ensures .answer); found = body-found _ _ _ _ _ _ _ _ _ _ _ (start .pre .1) (start .pre .2) (c .before .before .before .before .before .before .before .before .before .before .before .read-between .ensures ∙ ap said (c .before .before .before .before .before .before .before .before .before .nodes .given .1)) (c .before .before .before .before .before .before .before .check-rows .ensures ∙ ap shown (c .before .before .before .before .before .n .given .1)) (c .before .before .read-theory .ensures); few = start .pre .1 }))
+    record { answer = rw (body-forget, c .before .before .before .before .before .before .before .before .before .before .before .read-between .ensures, c .before .before .before .before .before .before .before .before .before .nodes .given .1, c .before .before .before .before .before .before .before .check-rows .ensures, c .before .before .before .before .before .n .given .1, c .before .before .read-theory .ensures .answer); found = body-found _ _ _ _ _ _ _ _ _ _ _ (start .pre .1) (start .pre .2) (c .before .before .before .before .before .before .before .before .before .before .before .read-between .ensures ∙ ap said (c .before .before .before .before .before .before .before .before .before .nodes .given .1)) (c .before .before .before .before .before .before .before .check-rows .ensures ∙ ap shown (c .before .before .before .before .before .n .given .1)) (c .before .before .read-theory .ensures); few = start .pre .1; long = start .pre .2 }))

@@ -17,7 +17,7 @@ read-pack-spec =
     (λ c κs. search needs)
     (λ c.
     let start = c .before .before .before .before in
-    record { answer = ap (told forget) (pack-long (start .args .s .now) (c .before .if1 .taken)) ∙ ap replied (sym (c .refusal .ensures .answer)); found = λ p e. never-gives (sym (pack-long (start .args .s .now) (c .before .if1 .taken)) ∙ e); few = c .refusal .ensures .few })
+    record { answer = ap (told forget) (pack-long (start .args .s .now) (c .before .if1 .taken)) ∙ ap replied (sym (c .refusal .ensures .answer)); found = λ p e. never-gives (sym (pack-long (start .args .s .now) (c .before .if1 .taken)) ∙ e); few = c .refusal .ensures .few; long = c .refusal .ensures .long })
     (λ c κs. search needs)
     (λ c. search needs)
     (λ c. search needs)
@@ -25,13 +25,13 @@ read-pack-spec =
     (λ c. c .before .before .before .before .read-parts .kept .1 .0)
     (λ c.
     let start = c .before .before .before .before .before .before .before .before .before in
-    record { answer = pack-told (start .args .s .now) (c .before .before .before .before .read-parts .result .answer) (c .before .before .before .before .before .before .if1 .left) (c .before .before .before .before .read-parts .ensures .answer) ∙ ended-refused (length (start .args .s .now)) _ _ _ (c .enum-told .given .1); found = λ p e. c .before .before .before .before .read-parts .ensures .found p _ (pack-all (start .args .s .now) (c .before .before .before .before .before .before .if1 .left) p e); few = c .before .before .before .before .read-parts .ensures .few })
+    record { answer = pack-told (start .args .s .now) (c .before .before .before .before .read-parts .result .answer) (c .before .before .before .before .before .before .if1 .left) (c .before .before .before .before .read-parts .ensures .answer) ∙ ended-refused (length (start .args .s .now)) _ _ _ (c .enum-told .given .1); found = λ p e. c .before .before .before .before .read-parts .ensures .found p _ (pack-all (start .args .s .now) (c .before .before .before .before .before .before .if1 .left) p e); few = c .before .before .before .before .read-parts .ensures .few; long = c .before .before .before .before .read-parts .ensures .long })
     (λ c. c .before .before .before .before .before .before .read-parts .kept .1 .0)
     (λ c.
     let start = c .before .before .before .before .before .before .before .before .before .before .before in
-    record { answer = pack-told (start .args .s .now) (c .before .before .before .before .before .before .read-parts .result .answer) (c .before .before .before .before .before .before .before .before .if1 .left) (c .before .before .before .before .before .before .read-parts .ensures .answer) ∙ ended-passed _ _ _ (c .before .before .answer .given .1) (c .if2 .taken); found = λ p e. c .before .before .before .before .before .before .read-parts .ensures .found p _ (pack-all (start .args .s .now) (c .before .before .before .before .before .before .before .before .if1 .left) p e); few = c .before .before .before .before .before .before .read-parts .ensures .few })
+    record { answer = pack-told (start .args .s .now) (c .before .before .before .before .before .before .read-parts .result .answer) (c .before .before .before .before .before .before .before .before .if1 .left) (c .before .before .before .before .before .before .read-parts .ensures .answer) ∙ ended-passed _ _ _ (c .before .before .answer .given .1) (c .if2 .taken); found = λ p e. c .before .before .before .before .before .before .read-parts .ensures .found p _ (pack-all (start .args .s .now) (c .before .before .before .before .before .before .before .before .if1 .left) p e); few = c .before .before .before .before .before .before .read-parts .ensures .few; long = c .before .before .before .before .before .before .read-parts .ensures .long })
     (λ c. c .before .before .before .before .before .before .before .read-parts .kept .1 .0)
     (λ c.
     let start = c .before .before .before .before .before .before .before .before .before .before .before .before in
     let a = pack-told (start .args .s .now) (c .before .before .before .before .before .before .before .read-parts .result .answer) (c .before .before .before .before .before .before .before .before .before .if1 .left) (c .before .before .before .before .before .before .before .read-parts .ensures .answer) ∙ ended-early _ _ _ (c .before .before .before .answer .given .1) (c .before .if2 .left) in
-    record { answer = a ∙ ap replied (sym (c .refusal2 .ensures .answer)); found = λ p e. no-pack (start .args .s .now) _ _ p a e; few = c .refusal2 .ensures .few }))
+    record { answer = a ∙ ap replied (sym (c .refusal2 .ensures .answer)); found = λ p e. no-pack (start .args .s .now) _ _ p a e; few = c .refusal2 .ensures .few; long = c .refusal2 .ensures .long }))

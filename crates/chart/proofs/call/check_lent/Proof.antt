@@ -1,0 +1,10 @@
+-- Each case of what was said before. Assumes nothing.
+use borrow.Author.Needs.{needs}
+use Rattle.chart.proofs.Calling.{lent-refused, lent-passed}
+use Rattle.chart.proofs.call.check_lent.Statement.{statement}
+use Rattle.chart.proofs.call.check_lent.Tie as tie
+
+pub check-lent-spec : {M : Type 1} → statement M
+check-lent-spec =
+    tie.close
+    (tie.spec (λ c. search needs) (λ c. search needs) (λ c. lent-refused _ _ _ (c .before .said .given .1)) (λ c. lent-passed _ _ _ _ (c .before .before .before .said2 .given .1) (c .before .if1 .taken) (c .if2 .taken)) (λ c. search needs) (λ c. search needs))

@@ -1,0 +1,29 @@
+-- The chart is loaded, the chain followed, and the buffer cleared. Assumes nothing.
+use mathlib.Core.Path.{refl}
+use Prim.Native.Nat.{_+_, _*_, _<_}
+use native.Mathlib.Omega.{arith}
+use borrow.Author.Needs.{needs}
+use Rattle.chart.proofs.Looking.{look-copies, look-follows, look-in, looked}
+use Rattle.chart.proofs.query.look.Statement.{statement}
+use Rattle.chart.proofs.query.look.Tie as tie
+
+copy-table-requires : tie.Need-copy-table-requires
+copy-table-requires c κs = look-copies (c .before .before .before .before .pre)
+
+follow-requires : tie.Need-follow-requires
+follow-requires c κs = look-follows (c .before .before .before .before .before .before .before .before .pre) (c .before .before .before .copy-table .ensures)
+
+-- the value lies in the table
+there : (c : tie.After-follow) → let a = c .before .before .before .before .before .before .before .before .before .args in (1 + c .follow .result * (a .fluents + a .characters)) + a .fluent < 961
+there c = look-in (c .before .before .before .before .before .before .before .before .before .pre) (c .before .before .before .before .copy-table .ensures) (c .follow .ensures .0) (c .follow .ensures .1)
+
+slice-read-value : tie.Need-slice-read-value
+slice-read-value c = omega (arith, there (c .before), c .before .before .before .before .before .before .before .before .before .before .pre .room, c .before .before .before .before .before .copy-table .ensures .long)
+
+returns : tie.Need-returns
+returns c = looked (c .before .before .before .before .before .before .before .before .before .before .before .before .before .before .pre) (c .before .before .before .before .before .before .before .before .before .copy-table .ensures) (c .before .before .before .before .before .follow .ensures .0) (c .before .before .before .before .before .follow .ensures .1) refl (c .before .before .clear .ensures) (search needs)
+
+pub look-spec : {M : Type 1} → statement M
+look-spec =
+    tie.close
+    (tie.spec copy-table-requires (λ c. search needs) follow-requires (λ c. search needs) (λ c. omega (arith, there c)) (λ c. omega (arith, there c)) (λ c. omega (arith, there c)) slice-read-value (λ c κs. search needs) (λ c. search needs) returns)
