@@ -4,23 +4,22 @@ use crate::{expected, probe};
 use reference::refusal::Refusal;
 use std::collections::BTreeMap;
 use std::fmt;
+use std::hint::black_box;
 
 /// How many inputs met each number; 0 is an accepted one.
 #[derive(Default)]
 pub struct Tally {
     met: BTreeMap<u8, usize>,
-    /// What is lent, kept apart from the input so that a change would show.
-    room: Vec<u8>,
 }
 
-/// Bytes before and behind what is lent. A number read there would be in order.
+/// Bytes before, between and behind what is lent. A number read there would be in order.
 const MARGIN: [u8; 16] = [1; 16];
 
 impl Tally {
     /// Both read a pack. Panics where they differ, or where the library changes a byte of what it is lent.
     pub fn pack(&mut self, pack: &[u8]) {
         let expected = expected::pack(pack);
-        let found = self.lending(pack, probe::pack);
+        let found = lending([pack], |[pack]| probe::pack(pack));
         assert_eq!(found, expected, "the library and the reference differ on the pack {}", hex(pack));
         self.count(expected.err());
     }
@@ -28,20 +27,9 @@ impl Tally {
     /// Both read a chart under a pack.
     pub fn chart(&mut self, pack: &[u8], chart: &[u8]) {
         let expected = expected::chart(pack, chart);
-        let found = self.lending(chart, |lent| probe::chart(pack, lent));
+        let found = lending([pack, chart], |[pack, chart]| probe::chart(pack, chart));
         assert_eq!(found, expected, "the two differ on the chart {} under the pack {}", hex(chart), hex(pack));
         self.count(expected.err());
-    }
-
-    /// Lends a copy with a margin on both sides, all of which must stay as it is.
-    fn lending<T>(&mut self, bytes: &[u8], ask: impl FnOnce(&[u8]) -> T) -> T {
-        self.room.clear();
-        [&MARGIN[..], bytes, &MARGIN].into_iter().for_each(|part| self.room.extend_from_slice(part));
-        let answer = ask(&self.room[MARGIN.len()..MARGIN.len() + bytes.len()]);
-        let (before, rest) = self.room.split_at(MARGIN.len());
-        let (lent, behind) = rest.split_at(bytes.len());
-        assert!(before == MARGIN && behind == MARGIN && lent == bytes, "lent bytes were changed: {}", hex(bytes));
-        answer
     }
 
     fn count(&mut self, refusal: Option<Refusal>) {
@@ -62,6 +50,21 @@ impl fmt::Display for Tally {
         write!(f, "{} compared: {} accepted", self.all(), self.of(0))?;
         self.met.iter().filter(|(&number, _)| number != 0).try_for_each(|(n, met)| write!(f, ", {met} refused as {n}"))
     }
+}
+
+/// Lends copies. They and what is around them must stay as they are.
+fn lending<const N: usize, T>(parts: [&[u8]; N], ask: impl FnOnce([&[u8]; N]) -> T) -> T {
+    let mut room = MARGIN.to_vec();
+    let places = parts.map(|part| {
+        let start = room.len();
+        room.extend(part);
+        room.extend(MARGIN);
+        start..start + part.len()
+    });
+    let before = room.clone();
+    let answer = ask(places.map(|place| &room[place]));
+    assert!(*black_box(&room) == before, "lent bytes were changed: {}", hex(&before));
+    answer
 }
 
 fn hex(bytes: &[u8]) -> String {
