@@ -1,0 +1,63 @@
+-- The report is too short, or the pack is refused, or its counts are written. Assumes nothing.
+use Rattle.probe.proofs.Replies.{refused-told, accepted}
+use Rattle.probe.proofs.Reports.{pack-short, pack-refused, pack-accepted}
+use borrow.Author.Needs.{needs}
+use Rattle.probe.proofs.pirwodd_probe_pack.Statement.{statement}
+use Rattle.probe.proofs.pirwodd_probe_pack.Tie as tie
+
+returns : tie.Need-returns
+returns c = pack-short _ _ (c .if1 .taken)
+
+slice-aggregate-read-pack : tie.Need-slice-aggregate-read-pack
+slice-aggregate-read-pack c = search needs
+
+read-pack-requires : tie.Need-read-pack-requires
+read-pack-requires c κs = search needs
+
+enum-known-answer : tie.Need-enum-known-answer
+enum-known-answer c = search needs
+
+wide-place-requires : tie.Need-wide-place-requires
+wide-place-requires c κs = search needs
+
+slice-write-report : tie.Need-slice-write-report
+slice-write-report c = search needs
+
+wide-number-requires : tie.Need-wide-number-requires
+wide-number-requires c κs = search needs
+
+enum-told : tie.Need-enum-told
+enum-told c = search needs
+
+put-counts-requires : tie.Need-put-counts-requires
+put-counts-requires c κs = search needs
+
+same-length : tie.Need-same-length
+same-length c = search needs
+
+returns-2 : tie.Need-returns-2
+returns-2 c = pack-refused _ _ _ _ _ _ (c .before .before .before .before .before .before .before .before .if1 .left) (refused-told _ _ _ _ (c .before .before .before .before .before .before .read-pack .ensures .answer) (c .before .before .before .answer .given .1)) (c .wide-number .ensures) (c .before .wide-place .ensures)
+
+same-length-2 : tie.Need-same-length-2
+same-length-2 c = search needs
+
+returns-3 : tie.Need-returns-3
+returns-3 c = pack-accepted _ _ _ _ _ (c .before .before .before .before .before .before .before .before .before .if1 .left) (accepted _ _ _ _ (c .before .before .before .before .before .before .before .read-pack .ensures) (c .before .before .before .before .enum-told .given .1)) (c .before .before .put-counts .ensures)
+
+pub pirwodd-probe-pack-spec : {M : Type 1} → statement M
+pirwodd-probe-pack-spec =
+    tie.close
+    (tie.spec
+    returns
+    slice-aggregate-read-pack
+    read-pack-requires
+    enum-known-answer
+    wide-place-requires
+    slice-write-report
+    wide-number-requires
+    enum-told
+    put-counts-requires
+    same-length
+    returns-2
+    same-length-2
+    returns-3)
