@@ -16,10 +16,11 @@ use Rattle.pack.specs.Number.{numberAt, between, counted, beliefAt}
 use Rattle.pack.specs.Grammar.{Dimensions, dimensions, headAt, valueAt, nodeAt, nodesAt, theoryAt, packAt, packOf, chartOf, inChart}
 use Rattle.pack.specs.State.{Closed, nowhere}
 use Rattle.pack.specs.Answer.{dims}
-use Rattle.pack.specs.Contents.{Gives, bodyAt}
+use Rattle.pack.specs.Contents.{Gives, PackFound, bodyAt}
 use Rattle.pack.specs.Table.{rowsAt, tableOf, TableFits}
 use Rattle.pack.specs.Judge.{Small, Over, Readable, Judged}
-use Rattle.pack.specs.Copy.{Shaped, TableCopied}
+use Rattle.pack.specs.Copy.{Shaped, TableCopyable, TableCopied}
+use Rattle.pack.specs.declared.contents.Contents.{Contents}
 use Rattle.pack.specs.declared.table.Table.{Table}
 use Rattle.pack.specs.Laws.Reading.{never-gives, ended-gives, same-value, Both, both, Mapped, unmapped, passed, failed}
 use Rattle.pack.proofs.Laws.{between-within}
@@ -159,3 +160,28 @@ module _ (s : List ℕ) (at nodes : ℕ) (was now : List ℕ) (base F C : ℕ) (
     inside = let l = c .long in omega arith;
     closed = subst (Closed C) (sym copied-nodes) (subst (λ (k : ℕ). Closed k t) (shaped .characters) (nodes-closed d nodes s at t n e));
   }
+
+  pub copied-over : Over d copied
+  copied-over = record { small = shaped .small; characters = shaped .characters; fluents = shaped .fluents }
+
+-- the nodes of an accepted pack, and of a chart, can be copied where there is room
+pub pack-shaped : (s places : List ℕ) (p : Pack) (r : Contents) → packOf s ≡ gives p → PackFound s places p r → Shaped (dims (p .theory .characters) (p .theory .domains)) (r .fluents) (r .characters)
+pack-shaped s places p r e f = record { small = small-pack s p e; fluents = f .fluents; characters = f .characters }
+
+pub pack-copyable : (s places : List ℕ) (p : Pack) (r : Contents) → packOf s ≡ gives p → PackFound s places p r
+    → (buffer : List ℕ) (base : ℕ) → (base + 1) + r .nodes * (r .fluents + r .characters) ≤ length buffer → TableCopyable s (r .first) (r .nodes) buffer base (r .fluents) (r .characters)
+pack-copyable s places p r e f buffer base room = record {
+  dimensions = dims (p .theory .characters) (p .theory .domains);
+  sized = pack-shaped s places p r e f;
+  few = f .mostNodes;
+  value = p .nodes;
+  end = f .rows .end;
+  reads = f .rows .reads;
+  room = room;
+}
+
+pub chart-copyable : (p : Theory) (s : List ℕ) (t : List Node) → chartOf p s ≡ gives t → (F C : ℕ) → Shaped (dimensions p) F C
+    → (buffer : List ℕ) (base : ℕ) → (base + 1) + length t * (F + C) ≤ length buffer → TableCopyable s 1 (length t) buffer base F C
+chart-copyable p s t e F C shaped buffer base room =
+    let (reads, few, count) = nodes-first (dimensions p) s 0 t (length s) (chart-nodes p s t e) in
+    record { dimensions = dimensions p; sized = shaped; few = few; value = t; end = length s; reads = reads; room = room }
