@@ -198,6 +198,7 @@ body-found characters fluents sizes s at places k first m c answer few long b ro
       domains = ap (λ (x : Dimensions). x .domains) (sym same);
       fluents = ap (λ (x : Dimensions). length (x .domains)) (sym same) ∙ length-take-le fluents sizes (omega arith);
       nodes = ap (λ (x : Pack). length (x .nodes)) (sym (u .right)) ∙ many-length (nodeAt d k) k s first (b0 .value) (b0 .place) r0;
+      someNodes = between-within 1 33 3 s at k first b .0;
       mostNodes = let w = between-within 1 33 3 s at k first b in let h = w .1 in omega arith;
       rows = subst (λ (x : Dimensions). Gives (many (nodeAt x k) k) s first (p .nodes)) same (record { end = b0 .place; reads = r0 ∙ ap (λ (x : Pack). done (x .nodes) (b0 .place)) (u .right) });
       theory = subst (λ (x : Dimensions). TheoryFound x s places (p .theory) (c .actions) (c .triggers)) same (subst (λ (x : Pack). TheoryFound d s places (x .theory) (c .actions) (c .triggers)) (u .right) f);

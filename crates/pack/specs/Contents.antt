@@ -51,6 +51,7 @@ pub record PackFound (s places : List ℕ) (p : Pack) (r : Contents) : Type 0 wh
   pub domains : p .theory .domains ≡ take (r .fluents) (r .sizes)
   pub fluents : length (p .theory .domains) ≡ r .fluents
   pub nodes : length (p .nodes) ≡ r .nodes
+  pub someNodes : 1 ≤ r .nodes
   pub mostNodes : r .nodes ≤ 32
   pub rows : Gives (many (nodeAt (dims (p .theory .characters) (p .theory .domains)) (r .nodes)) (r .nodes)) s (r .first) (p .nodes)
   pub theory : TheoryFound (dims (p .theory .characters) (p .theory .domains)) s places (p .theory) (r .actions) (r .triggers)
