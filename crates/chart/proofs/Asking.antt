@@ -21,7 +21,7 @@ use Rattle.pack.specs.declared.number.Number.the-variants as numbers
 use Rattle.pack.proofs.Low.{pack-refusal, chart-refusal}
 use Rattle.pack.proofs.Laws.{between-within}
 use Rattle.pack.proofs.Found.{many-length}
-use Rattle.pack.proofs.Ready.{small-pack, nodes-first, chart-nodes}
+use Rattle.pack.proofs.Ready.{nodes-first, chart-nodes, pack-shaped}
 use Rattle.chart.specs.declared.Queried.the-variants as queried
 use Rattle.chart.specs.Call.{chartsOf, call, byChecks, fits, workRoom, workAfter, cleared}
 use Rattle.chart.specs.Replies.{allBelow, firstOf, queryReply}
@@ -191,7 +191,7 @@ module _ {pack places : List ℕ} (chart chain : List ℕ) (fluent : ℕ) (work 
         let reads = chart-nodes theory chart (x .table) (x .read) in
         let (rows, few, first) = nodes-first (dimensions theory) chart 0 (x .table) (length chart) reads in record {
           dimensions = dims (theory .characters) (theory .domains);
-          shaped = record { small = small-pack pack (x .thePack) (x .accepted); fluents = x .found .fluents; characters = x .found .characters };
+          shaped = pack-shaped pack places (x .thePack) p (x .accepted) (x .found);
           some = omega (arith, some-nodes (dimensions theory) chart 0 (x .table) (length chart) reads, x .long);
           few = omega (arith, few, x .long);
           end = length chart;
