@@ -30,7 +30,7 @@ use Rattle.chart.specs.Inner.Look.{NodesRead, Lookable, Looked}
 use Rattle.chart.proofs.Calling.{and-true, below-valid}
 
 -- the numbers that the checks refuse under
-low-checks : (k : ℕ) → k ≤ 9 → byChecks k ≡ true
+pub low-checks : (k : ℕ) → k ≤ 9 → byChecks k ≡ true
 low-checks k h = ap (λ (b : Bool). b || leb 21 k) (lt-ltb k 10 (omega arith))
 
 high-checks : (k : ℕ) → 21 ≤ k → byChecks k ≡ true

@@ -12,5 +12,7 @@ pub mod Charting
 pub mod Calling
 pub mod Looking
 pub mod Asking
+pub mod Starting
+pub mod Beginning
 pub mod Climbing
 pub mod Descending

@@ -7,3 +7,4 @@ pub mod Level
 pub mod Out
 pub mod Climb
 pub mod Look
+pub mod Start

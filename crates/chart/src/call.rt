@@ -6,7 +6,7 @@ use pack::number::Number;
 ghost use mathlib.Core.Path.{_≡_};
 ghost use mathlib.Core.Bool.{_&&_};
 ghost use lib.ListN.{length};
-ghost use lib.Dec.{ltb};
+ghost use lib.Dec.{ltb, leb};
 ghost use Rattle.pack.specs.Reading.{gives, refuses, with, told, pick, whole};
 ghost use Rattle.pack.specs.Grammar.{nodesAt, inChart};
 ghost use Rattle.pack.specs.Answer.{dims};
@@ -21,6 +21,23 @@ pub fn check_under(said: Checked, characters: usize, domains: &[u8], chart: &[u8
         Checked::Refused(k, p) => Number::Refused(k, p),
         Checked::Passed(_) => check_chart(chart, characters, domains),
     }
+}
+
+// A number, where nothing was refused before it.
+pub fn unless_refused(said: Checked, v: usize, n: usize) -> Number
+    ensures { λ r. ⌜ repliedCount r ≡ with (replied said) (λ u. gives v) ⌝ }
+{
+    match said {
+        Checked::Refused(k, p) => Number::Refused(k, p),
+        Checked::Passed(_) => Number::Is(v, n),
+    }
+}
+
+// Whether two lent buffers, of so many bytes, are long enough.
+pub fn both_fit(first: usize, need: usize, second: usize, work: usize) -> bool
+    ensures { λ r. ⌜ r ≡ (leb need first && leb work second) ⌝ }
+{
+    if need <= first { work <= second } else { false }
 }
 
 // 8 where a lent buffer is too short, else 9 where a number handed in is that of nothing there.

@@ -7,6 +7,7 @@ pub mod merge;
 pub mod number;
 pub mod partition;
 pub mod query;
+pub mod start;
 pub mod write;
 
 // What Start hands back, and Step above it: the length of the chart that was written, or a refusal's number and place.

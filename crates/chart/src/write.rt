@@ -1,4 +1,4 @@
-// Rows put from one buffer into another: a table written out as a chart's bytes, and a chart's or a pack's rows loaded as a table. In a chart a belief is a row's number plus 1.
+// Rows put from one buffer into another, a number added to each belief and one taken away: so a table is written out as a chart's bytes, where a belief is a row's number plus 1.
 ghost use mathlib.Core.Path.{_≡_};
 ghost use Prim.Native.Nat.{ℕ, _+_, _*_, _<_, _≤_};
 ghost use lib.ListN.{length, getD, set};

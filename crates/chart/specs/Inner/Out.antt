@@ -1,5 +1,4 @@
--- Rows of bytes put from one buffer into another, their beliefs with a number added and one taken away: a table written out as a chart's bytes (1 and 0), and a chart's or a
--- pack's rows loaded as a table (how many rows stand before them, and 1). Assumes nothing.
+-- Rows of bytes put from one buffer into another, their beliefs with a number added and one taken away: a table written out as a chart's bytes (1 and 0). Assumes nothing.
 use mathlib.Core.Path.{_≡_}
 use mathlib.Core.List.{List}
 use Prim.Native.Nat.{ℕ, _+_, _*_, _-_, _<_, _≤_}

@@ -1,0 +1,122 @@
+-- A table's rows from place 1 on, merged: where things lie, and that what is left is the written chart of what row 0 means. Assumes nothing.
+use Prim.Native.Nat.{ℕ, _+_, _*_, _<_, _≤_}
+use mathlib.Core.Path.{_≡_, refl, sym, ap, _∙_, subst}
+use mathlib.Core.Logic.{by-cases}
+use mathlib.Core.List.{List, _++_}
+use native.Mathlib.Nat.{mul-le-mul-left, mul-le-mul-right}
+use native.Mathlib.Decide.{decLt}
+use native.Mathlib.Omega.{arith}
+use lib.ListN.{length, drop, set}
+use Rattle.pack.specs.Syntax.{Node}
+use Rattle.pack.specs.State.{meaning, Closed}
+use Rattle.pack.specs.Table.{rowsAt}
+use Rattle.pack.specs.Layout.{chartBytes, ChartFits}
+use Rattle.pack.specs.Answer.{dims}
+use Rattle.pack.specs.Copy.{TableCopyable, TableCopied}
+use Rattle.pack.proofs.Ready.{copied, copied-fits}
+use Rattle.pack.proofs.Tables.{rows-length, belief-in-table}
+use Rattle.chart.specs.Answers.{startTable}
+use Rattle.chart.specs.Call.{workRoom}
+use Rattle.chart.specs.Inner.Numbers.{Laid, Copied, Sound}
+use Rattle.chart.specs.Inner.Put.{Cleared}
+use Rattle.chart.specs.Inner.Out.{RowsPut}
+use Rattle.chart.specs.Inner.Classed.{Room, Classed, WrittenOut}
+use Rattle.chart.specs.Inner.Level.{Levels, Parted}
+use Rattle.chart.specs.Inner.Start.{Mergeable, Merged, Startable, StartPut}
+use Rattle.chart.specs.States.{AtMost}
+use Rattle.chart.specs.Laws.Tabled.{tabled-at}
+use Rattle.chart.specs.Laws.Charted.{chart, few-rows}
+use Rattle.chart.specs.Laws.Answers.{written-short, start-table-iff, fits-table, start-fits}
+use Rattle.chart.proofs.Cells.{rows-same}
+use Rattle.chart.proofs.Merging.{ordered-sound}
+use Rattle.chart.proofs.Charting.{chart-out}
+use Rattle.chart.proofs.Looking.{cleared-all}
+
+module _ {was : List ℕ} {n w f c : ℕ} (p : Mergeable was n w f c) where
+  -- fewer rows are smaller
+  small : (k : ℕ) → k ≤ n → k * w ≤ 960
+  small k h = omega (arith, mul-le-mul-left k (p .slim), mul-le-mul-right 30 h, mul-le-mul-right 30 (p .few))
+
+  pub merge-laid : Laid was n w f c 1 1024 1100
+  merge-laid = record { few = omega (arith, p .few); wide = p .wide; source = omega (arith, small n (omega arith)); scratch = omega (arith, p .few); target = omega (arith, small n (omega arith), p .room) }
+
+  module _ {mid : List ℕ} {k : ℕ} (x : Copied was mid n w f c 1 1024 1100 k) (long : length mid ≡ length was) where
+    pub merge-levels : Levels mid k w f c 1100 2100 2200 2300
+    merge-levels = record { few = omega (arith, x .few, p .few); wide = p .wide; source = omega (arith, small k (x .few)); new = omega (arith, x .few, p .few); old = omega (arith, x .few, p .few); leads = omega (arith, x .few, p .few, p .room) }
+
+    module _ {mid′ : List ℕ} {count : ℕ} (y : Parted mid mid′ k w f c 1100 2100 2200 2300 32 count) (long′ : length mid′ ≡ length mid) where
+      -- the rows are where they were
+      same-table : rowsAt mid′ w f c 1100 k ≡ rowsAt mid w f c 1100 k
+      same-table = rows-same mid mid′ w f c 1100 1100 k (p .wide) (λ q h. y .low (1100 + q) (omega (arith, small k (x .few))))
+
+      pub merge-room : Room mid′ k w f c 1100 2200 2400
+      merge-room = record { wide = p .wide; source = omega (arith, small k (x .few)); classes = omega (arith, x .few, p .few); target = omega (arith, small k (x .few), p .room) }
+
+      -- at most 32 rows are at most 32 classes
+      pub merge-classed : Classed mid′ k w f c 1100 2200
+      merge-classed = by-cases (decLt 32 count) (λ h. absurd (y .many h few-states)) (λ h. y .few (omega arith) .0)
+        where
+          few-states : AtMost 32 c (meaning c (rowsAt mid′ w f c 1100 k) 0)
+          few-states =
+              let t = rowsAt mid′ w f c 1100 k in
+              let size = rows-length mid′ w f c 1100 k in
+              let closed : Closed c t = subst (Closed c) (sym same-table) (x .ordered .closed) in
+              let pos : 0 < length t = omega (arith, x .some) in
+              let written = chart (tabled-at c t closed 0 pos) in
+              few-rows written 32 .1 (omega (arith, written-short c (written .rows) t (written .written) closed pos (written .means), x .few, p .few))
+
+      pub merge-merged : {now : List ℕ} {r : ℕ} → WrittenOut mid′ now k w f c 1100 2400 r → Merged was now n w f c r
+      merge-merged {now} {r} z = record {
+        starts = (z .written, z .means ∙ ap (λ (t : List Node). meaning c t 0) same-table ∙ x .means);
+        few = omega (arith, z .few, x .few);
+        high = λ q h. z .high q (omega (arith, small k (x .few))) ∙ y .high q (omega (arith, x .few, p .few)) ∙ x .high q (omega (arith, small n (omega arith)));
+      }
+
+-- The chart of a pack's nodes
+module _ {pack : List ℕ} {first nodes f c : ℕ} {chart-was work : List ℕ} (p : Startable pack first nodes f c chart-was work) where
+  narrow : f + c ≤ 30
+  narrow = let s = p .shaped in omega (arith, s .small .characters, s .small .fluents, s .fluents)
+
+  table-size : 1 + nodes * (f + c) ≤ 961
+  table-size = omega (arith, mul-le-mul-left nodes narrow, mul-le-mul-right 30 (p .fit .1), p .long)
+
+  pub start-copies : TableCopyable pack first nodes work 0 f c
+  start-copies = record { dimensions = dims c (p .domains); sized = p .shaped; few = omega (arith, p .fit .1, p .long); value = p .table; end = p .end; reads = p .reads; room = omega (arith, table-size, p .work-room) }
+
+  module _ {mid : List ℕ} (x : TableCopied pack first nodes work mid 0 f c) where
+    same-nodes : rowsAt mid (f + c) f c 1 nodes ≡ p .table
+    same-nodes = x .table (dims c (p .domains)) (p .shaped) (p .table) (p .end) (p .reads)
+
+    pub start-merges : Mergeable mid nodes (f + c) f c
+    start-merges = record {
+      some = omega (arith, p .fit .0, p .long);
+      few = omega (arith, p .fit .1, p .long);
+      wide = omega arith;
+      slim = narrow;
+      sound = record {
+        beliefs = λ i k h l. belief-in-table (copied pack first nodes work mid 0 f c x (dims c (p .domains)) (p .shaped) (p .table) (p .end) (p .reads)) mid
+            (copied-fits pack first nodes work mid 0 f c x (dims c (p .domains)) (p .shaped) (p .table) (p .end) (p .reads) (omega (arith, table-size, p .work-room))) i k h l;
+      };
+      room = omega (arith, p .work-room, x .long);
+    }
+
+    module _ {mid′ : List ℕ} {r : ℕ} (y : Merged mid mid′ nodes (f + c) f c r) (long′ : length mid′ ≡ length mid) where
+      chart-is : startTable c (p .table) ≡ rowsAt mid′ (f + c) f c 2400 r
+      chart-is = start-table-iff c (p .table) (fits-table c (p .domains) (p .table) (p .fit)) (rowsAt mid′ (f + c) f c 2400 r) .0 (y .starts .0, y .starts .1 ∙ ap (λ (t : List Node). meaning c t 0) same-nodes)
+
+      merged-size : r * (f + c) ≤ 960
+      merged-size = omega (arith, mul-le-mul-right (f + c) (y .few), table-size)
+
+      pub start-writes : ((r < 256) × (f + c ≤ f + c) × (f + c ≤ f + c) × (2400 + r * (f + c) ≤ length mid′) × (1 + r * (f + c) ≤ length chart-was)) × Sound mid′ r (f + c) f c 2400
+      start-writes = ((omega (arith, y .few, p .fit .1, p .long), omega arith, omega arith, omega (arith, merged-size, p .work-room, x .long), omega (arith, merged-size, p .chart-room)), ordered-sound (y .starts .0 .ordered))
+
+      pub start-put : {chart-now work-now : List ℕ} {n : ℕ} → (n ≡ 1 + r * (f + c)) × RowsPut mid′ (set chart-was 0 r) chart-now (f + c) f c 2400 1 1 0 r → length chart-now ≡ length chart-was
+          → Cleared mid′ work-now 0 workRoom → length work-now ≡ length work → StartPut c (p .table) chart-was chart-now work work-now n
+      start-put {chart-now} {work-now} {n} (e, z) long″ clear longer =
+          let fit : ChartFits c (p .domains) (rowsAt mid′ (f + c) f c 2400 r) = subst (ChartFits c (p .domains)) chart-is (start-fits c (p .domains) (p .table) (p .fit)) in
+          let (out, size) = chart-out chart-was (p .domains) refl (p .shaped .fluents) (p .shaped .small .sizes) z (omega (arith, p .chart-room)) fit (omega (arith, merged-size, p .chart-room)) long″ in
+          record {
+            answer = e ∙ sym size ∙ ap (λ (t : List Node). length (chartBytes t)) (sym chart-is);
+            result = out ∙ ap (λ (t : List Node). chartBytes t ++ drop (length (chartBytes t)) chart-was) (sym chart-is);
+            scratch = cleared-all work clear (λ q h. y .high q (omega arith) ∙ x .above q (omega (arith, table-size))) longer (p .work-room);
+          }

@@ -1,0 +1,28 @@
+-- Loaded, merged, written out, cleared. Assumes nothing.
+use mathlib.Core.Path.{_∙_}
+use borrow.Author.Needs.{needs}
+use Rattle.chart.proofs.Starting.{start-copies, start-merges, start-writes, start-put}
+use Rattle.chart.proofs.start.put_start.Statement.{statement}
+use Rattle.chart.proofs.start.put_start.Tie as tie
+
+copy-table-requires : tie.Need-copy-table-requires
+copy-table-requires c κs = start-copies (c .before .before .before .before .pre)
+
+merge-table-requires : tie.Need-merge-table-requires
+merge-table-requires c κs = start-merges (c .before .before .before .before .before .before .before .before .pre) (c .before .before .before .copy-table .ensures)
+
+write-chart-requires : tie.Need-write-chart-requires
+write-chart-requires c κs = let m = c .before .before .before .before .merge-table in start-writes (c .before .before .before .before .before .before .before .before .before .before .before .before .before .pre) (c .before .before .before .before .before .before .before .before .copy-table .ensures) (m .ensures) (m .kept .0)
+
+returns : tie.Need-returns
+returns c =
+    let l = c .before .before .before .before .before .before .before .before .before .before .before .before .before .before .before .copy-table .ensures in
+    let m = c .before .before .before .before .before .before .before .before .before .before .before .merge-table in
+    let o = c .before .before .before .before .before .before .write-chart in
+    let z = c .before .before .clear in
+    λ x. start-put x l (m .ensures) (m .kept .0) (o .ensures) (o .kept .1 .1 .1 .1 .1 .1 .0) (z .ensures) (z .kept .0 ∙ m .kept .0 ∙ l .long)
+
+pub put-start-spec : {M : Type 1} → statement M
+put-start-spec =
+    tie.close
+    (tie.spec copy-table-requires (λ c. search needs) merge-table-requires (λ c. search needs) write-chart-requires (λ c κs. search needs) (λ c. search needs) (λ c. search needs) returns)
