@@ -10,9 +10,13 @@ pub mod Parting
 pub mod Outing
 pub mod Charting
 pub mod Calling
+pub mod Checking
 pub mod Looking
+pub mod Joining
 pub mod Asking
 pub mod Starting
 pub mod Beginning
 pub mod Climbing
 pub mod Descending
+pub mod Matching
+pub mod Comparing

@@ -53,14 +53,14 @@ module _ {chart : List ℕ} {nodes f c : ℕ} {chain : List ℕ} {fluent : ℕ} 
       omega (arith, mul-le-mul-left nodes a, mul-le-mul-right 30 (r .few))
 
   pub look-copies : TableCopyable chart 1 nodes work 0 f c
-  look-copies = let r = p .read in record { dimensions = r .dimensions; sized = r .shaped; few = r .few; value = p .table; end = r .end; reads = r .reads; room = omega (arith, table-small, p .room) }
+  look-copies = let r = p .read in record { dimensions = r .dimensions; sized = r .shaped; few = r .few; value = p .table; end = length chart; reads = r .reads; room = omega (arith, table-small, p .room) }
 
   abbrev pub lookTable : Table
   lookTable = record { rows = 1; nodes = nodes; fluents = f; characters = c; width = f + c }
 
   module _ {mid : List ℕ} (x : TableCopied chart 1 nodes work mid 0 f c) where
     pub look-table : TableFits lookTable mid
-    look-table = let r = p .read in copied-fits chart 1 nodes work mid 0 f c x (r .dimensions) (r .shaped) (p .table) (r .end) (r .reads) (omega (arith, table-small, p .room))
+    look-table = let r = p .read in copied-fits chart 1 nodes work mid 0 f c x (r .dimensions) (r .shaped) (p .table) (length chart) (r .reads) (omega (arith, table-small, p .room))
 
     pub look-follows : TableFits lookTable mid × (0 < nodes) × (0 + length chain ≤ length chain) × Valid c (bytesAt chain 0 (length chain))
     look-follows = (look-table, p .read .some, omega arith, subst (Valid c) (sym (bytes-whole chain)) (p .valid))
@@ -77,7 +77,7 @@ module _ {chart : List ℕ} {nodes f c : ℕ} {chain : List ℕ} {fluent : ℕ} 
           ∙ ap (λ (l : List ℕ). getD l fluent 0) (sym (finds-walk c t chain 0 (p .valid)))
         where
           same : tableOf lookTable mid ≡ t
-          same = x .table (r .dimensions) (r .shaped) t (r .end) (r .reads)
+          same = x .table (r .dimensions) (r .shaped) t (length chart) (r .reads)
 
       pub looked : {now : List ℕ} {v : ℕ} → v ≡ getD mid ((1 + there * (f + c)) + fluent) 0 → Cleared mid now 0 workRoom → length now ≡ length work → Looked chart nodes f c chain fluent work now v
       looked e z long = record { value = λ t r. e ∙ look-value t r; work = cleared-all work z (λ q h. x .above q (omega (arith, table-small))) long (p .room) }

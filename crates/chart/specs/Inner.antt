@@ -7,4 +7,5 @@ pub mod Level
 pub mod Out
 pub mod Climb
 pub mod Look
+pub mod Match
 pub mod Start

@@ -1,111 +1,100 @@
-// Where two rows of a table part: levels of the partition are kept until they do, and the way down through them is the chain.
+// Compare: whether two charts mean the same, or the chain to where they differ. In the work buffer stand, from place 1 on, the first chart's rows and behind them the second's,
+// its beliefs counted on from there; then the levels of the partition, and its leading rows.
+use crate::Matched;
 use crate::bytes::clear;
-use crate::bytes::wide;
-use crate::partition::first_apart;
-use crate::partition::level;
-ghost use mathlib.Core.Path.{_≡_};
-ghost use Prim.Native.Nat.{ℕ, _+_, _*_, _<_, _≤_};
+use crate::call::both_fit;
+use crate::call::check_lent;
+use crate::call::check_under;
+use crate::climb::climb;
+use crate::climb::descend;
+use crate::partition::first_other;
+use crate::write::put_rows;
+use pack::chart::check_chart;
+use pack::contents::read_pack;
+use pack::number::Number;
+ghost use Prim.Native.Nat.{_≤_};
 ghost use lib.ListN.{length};
-ghost use Rattle.chart.specs.Inner.Numbers.{Sound};
-ghost use Rattle.chart.specs.Inner.Climb.{Stack, Climbed, Parts, Ladder, Descended};
-ghost use Rattle.chart.specs.Inner.Level.{SameClass, RowOk};
+ghost use Rattle.chart.specs.Call.{chainRoom};
+ghost use Rattle.chart.specs.Promises.{Comparison};
+ghost use Rattle.chart.specs.Inner.Match.{Joinable, Joined, Matchable, RowsMatched, ChartsMatched};
 
-// Classes the n rows from t on level by level until rows x and y part: the level at which they do, or 0 where they mean the same. Level j stands at b + (64 - j) * 64.
-pub fn climb(
+// Loads two charts, of n and m nodes, as one table.
+pub fn join(first: &[u8], n: usize, second: &[u8], m: usize, f: usize, c: usize, work: &mut [u8])
+    requires { ⌜ Joinable (now first) n (now second) m f c (now work) ⌝ }
+    ensures { λ _. ⌜ Joined (now (first .entry)) n (now (second .entry)) m f c (now (work .entry)) (now (work .exit)) ⌝ }
+{
+    let w = f + c;
+    put_rows(first, 1, n, w, f, c, work, 1, 0, 1);
+    put_rows(second, 1, m, w, f, c, work, 1 + n * w, n as u8, 1)
+}
+
+// Compares rows 0 and n of the n + m rows from 1 on; the chain to where they differ is written.
+pub fn match_rows(
     work: &mut [u8],
     n: usize,
-    w: usize,
+    m: usize,
     f: usize,
     c: usize,
-    t: usize,
-    b: usize,
-    r: usize,
-    x: usize,
-    y: usize,
-) -> usize
-    requires { ⌜ Stack (now work) n w f c t b r × Sound (now work) n w f c t ⌝ }
-    requires { ⌜ (x < n) × (y < n) ⌝ }
-    ensures { λ k. ⌜ Climbed (now (work .entry)) (now (work .exit)) n w f c t b r x y k ⌝ }
-{
-    clear(work, b + 4096, n);
-    let mut count = 1;
-    let mut k = 0;
-    loop {
-        let old = b + (64 - k) * 64;
-        let new = b + (64 - (k + 1)) * 64;
-        let next = level(work, n, w, f, c, t, new, old, r);
-        if work[new + x] != work[new + y] {
-            return k + 1;
-        }
-        if next <= count {
-            return 0;
-        }
-        count = next;
-        k += 1;
-    }
-}
-
-// A character, and the rows that it leads to from two rows.
-pub struct Way {
-    pub character: usize,
-    pub x: usize,
-    pub y: usize,
-}
-
-// The lowest character whose beliefs in rows x and y, of which there is one, are of different classes, from k on, and the rows that these are.
-pub fn part(
-    work: &[u8],
-    w: usize,
-    f: usize,
-    c: usize,
-    t: usize,
-    k: usize,
-    x: usize,
-    y: usize,
-) -> Way
-    requires { ⌜ (f + c ≤ w) × RowOk (now work) w f c t k x × RowOk (now work) w f c t k y ⌝ }
-    requires { ⌜ (((d : ℕ) → d < c → SameClass (now work) (t + x * w + f) (t + y * w + f) k d) → ⊥) ⌝ }
-    ensures { λ r. ⌜ Parts (now (work .entry)) w f c t k x y (r .character) (r .x) (r .y) ⌝ }
-{
-    let a = t + x * w + f;
-    let b = t + y * w + f;
-    let d = first_apart(work, a, b, c, k);
-    Way {
-        character: d,
-        x: wide(work[a + d]),
-        y: wide(work[b + d]),
-    }
-}
-
-// Goes down from level k, at which rows x and y part, writing the chain to where their values differ; the rows there. Of n, the number of rows, only the contract speaks.
-pub fn descend(
-    work: &[u8],
-    n: usize,
-    w: usize,
-    f: usize,
-    c: usize,
-    t: usize,
-    b: usize,
-    k: usize,
-    x: usize,
-    y: usize,
     chain: &mut [u8],
-) -> Way
-    requires { ⌜ Ladder (now work) n w f c t b k x y × (k ≤ length (now chain) + 1) ⌝ }
-    ensures { λ r. ⌜ Descended (now (work .entry)) (now (chain .entry)) (now (chain .exit)) n w f c t k x y (r .x) (r .y) ⌝ }
+) -> Matched
+    requires { ⌜ Matchable (now work) n m f c (now chain) ⌝ }
+    ensures { λ r. ⌜ RowsMatched (now (work .entry)) (now (work .exit)) n m f c (now (chain .entry)) (now (chain .exit)) r ⌝ }
 {
-    let mut at = Way {
-        character: 0,
-        x: x,
-        y: y,
-    };
-    let mut i = 1;
-    while i < k {
-        let level = b + (64 - (k - i)) * 64;
-        at = part(work, w, f, c, t, level, at.x, at.y);
-        let d = at.character;
-        chain[i - 1] = d as u8;
-        i += 1;
+    let w = f + c;
+    let k = climb(work, n + m, w, f, c, 1, 2048, 6208, 0, n);
+    if k == 0 {
+        return Matched::Same;
     }
-    at
+    let at = descend(work, n + m, w, f, c, 1, 2048, k, 0, n, chain);
+    let fluent = first_other(work, 1 + at.x * w, 1 + at.y * w, f);
+    Matched::Differ(k - 1, fluent)
+}
+
+// Compares two charts, of n and m nodes. The work buffer is cleared.
+pub fn match_charts(
+    first: &[u8],
+    n: usize,
+    second: &[u8],
+    m: usize,
+    f: usize,
+    c: usize,
+    chain: &mut [u8],
+    work: &mut [u8],
+) -> Matched
+    requires { ⌜ Joinable (now first) n (now second) m f c (now work) × (chainRoom ≤ length (now chain)) ⌝ }
+    ensures { λ r. ⌜ ChartsMatched (now (first .entry)) n (now (second .entry)) m f c (now (chain .entry)) (now (chain .exit)) (now (work .entry)) (now (work .exit)) r ⌝ }
+{
+    join(first, n, second, m, f, c, work);
+    let found = match_rows(work, n, m, f, c, chain);
+    clear(work, 0, 49152);
+    found
+}
+
+// Compare(pack, first, second, chain out, work): that both mean the same, or the chain's length and the fluent, the chain written; or a refusal's number and place.
+pub fn compare(
+    pack: &[u8],
+    first: &[u8],
+    second: &[u8],
+    chain: &mut [u8],
+    work: &mut [u8],
+) -> Matched
+    ensures { λ r. ⌜ Comparison (now (pack .entry)) (now (first .entry)) (now (second .entry)) (now (chain .entry)) (now (work .entry)) (now (chain .exit)) (now (work .exit)) r ⌝ }
+{
+    let mut places = [0usize; 327];
+    let p = read_pack(pack, &mut places);
+    let sizes = p.sizes;
+    let answer = p.answer;
+    match check_under(answer, p.characters, &sizes[..p.fluents], first) {
+        Number::Refused(k, at) => Matched::Refused(k, at),
+        Number::Is(n, _) => {
+            let nodes = check_chart(second, p.characters, &sizes[..p.fluents]);
+            let enough = both_fit(chain.len(), 62, work.len(), 49152);
+            match check_lent(nodes, enough, true) {
+                Number::Refused(k, at) => Matched::Refused(k, at),
+                Number::Is(m, _) => {
+                    match_charts(first, n, second, m, p.fluents, p.characters, chain, work)
+                }
+            }
+        }
+    }
 }

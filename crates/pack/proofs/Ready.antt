@@ -22,7 +22,7 @@ use Rattle.pack.specs.Judge.{Small, Over, Readable, Judged}
 use Rattle.pack.specs.Copy.{Shaped, TableCopyable, TableCopied}
 use Rattle.pack.specs.declared.contents.Contents.{Contents}
 use Rattle.pack.specs.declared.table.Table.{Table}
-use Rattle.pack.specs.Laws.Reading.{never-gives, ended-gives, same-value, same-gift, Both, both, Mapped, unmapped, passed, failed}
+use Rattle.pack.specs.Laws.Reading.{never-gives, ended-gives, same-value, same-place, same-gift, Both, both, Mapped, unmapped, passed, failed}
 use Rattle.pack.proofs.Laws.{between-within}
 use Rattle.pack.proofs.OneByte.{between-byte}
 use Rattle.pack.proofs.Copying.{node-bytes}
@@ -139,6 +139,15 @@ rows-stand d F C shaped nodes few s (suc k) (suc j) at t n x e h =
     let r = rows-stand d F C shaped nodes few s k j (b .place) (u .value) n x (u .left) (omega arith) in
     let here : b .place + j * (F + C) ≡ at + suc j * (F + C) = (let q = nb .beliefs .ends in let m = suc-mul j (F + C) in omega arith) in
     subst (λ (m : ℕ). Gives (nodeAt d nodes) s m (getD t (suc j) x)) here (subst (Gives (nodeAt d nodes) s (b .place + j * (F + C))) (ap (λ (l : List Node). getD l (suc j) x) (u .right)) r)
+
+-- and k rows end k rows after the first
+pub rows-end : (d : Dimensions) (F C : ℕ) → Shaped d F C → (nodes : ℕ) → nodes ≤ 32 → (s : List ℕ) (k at : ℕ) (t : List Node) (n : ℕ) → many (nodeAt d nodes) k s at ≡ done t n → n ≡ at + k * (F + C)
+unfolding runs
+rows-end d F C shaped nodes few s zero at t n e = omega (arith, same-place e, zero-mul (F + C))
+rows-end d F C shaped nodes few s (suc k) at t n e =
+    let b = both (nodeAt d nodes s at) (λ a n. mapped (λ rest. a ∷ rest) (many (nodeAt d nodes) k s n)) t n e in
+    let u = unmapped (λ rest. b .value ∷ rest) (many (nodeAt d nodes) k s (b .place)) t n (b .right) in
+    omega (arith, node-bytes d F C shaped nodes few s at (b .value) (b .place) (b .left) .beliefs .ends, rows-end d F C shaped nodes few s k (b .place) (u .value) n (u .left), suc-mul k (F + C))
 
 -- nodes that are read believe in nodes that are read
 belief-below : (nodes : ℕ) (s : List ℕ) (at b n : ℕ) → beliefAt nodes s at ≡ done b n → b < nodes

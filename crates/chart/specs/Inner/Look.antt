@@ -10,14 +10,13 @@ use Rattle.pack.specs.Grammar.{Dimensions, nodeAt}
 use Rattle.pack.specs.Copy.{Shaped}
 use Rattle.chart.specs.Call.{workRoom, cleared}
 
--- the nodes of a chart are read behind its count, which is one byte
+-- the nodes of a chart are read behind its count, which is one byte, up to its end
 pub record NodesRead (chart : List ℕ) (nodes fluents characters : ℕ) (t : List Node) : Type 0 where
   pub dimensions : Dimensions
   pub shaped : Shaped dimensions fluents characters
   pub some : 0 < nodes
   pub few : nodes ≤ 32
-  pub end : ℕ
-  pub reads : many (nodeAt dimensions nodes) nodes chart 1 ≡ done t end
+  pub reads : many (nodeAt dimensions nodes) nodes chart 1 ≡ done t (length chart)
 
 pub record Lookable (chart : List ℕ) (nodes fluents characters : ℕ) (chain : List ℕ) (fluent : ℕ) (work : List ℕ) : Type 0 where
   pub table : List Node

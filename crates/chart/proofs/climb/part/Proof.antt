@@ -2,8 +2,8 @@
 use native.Mathlib.Omega.{arith}
 use borrow.Author.Needs.{needs}
 use Rattle.chart.proofs.Descending.{parts-within}
-use Rattle.chart.proofs.compare.part.Statement.{statement}
-use Rattle.chart.proofs.compare.part.Tie as tie
+use Rattle.chart.proofs.climb.part.Statement.{statement}
+use Rattle.chart.proofs.climb.part.Tie as tie
 
 first-apart-requires : tie.Need-first-apart-requires
 first-apart-requires c κs =

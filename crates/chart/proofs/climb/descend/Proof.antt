@@ -6,8 +6,8 @@ use native.Mathlib.Omega.{arith}
 use borrow.Author.Needs.{needs}
 use Rattle.chart.specs.Inner.Climb.{Ladder}
 use Rattle.chart.proofs.Descending.{Descending, descending-start, down-rows, down-parts, down-on, down-end}
-use Rattle.chart.proofs.compare.descend.Statement.{statement}
-use Rattle.chart.proofs.compare.descend.Tie as tie
+use Rattle.chart.proofs.climb.descend.Statement.{statement}
+use Rattle.chart.proofs.climb.descend.Tie as tie
 
 abbrev Inv-loop : tie.InvT-loop
 Inv-loop work n w f c t b k x y chain₀ at₀ i₀ chain at i =

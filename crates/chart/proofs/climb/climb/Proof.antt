@@ -7,8 +7,8 @@ use borrow.Author.Needs.{needs}
 use Rattle.chart.specs.Inner.Numbers.{Sound}
 use Rattle.chart.specs.Inner.Climb.{Stack}
 use Rattle.chart.proofs.Climbing.{Climbing, climbing-start, climbing-few, climbing-levels, climbing-sound, climbing-finer, climbing-parts, climbing-same, climbing-more, climbed-since, stack-same, sound-cleared}
-use Rattle.chart.proofs.compare.climb.Statement.{statement}
-use Rattle.chart.proofs.compare.climb.Tie as tie
+use Rattle.chart.proofs.climb.climb.Statement.{statement}
+use Rattle.chart.proofs.climb.climb.Tie as tie
 
 abbrev Inv-loop : tie.InvT-loop
 Inv-loop work₀ n w f c t b r x y count₀ k₀ work count k =
