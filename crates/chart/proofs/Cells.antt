@@ -1,5 +1,5 @@
 -- Bytes and rows of a buffer: their number, each of them, one more, and the same where the bytes are. Assumes nothing.
-use mathlib.Core.Path.{_≡_, refl, _∙_, ap₂}
+use mathlib.Core.Path.{_≡_, refl, _∙_, ap, ap₂}
 use mathlib.Core.List.{List, [], _∷_, _++_}
 use Prim.Native.Nat.{ℕ, zero, suc, _+_, _*_, _<_, _≤_}
 use native.Mathlib.Nat.{suc-mul, mul-le-mul-right}
@@ -73,6 +73,13 @@ cleared-more was now a k c l = record {
   low = λ p h. getD-set-other now (a + k) p 0 0 (omega arith) ∙ c .low p h;
   high = λ p h. getD-set-other now (a + k) p 0 0 (omega arith) ∙ c .high p (omega arith);
 }
+
+-- what stands behind the first f bytes of a part
+pub part-behind : {was now : List ℕ} {a b : ℕ} (f c : ℕ) → PartCopied was now a b (f + c) → (d : ℕ) → d < c → getD now (b + f + d) 0 ≡ getD was (a + f + d) 0
+part-behind {was} {now} {a} {b} f c p d l =
+    let i : b + f + d ≡ b + (f + d) = omega arith in
+    let o : a + (f + d) ≡ a + f + d = omega arith in
+    ap (λ (q : ℕ). getD now q 0) i ∙ p .part (f + d) (omega arith) ∙ ap (λ (q : ℕ). getD was q 0) o
 
 pub part-none : (was : List ℕ) (a b : ℕ) → PartCopied was was a b 0
 part-none was a b = record { part = λ q h. absurd (omega arith); low = λ p h. refl; high = λ p h. refl }

@@ -17,7 +17,6 @@ use Rattle.chart.specs.Laws.Merged.{meets-up, meets-in}
 use Rattle.chart.specs.Laws.Pass.{numbered, Pass, pass-start, pass-row, pass-count, pass-end}
 use Rattle.pack.specs.Table.{cells, rowsAt}
 use Rattle.chart.specs.Inner.Bytes.{Below, Above}
-use Rattle.chart.specs.Inner.Put.{PartCopied}
 use Rattle.chart.specs.Inner.Numbers.{keyAt, Numbering, Given, Named, RowFilled}
 use Rattle.pack.proofs.Tables.{cells-at, rows-length}
 use Rattle.chart.proofs.Cells.{cells-length, cells-none, cells-more, cells-same, row-in, rows-none, rows-more, rows-same}
@@ -95,19 +94,19 @@ module _ {was old mid : List ℕ} {m size count more met to k r x : ℕ} {slots 
   }
 
 -- A row: its values, then its beliefs
-module _ {was mid now : List ℕ} {m size count more from to f c : ℕ} {slots : ℕ → ℕ} where
-  pub row-filled : (from′ w : ℕ) (slots′ : ℕ → ℕ) → PartCopied was mid from to f → Named mid now m size count more (to + f) c slots → from ≡ from′ → ((d : ℕ) → d < c → slots d ≡ slots′ d)
-      → m + size + size ≤ to → f + c ≤ w → count ≤ size → RowFilled was now m size count more to w f c (cells was from′ f) slots′
-  row-filled from′ w slots′ p n x e after wide room = record {
-    holds = cells-same was now from to f (λ q l. n .mid (to + q) (omega arith) (omega arith) ∙ p .part q l) ∙ ap (λ a. cells was a f) x;
+module _ {was mid now : List ℕ} {m size count more to f c : ℕ} {slots : ℕ → ℕ} where
+  pub row-filled : (w : ℕ) (values : List ℕ) (slots′ : ℕ → ℕ) → cells mid to f ≡ values → Below was mid to → Above was mid (to + w) → Named mid now m size count more (to + f) c slots → ((d : ℕ) → d < c → slots d ≡ slots′ d)
+      → m + size + size ≤ to → f + c ≤ w → count ≤ size → RowFilled was now m size count more to w f c values slots′
+  row-filled w values slots′ holds low high n e after wide room = record {
+    holds = cells-same mid now to to f (λ q l. n .mid (to + q) (omega arith) (omega arith)) ∙ holds;
     numbering = n .numbering;
     fresh = n .fresh;
     more-met = n .more-met;
     names = λ d l. n .names d l ∙ e d l;
-    kept = λ i l. n .kept i l ∙ p .low (m + size + i) (omega arith);
-    low = λ q l. n .low q l ∙ p .low q (omega arith);
-    mid = λ q a b. n .mid q a (omega arith) ∙ p .low q b;
-    high = λ q a. n .high q (omega arith) ∙ p .high q (omega arith);
+    kept = λ i l. n .kept i l ∙ low (m + size + i) (omega arith);
+    low = λ q l. n .low q l ∙ low q (omega arith);
+    mid = λ q a b. n .mid q a (omega arith) ∙ low q b;
+    high = λ q a. n .high q (omega arith) ∙ high q (omega arith);
   }
 
 -- The pass: rows below i are filled, `count` numbers are given; `of` says which member of the family a slot stands for

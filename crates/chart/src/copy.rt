@@ -2,8 +2,8 @@
 use crate::bytes::clear;
 use crate::bytes::copy_part;
 use crate::bytes::wide;
-use crate::number::fill_beliefs;
 use crate::number::more;
+use crate::number::name_beliefs;
 use crate::number::number_of;
 ghost use Prim.Native.Nat.{_+_, _*_, _<_};
 ghost use lib.ListN.{getD};
@@ -30,8 +30,8 @@ pub fn fill_row(
     let x = wide(work[m + n + i]);
     let from = s + x * w;
     let to = t + i * w;
-    copy_part(work, from, to, f);
-    fill_beliefs(work, m, n, from + f, to + f, c, count)
+    copy_part(work, from, to, f + c);
+    name_beliefs(work, m, n, to + f, c, count)
 }
 
 // Copies what can be reached from row 0 of the n rows from s on to t, in the order met breadth first; how many rows that is.

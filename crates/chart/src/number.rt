@@ -31,25 +31,24 @@ pub fn number_of(work: &mut [u8], m: usize, size: usize, count: usize, x: usize)
     count
 }
 
-// Names the c slots that stand from `from` on, from `to` on, each by its number; how many numbers are given then.
-pub fn fill_beliefs(
+// Names the c slots that stand from `to` on, each by its number; how many numbers are given then.
+pub fn name_beliefs(
     work: &mut [u8],
     m: usize,
     size: usize,
-    from: usize,
     to: usize,
     c: usize,
     count: usize,
 ) -> usize
-    requires { ⌜ (m + size + size ≤ to) × (to + c ≤ length (now work)) × (from + c ≤ m) × (size < 256) ⌝ }
+    requires { ⌜ (m + size + size ≤ to) × (to + c ≤ length (now work)) × (size < 256) ⌝ }
     requires { ⌜ Numbering (now work) m size count ⌝ }
-    requires { ⌜ ((d : ℕ) → d < c → getD (now work) (from + d) 0 < size) ⌝ }
-    ensures { λ r. ⌜ Named (now (work .entry)) (now (work .exit)) m size count r to c (λ d. getD (now (work .entry)) (from + d) 0) ⌝ }
+    requires { ⌜ ((d : ℕ) → d < c → getD (now work) (to + d) 0 < size) ⌝ }
+    ensures { λ r. ⌜ Named (now (work .entry)) (now (work .exit)) m size count r to c (λ d. getD (now (work .entry)) (to + d) 0) ⌝ }
 {
     let mut met = count;
     let mut k = 0;
     while k < c {
-        let x = wide(work[from + k]);
+        let x = wide(work[to + k]);
         let r = number_of(work, m, size, met, x);
         work[to + k] = r as u8;
         met = more(met, r);

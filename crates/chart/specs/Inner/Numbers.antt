@@ -31,7 +31,7 @@ pub record Given (was now : List ℕ) (m size count x r : ℕ) : Type 0 where
   pub low : Below was now m
   pub high : Above was now (m + size + size)
 
--- what `fill_beliefs` leaves: the c bytes from `to` on name the slots `slots`
+-- what `name_beliefs` leaves: the c bytes from `to` on name the slots `slots`
 pub record Named (was now : List ℕ) (m size count more to c : ℕ) (slots : ℕ → ℕ) : Type 0 where
   pub numbering : Numbering now m size more
   pub fresh : Fresh count (cells now to c)

@@ -1,13 +1,11 @@
 -- `chart::copy::fill_row` meets its contract. Assumes nothing.
-use mathlib.Core.Path.{_≡_, _∙_, ap}
+use mathlib.Core.Path.{_∙_, ap}
 use Prim.Native.Nat.{ℕ, _<_, _≤_, _+_, _*_}
 use lib.ListN.{length, getD}
-use lib.Seq.{lt-length-set}
 use native.Mathlib.Omega.{arith}
 use borrow.Author.Needs.{needs}
-use Rattle.chart.specs.Inner.Numbers.{Numbering, Laid, Sound, keyAt}
-use Rattle.chart.specs.Inner.Put.{PartCopied}
-use Rattle.chart.proofs.Cells.{row-in}
+use Rattle.pack.specs.Table.{cells}
+use Rattle.chart.proofs.Cells.{cells-same, row-in, part-behind}
 use Rattle.chart.proofs.Numbering.{few, numbering-same}
 use Rattle.chart.proofs.Passing.{row-filled}
 use Rattle.chart.proofs.copy.fill_row.Statement.{statement}
@@ -25,17 +23,17 @@ place c =
     let x : c .wide .result < a .n = omega (arith, c .wide .ensures, s .pre .1 .0 .there (a .i) (s .pre .1 .1)) in
     (x, omega (arith, row-in (a .n) (a .w) (c .wide .result) x, s .pre .0 .0 .source), omega (arith, row-in (a .n) (a .w) (a .i) (omega (arith, room s)), s .pre .0 .0 .target))
 
-fill-beliefs-requires : tie.Need-fill-beliefs-requires
-fill-beliefs-requires c κs =
+name-beliefs-requires : tie.Need-name-beliefs-requires
+name-beliefs-requires c κs =
     let h = c .before .before .before .before .before in
     let s = h .before .before .before in
     let a = s .args in
     let (x, from, to) = place h in
     let p = c .before .before .before .copy-part .ensures in (
-      (omega (arith, s .pre .0 .0), omega (arith, s .pre .0 .0, c .before .before .before .copy-part .kept .0), omega (arith, s .pre .0 .0), s .pre .0 .0 .few),
+      (omega (arith, s .pre .0 .0), omega (arith, s .pre .0 .0, c .before .before .before .copy-part .kept .0), s .pre .0 .0 .few),
       (
         numbering-same _ _ _ _ _ (s .pre .1 .0) (λ q l b. p .low q (omega (arith, s .pre .0 .0))),
-        λ d l. omega (arith, p .low (a .s + h .wide .result * a .w + a .f + d) (omega (arith, s .pre .0 .0)), s .pre .0 .1 .beliefs (h .wide .result) d x l),
+        λ d l. omega (arith, part-behind (a .f) (a .c) p d l, s .pre .0 .1 .beliefs (h .wide .result) d x l),
       ),
     )
 
@@ -44,10 +42,9 @@ returns c =
     let h = c .before .before .before .before .before .before .before .before in
     let s = h .before .before .before in
     let a = s .args in
-    let (x, from, to) = place h in
     let p = c .before .before .before .before .before .before .copy-part .ensures in
-    row-filled _ _ _ p (c .before .before .fill-beliefs .ensures) (ap (λ (x : ℕ). a .s + x * a .w) (h .wide .ensures))
-    (λ d l. p .low (a .s + h .wide .result * a .w + a .f + d) (omega (arith, s .pre .0 .0)) ∙ ap (λ (x : ℕ). getD (a .work .now) (a .s + x * a .w + a .f + d) 0) (h .wide .ensures))
+    row-filled _ _ _ (cells-same _ _ _ _ _ (λ q l. p .part q (omega arith)) ∙ ap (λ (x : ℕ). cells (a .work .now) (a .s + x * a .w) (a .f)) (h .wide .ensures)) (p .low) (λ q l. p .high q (omega (arith, s .pre .0 .0 .wide))) (c .before .before .name-beliefs .ensures)
+    (λ d l. part-behind (a .f) (a .c) p d l ∙ ap (λ (x : ℕ). getD (a .work .now) (a .s + x * a .w + a .f + d) 0) (h .wide .ensures))
     (omega (arith, s .pre .0 .0)) (s .pre .0 .0 .wide) (room s)
 
 pub fill-row-spec : {M : Type 1} → statement M
@@ -55,7 +52,6 @@ fill-row-spec =
     tie.close
     (tie.spec (λ c. search needs) (λ c. omega (arith, room (c .before), c .before .pre .0 .0)) (λ c. omega (arith, room (c .before .before), c .before .before .pre .0 .0)) (λ c κs. search needs)
     (λ c. omega (arith, place c, c .before .before .before .pre .0 .0)) (λ c. omega (arith, place c, c .before .before .before .pre .0 .0)) (λ c. omega (arith, place c)) (λ c. omega (arith, place c))
-    (λ c κs. let (x, from, to) = place (c .before) in let l = c .before .before .before .before .pre .0 .0 in (omega (arith, l), omega (arith, l)))
+    (λ c. omega (arith, place (c .before), c .before .before .before .before .pre .0 .0)) (λ c κs. let (x, from, to) = place (c .before) in let l = c .before .before .before .before .pre .0 .0 in (omega (arith, l), omega (arith, l)))
     (λ c. omega (arith, place (c .before .before .before .before .before), c .before .before .before .before .before .before .before .before .pre .0 .0))
-    (λ c. omega (arith, place (c .before .before .before .before .before), c .before .before .before .before .before .before .before .before .pre .0 .0))
-    fill-beliefs-requires (λ c. search needs) returns)
+    name-beliefs-requires (λ c. search needs) returns)
