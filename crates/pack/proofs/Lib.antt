@@ -4,6 +4,7 @@ pub mod Found
 pub mod Low
 pub mod Tables
 pub mod OneByte
+pub mod InRange
 pub mod Judging
 pub mod Writing
 pub mod Copying

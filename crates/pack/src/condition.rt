@@ -4,6 +4,7 @@ use crate::number::Number;
 use crate::number::read_between;
 use crate::number::read_kind;
 use crate::number::wide;
+use crate::plain::plain_test;
 ghost use mathlib.Core.Path.{_≡_};
 ghost use Rattle.pack.specs.Reading.{mapped, many};
 ghost use Rattle.pack.specs.Number.{item, counted};
@@ -59,7 +60,7 @@ pub fn check_test(s: &[u8], at: usize, characters: usize, domains: &[u8]) -> Che
     }
 }
 
-// An alternative: a count of tests, and the tests.
+// An alternative: a count of tests, and the tests, of which plain ones are passed over at once.
 pub fn check_alternative(s: &[u8], at: usize, characters: usize, domains: &[u8]) -> Checked
     ensures { λ r. ⌜ mapped forget (counted 0 9 (testAt (dims characters (now (domains .entry)))) (now (s .entry)) at) ≡ shown r ⌝ }
 {
@@ -69,13 +70,19 @@ pub fn check_alternative(s: &[u8], at: usize, characters: usize, domains: &[u8])
             let mut n = first;
             let mut left = count;
             while 0 < left {
-                match check_test(s, n, characters, domains) {
-                    Checked::Refused(k, p) => {
-                        return Checked::Refused(k, p);
-                    }
-                    Checked::Passed(next) => {
-                        n = next;
-                        left = left - 1;
+                let after = plain_test(s, n, characters, domains);
+                if n < after {
+                    n = after;
+                    left = left - 1;
+                } else {
+                    match check_test(s, n, characters, domains) {
+                        Checked::Refused(k, p) => {
+                            return Checked::Refused(k, p);
+                        }
+                        Checked::Passed(next) => {
+                            n = next;
+                            left = left - 1;
+                        }
                     }
                 }
             }

@@ -3,6 +3,7 @@
 pub mod number; // numbers, and numbers with their limits
 pub mod head; // version, characters, domains
 pub mod node; // nodes, as a pack or a chart has them
+pub mod plain; // tests with one byte a number, passed over at once
 pub mod condition; // conditions, checked
 pub mod effect; // effects and consenters, checked
 pub mod action; // actions, with the places of their parts
