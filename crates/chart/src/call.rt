@@ -1,6 +1,6 @@
 // The checks that the public calls share, in their order: pack, first chart, second chart, 8, 9. Each takes what the checks before it said; the first refusal stays.
 use crate::bytes::wide;
-use pack::chart::check_chart;
+use pack::node::check_chart;
 use pack::number::Checked;
 use pack::number::Number;
 ghost use mathlib.Core.Path.{_≡_};

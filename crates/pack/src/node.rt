@@ -1,4 +1,4 @@
-// The node part of a pack, which is also a chart: a count, and for each node its values and its beliefs.
+// The node part of a pack, a count and for each node its values and its beliefs; and a chart, which is that part by itself.
 use crate::number::Checked;
 use crate::number::Number;
 use crate::number::read_belief;
@@ -7,10 +7,11 @@ use crate::number::wide;
 ghost use mathlib.Core.Path.{_≡_};
 ghost use lib.ListN.{length};
 ghost use Prim.Native.Nat.{_+_};
-ghost use Rattle.pack.specs.Reading.{mapped, many, runs};
+ghost use Rattle.pack.specs.Reading.{mapped, many, runs, told, whole};
 ghost use Rattle.pack.specs.Number.{beliefAt};
-ghost use Rattle.pack.specs.Grammar.{valueAt, nodeAt, nodesAt};
+ghost use Rattle.pack.specs.Grammar.{valueAt, nodeAt, nodesAt, inChart};
 ghost use Rattle.pack.specs.Answer.{shown, said, forget, dims, valuesAt};
+ghost use Rattle.pack.specs.Contents.{repliedCount};
 
 // A node's values, one for each fluent.
 pub fn check_values(s: &[u8], at: usize, domains: &[u8]) -> Checked
@@ -94,5 +95,21 @@ pub fn check_nodes(s: &[u8], at: usize, characters: usize, domains: &[u8]) -> Nu
             Checked::Refused(k, p) => Number::Refused(k, p),
             Checked::Passed(n) => Number::Is(nodes, n),
         },
+    }
+}
+
+// How many nodes a chart has, or its refusal: 20 more than a pack's.
+pub fn check_chart(s: &[u8], characters: usize, domains: &[u8]) -> Number
+    ensures { λ r. ⌜ told length (inChart (whole (nodesAt (dims characters (now (domains .entry)))) (now (s .entry)))) ≡ repliedCount r ⌝ }
+{
+    match check_nodes(s, 0, characters, domains) {
+        Number::Refused(k, p) => Number::Refused(k + 20, p),
+        Number::Is(nodes, n) => {
+            if n == s.len() {
+                Number::Is(nodes, n)
+            } else {
+                Number::Refused(27, n)
+            }
+        }
     }
 }

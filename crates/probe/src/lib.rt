@@ -1,8 +1,8 @@
 // The pack reader as Rust calls it, for tests and benchmarks only. A caller lends bytes and a report of 64-bit numbers;
 // the result is 0 or a refusal's number. What the report then has is said in specs/Report.antt.
-use pack::chart::check_chart;
 use pack::contents::Contents;
 use pack::contents::read_pack;
+use pack::node::check_chart;
 use pack::number::Checked;
 use pack::number::Number;
 ghost use Prim.Native.Nat.{_≤_};

@@ -8,8 +8,8 @@ use Rattle.pack.specs.Grammar.{nodesAt}
 use Rattle.pack.specs.Answer.{said, dims}
 use Rattle.pack.proofs.Low.{nodes-low, low-told}
 use Rattle.pack.proofs.Found.{chart-refused, chart-read}
-use Rattle.pack.proofs.chart.check_chart.Statement.{statement}
-use Rattle.pack.proofs.chart.check_chart.Tie as tie
+use Rattle.pack.proofs.node.check_chart.Statement.{statement}
+use Rattle.pack.proofs.node.check_chart.Tie as tie
 
 pub check-chart-spec : {M : Type 1} → statement M
 check-chart-spec =
