@@ -1,11 +1,19 @@
 //! The proved library run against the reference: what each makes of the same bytes.
 //!
-//! `probe` calls the proved library, `expected` asks the reference, `numbers` finds and damages the numbers of a pack or
-//! chart, `inputs` draws packs and charts, `tally` compares and counts, `largest` builds the packs of the benchmark.
+//! `library` calls the proved library and `probe` its reader of packs and charts, with the numbers they tell in a
+//! `report`; `lending` puts a call with all that it is lent between margins. `expected` asks the reference's readers,
+//! `numbers` finds and damages the numbers of a pack or chart, `inputs` draws packs and charts and `asks` calls, `tally`
+//! compares and counts, `largest` and `tables` build what the benchmarks are run on, `timing` measures.
 
+pub mod asks;
 pub mod expected;
 pub mod inputs;
 pub mod largest;
+pub mod lending;
+pub mod library;
 pub mod numbers;
 pub mod probe;
+pub mod report;
+pub mod tables;
 pub mod tally;
+pub mod timing;

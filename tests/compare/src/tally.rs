@@ -6,10 +6,10 @@ use std::collections::BTreeMap;
 use std::fmt;
 use std::hint::black_box;
 
-/// How many inputs met each number; 0 is an accepted one.
+/// How many inputs met what.
 #[derive(Default)]
 pub struct Tally {
-    met: BTreeMap<u8, usize>,
+    met: BTreeMap<String, usize>,
 }
 
 /// Bytes before, between and behind what is lent. A number read there would be in order.
@@ -33,11 +33,20 @@ impl Tally {
     }
 
     fn count(&mut self, refusal: Option<Refusal>) {
-        *self.met.entry(refusal.map_or(0, |refusal| refusal.number)).or_default() += 1;
+        self.note(refusal.map_or(ACCEPTED.to_string(), |refusal| refused(refusal.number)));
     }
 
+    pub fn note(&mut self, what: String) {
+        *self.met.entry(what).or_default() += 1;
+    }
+
+    /// How many met a refusal's number, or 0: were accepted.
     pub fn of(&self, number: u8) -> usize {
-        self.met.get(&number).copied().unwrap_or(0)
+        self.met(&if number == 0 { ACCEPTED.to_string() } else { refused(number) })
+    }
+
+    pub fn met(&self, what: &str) -> usize {
+        self.met.get(what).copied().unwrap_or(0)
     }
 
     pub fn all(&self) -> usize {
@@ -45,10 +54,19 @@ impl Tally {
     }
 }
 
+const ACCEPTED: &str = "accepted";
+
+pub fn refused(number: u8) -> String {
+    format!("refused as {number:2}")
+}
+
 impl fmt::Display for Tally {
     fn fmt(&self, f: &mut fmt::Formatter) -> fmt::Result {
-        write!(f, "{} compared: {} accepted", self.all(), self.of(0))?;
-        self.met.iter().filter(|(&number, _)| number != 0).try_for_each(|(n, met)| write!(f, ", {met} refused as {n}"))
+        write!(f, "{} compared:", self.all())?;
+        self.met
+            .iter()
+            .enumerate()
+            .try_for_each(|(i, (what, met))| write!(f, "{} {met} {what}", if i == 0 { "" } else { "," }))
     }
 }
 

@@ -64,6 +64,17 @@ impl Call {
         let result = ask.room();
         Call { pack, ask, result, work: WORK_ROOM }
     }
+
+    /// All bytes to be read: the pack, then the charts, or the chart and the chain. What isn't there is empty.
+    pub fn handed(&self) -> [&[u8]; 3] {
+        let (first, second): (&[u8], &[u8]) = match &self.ask {
+            Ask::Query { chart, chain, .. } => (chart, chain),
+            Ask::Compare { first, second } => (first, second),
+            Ask::Step { chart, .. } | Ask::Explained { chart, .. } => (chart, &[]),
+            Ask::Start | Ask::Search { .. } | Ask::Ending => (&[], &[]),
+        };
+        [&self.pack, first, second]
+    }
 }
 
 #[derive(Clone, PartialEq, Eq, Debug)]

@@ -61,22 +61,28 @@ pub fn answer(call: &Call) -> Answer {
 pub fn answer_by(implementation: &mut impl Implementation, call: &Call) -> Answer {
     let mut result = lent(call.result);
     let mut work = lent(call.work);
-    let outcome = outcome(implementation, call, &mut result, &mut work);
+    let outcome = outcome(implementation, &call.ask, call.handed(), &mut result, &mut work);
     Answer { outcome, result, work: Work::after(&work) }
 }
 
-fn outcome(by: &mut impl Implementation, call: &Call, result: &mut [u8], work: &mut [u8]) -> Outcome {
-    let pack = &call.pack;
-    let outcome = match &call.ask {
+/// Puts a question to an implementation. The bytes that it reads are those of `Call::handed`, wherever they lie.
+pub fn outcome(
+    by: &mut impl Implementation,
+    ask: &Ask,
+    [pack, first, second]: [&[u8]; 3],
+    result: &mut [u8],
+    work: &mut [u8],
+) -> Outcome {
+    let outcome = match ask {
         Ask::Start => by.start(pack, result, work).map(Outcome::Length),
-        Ask::Query { chart, chain, fluent } => by.query(pack, chart, chain, *fluent, work).map(Outcome::Value),
-        Ask::Compare { first, second } => {
+        Ask::Query { fluent, .. } => by.query(pack, first, second, *fluent, work).map(Outcome::Value),
+        Ask::Compare { .. } => {
             let found = by.compare(pack, first, second, result, work);
             found.map(|found| found.map_or(Outcome::Same, Outcome::Differs))
         }
-        Ask::Step { chart, action } => by.step(pack, chart, *action, result, work).map(Outcome::Length),
-        Ask::Explained { chart, character, action, foresight, nesting } => {
-            by.explained(pack, chart, *character, *action, *foresight, *nesting, work).map(Outcome::Verdict)
+        Ask::Step { action, .. } => by.step(pack, first, *action, result, work).map(Outcome::Length),
+        Ask::Explained { character, action, foresight, nesting, .. } => {
+            by.explained(pack, first, *character, *action, *foresight, *nesting, work).map(Outcome::Verdict)
         }
         Ask::Search { story, foresight, nesting } => {
             by.search(pack, *story, *foresight, *nesting, result, work).map(Outcome::Found)

@@ -81,7 +81,7 @@ fn table(r: &mut Random, pack: &Pack) -> Vec<Node> {
 }
 
 /// A chain of characters, now and then a long one.
-fn chain(r: &mut Random, pack: &Pack) -> Vec<u8> {
+pub fn chain(r: &mut Random, pack: &Pack) -> Vec<u8> {
     let length = r.pick(&[0, 1, 1, 2, 3, 5, 17, 255, 300, 1_000]);
     (0..length).map(|_| r.below(pack.characters) as u8).collect()
 }

@@ -118,7 +118,7 @@ fn limits(r: &mut Random) -> Call {
 }
 
 /// Two charts: the same in another form, one change apart, or different only after a long chain.
-fn comparison(r: &mut Random) -> Call {
+pub fn comparison(r: &mut Random) -> Call {
     let characters = r.from(1, 6);
     let domains: Vec<usize> = (0..r.from(1, 4)).map(|_| r.from(2, 4)).collect();
     let pack = draft::empty(characters, &domains);

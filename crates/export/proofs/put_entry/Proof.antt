@@ -1,0 +1,16 @@
+-- An entry that isn't there, and one that is. Assumes nothing.
+use mathlib.Core.Path.{sym, ap}
+use lib.ListN.{set}
+use borrow.Author.Needs.{needs}
+use Rattle.export.proofs.Returning.{set-beyond}
+use Rattle.export.proofs.put_entry.Statement.{statement}
+use Rattle.export.proofs.put_entry.Tie as tie
+
+returns : tie.Need-returns
+returns c = set-beyond _ _ _ (c .if1 .taken)
+
+returns-2 : tie.Need-returns-2
+returns-2 c = let a = c .before .before .before .args in ap (set (a .report .now) (a .at)) (sym (c .wide-place .ensures))
+
+pub put-entry-spec : {M : Type 1} → statement M
+put-entry-spec = tie.close (tie.spec returns (λ c κs. search needs) (λ c. search needs) (λ c. search needs) (λ c. search needs) returns-2)

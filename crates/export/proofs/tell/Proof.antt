@@ -1,0 +1,12 @@
+-- One entry put, and the number. Assumes nothing.
+use mathlib.Core.Path.{_∙_}
+use borrow.Author.Needs.{needs}
+use Rattle.export.proofs.Returning.{put-one}
+use Rattle.export.proofs.tell.Statement.{statement}
+use Rattle.export.proofs.tell.Tie as tie
+
+returns : tie.Need-returns
+returns c = (c .wide-number .ensures, c .before .before .before .put-entry .ensures ∙ put-one _ _)
+
+pub tell-spec : {M : Type 1} → statement M
+tell-spec = tie.close (tie.spec (λ c κs. search needs) (λ c κs. search needs) (λ c. search needs) returns)

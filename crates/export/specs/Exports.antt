@@ -1,0 +1,22 @@
+-- What each exported call promises, on every input: what is told of its answer, and what it leaves in every lent buffer. A buffer's name with ′ is what it holds at exit.
+use Prim.Native.Nat.{ℕ}
+use mathlib.Core.Path.{_≡_}
+use mathlib.Core.List.{List, [], _∷_}
+use lib.ListN.{length}
+use Rattle.pack.specs.Reading.{Reply, told}
+use Rattle.chart.specs.Call.{resultAfter}
+use Rattle.chart.specs.Replies.{startReply, queryReply}
+use Rattle.export.specs.Report.{seen, Returned}
+
+-- one number
+abbrev pub one : ℕ → List ℕ
+one n = n ∷ []
+
+-- pirwodd_start(pack, chart out, work, report): "its length is given with it"
+pub record StartReturned (pack chart work report chart′ work′ report′ : List ℕ) (r : ℕ) : Type 0 where
+  pub returned : Returned (told (λ bytes. one (length bytes)) (startReply pack chart (seen report work))) work report work′ report′ r
+  pub result : chart′ ≡ resultAfter (startReply pack chart (seen report work)) chart
+
+-- pirwodd_query(pack, chart, chain, fluent, work, report): "gives its value where the chain leads"
+pub record QueryReturned (pack chart chain : List ℕ) (fluent : ℕ) (work report work′ report′ : List ℕ) (r : ℕ) : Type 0 where
+  pub returned : Returned (told one (queryReply pack chart chain fluent (seen report work))) work report work′ report′ r

@@ -1,0 +1,37 @@
+-- A report that is too short counts among the lent buffers: the calls' replies with it in their test of room. Assumes nothing.
+use Prim.Native.Nat.{ℕ}
+use mathlib.Core.Path.{_≡_, refl, ap}
+use mathlib.Core.Bool.{Bool, true, false, _&&_}
+use mathlib.Core.List.{List, [], _∷_}
+use lib.ListN.{getD}
+use lib.Dec.{ltb}
+use Rattle.pack.specs.Syntax.{Pack, Node, fluents}
+use Rattle.pack.specs.State.{meaning}
+use Rattle.pack.specs.Reading.{Reply, gives, pick}
+use Rattle.pack.specs.Layout.{chartBytes}
+use Rattle.chart.specs.Answers.{startTable}
+use Rattle.chart.specs.Call.{chartRoom, workRoom, fits, call}
+use Rattle.chart.specs.Replies.{firstOf, allBelow, startReply, queryReply}
+use Rattle.export.specs.Report.{reportRoom, seen}
+
+-- the work buffer that is seen is long enough exactly where both it and the report are
+pub seen-fits : (report work : List ℕ) → fits workRoom (seen report work) ≡ (fits reportRoom report && fits workRoom work)
+seen-fits report work = at (fits reportRoom report)
+  where
+    at : (b : Bool) → fits workRoom (pick b work []) ≡ (b && fits workRoom work)
+    at true = refl
+    at false = refl
+
+pub start-seen : (pack chart work report : List ℕ) → startReply pack chart (seen report work)
+    ≡ call pack [] (fits chartRoom chart && (fits reportRoom report && fits workRoom work)) (λ p. true) (λ p tables. gives (chartBytes (startTable (p .theory .characters) (p .nodes))))
+unfolding startReply
+start-seen pack chart work report =
+    ap (λ (b : Bool). call pack [] (fits chartRoom chart && b) (λ p. true) (λ (p : Pack) (tables : List (List Node)). gives (chartBytes (startTable (p .theory .characters) (p .nodes))))) (seen-fits report work)
+
+pub query-seen : (pack chart chain : List ℕ) (fluent : ℕ) (work report : List ℕ) → queryReply pack chart chain fluent (seen report work)
+    ≡ call pack (chart ∷ []) (fits reportRoom report && fits workRoom work) (λ p. allBelow (p .characters) chain && ltb fluent (fluents p))
+    (λ p tables. gives (getD (meaning (p .theory .characters) (firstOf tables) 0 chain) fluent 0))
+unfolding queryReply
+query-seen pack chart chain fluent work report =
+    ap (λ (b : Bool). call pack (chart ∷ []) b (λ p. allBelow (p .characters) chain && ltb fluent (fluents p)) (λ (p : Pack) (tables : List (List Node)). gives (getD (meaning (p .theory .characters) (firstOf tables) 0 chain) fluent 0)))
+    (seen-fits report work)

@@ -1,0 +1,3 @@
+pub mod Report
+pub mod Exports
+pub mod Laws

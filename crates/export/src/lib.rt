@@ -1,0 +1,98 @@
+// The calls as C and Rust call them. Each hands back 0 for an answer or a refusal's number, and writes numbers into a lent report: what the answer says, or the refusal's
+// place. What that is for each call stands in specs/Exports.antt.
+use chart::Charted;
+use chart::Queried;
+use chart::query::query;
+use chart::start::start;
+ghost use mathlib.Core.Path.{_≡_};
+ghost use mathlib.Core.List.{[], _∷_};
+ghost use lib.ListN.{set};
+ghost use lib.Dec.{leb};
+ghost use Rattle.pack.specs.Reading.{pick};
+ghost use Rattle.export.specs.Report.{reportRoom, put};
+ghost use Rattle.export.specs.Exports.{StartReturned, QueryReturned};
+
+fn wide_byte(x: u8) -> usize
+    ensures { λ r. ⌜ x ≡ r ⌝ }
+{
+    x as usize
+}
+
+fn wide_number(x: u8) -> u32
+    ensures { λ r. ⌜ x ≡ r ⌝ }
+{
+    x as u32
+}
+
+fn wide_place(x: usize) -> u64
+    ensures { λ r. ⌜ x ≡ r ⌝ }
+{
+    x as u64
+}
+
+fn index(x: u64) -> usize
+    ensures { λ r. ⌜ x ≡ r ⌝ }
+{
+    x as usize
+}
+
+// How much of a work buffer is lent to the call: none where the report is too short, so that 8 is told where a short buffer is.
+fn lent(report: usize, work: usize) -> usize
+    ensures { λ r. ⌜ r ≡ pick (leb reportRoom report) work 0 ⌝ }
+{
+    if 3 <= report { work } else { 0 }
+}
+
+// Puts an entry into the report, if it has that entry.
+fn put_entry(report: &mut [u64], at: usize, entry: usize)
+    ensures { λ _. ⌜ now (report .exit) ≡ set (now (report .entry)) at entry ⌝ }
+{
+    if report.len() <= at {
+        return;
+    }
+    report[at] = wide_place(entry);
+}
+
+// Hands the number back, and puts one entry into the report.
+fn tell(number: u8, entry: usize, report: &mut [u64]) -> u32
+    ensures { λ r. ⌜ (number ≡ r) × (now (report .exit) ≡ put (entry ∷ []) (now (report .entry))) ⌝ }
+{
+    put_entry(report, 0, entry);
+    wide_number(number)
+}
+
+// Start: the report's entry is the chart's length.
+#[no_mangle]
+pub extern "C" fn pirwodd_start(
+    pack: &[u8],
+    chart: &mut [u8],
+    work: &mut [u8],
+    report: &mut [u64],
+) -> u32
+    ensures { λ r. ⌜ StartReturned (now (pack .entry)) (now (chart .entry)) (now (work .entry)) (now (report .entry)) (now (chart .exit)) (now (work .exit)) (now (report .exit)) r ⌝ }
+{
+    let room = lent(report.len(), work.len());
+    match start(pack, chart, &mut work[..room]) {
+        Charted::Refused(k, at) => tell(k, at, report),
+        Charted::Chart(length) => tell(0, length, report),
+    }
+}
+
+// Query: the report's entry is the value.
+#[no_mangle]
+pub extern "C" fn pirwodd_query(
+    pack: &[u8],
+    chart: &[u8],
+    chain: &[u8],
+    fluent: u64,
+    work: &mut [u8],
+    report: &mut [u64],
+) -> u32
+    ensures { λ r. ⌜ QueryReturned (now (pack .entry)) (now (chart .entry)) (now (chain .entry)) fluent (now (work .entry)) (now (report .entry)) (now (work .exit)) (now (report .exit)) r ⌝ }
+{
+    let room = lent(report.len(), work.len());
+    match query(pack, chart, chain, index(fluent), &mut work[..room]) {
+        Queried::Refused(k, at) => tell(k, at, report),
+        Queried::Value(value) => tell(0, wide_byte(value), report),
+    }
+}

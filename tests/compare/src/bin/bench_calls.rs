@@ -1,0 +1,88 @@
+//! How long the calls take in the proved library, in the tuned engine and in the readable reference. A word given as an
+//! argument measures only the cases that have it in their names.
+
+use compare::library::Library;
+use compare::tables::{early, late, pack, parting};
+use compare::timing::{compare, Way, ROUNDS};
+use reference::call::{lent, Ask, Call, Outcome};
+use reference::chart;
+use reference::generate::draft;
+use reference::graph::Node;
+use reference::implementation::{outcome, Implementation, Reference};
+use reference::tuned::Engine;
+use std::cell::RefCell;
+use std::hint::black_box;
+
+fn main() {
+    println!("Calls one after the other on one thread, the three in turn, {ROUNDS} times each.");
+    println!(
+        "All three are lent the same buffers and set the first 49,152 bytes of the work buffer to 0 in every call;"
+    );
+    println!(
+        "nothing is cleared between calls. The tuned engine keeps its memory; the readable reference allocates.\n"
+    );
+    for characters in [2, 6] {
+        for count in [2, 8, 32] {
+            let size = format!("{count} nodes, {characters} characters");
+            measure(&format!("Start, {size}, told apart early"), &start(characters, early(characters, count)));
+            measure(&format!("Start, {size}, told apart late"), &start(characters, late(characters, count)));
+            measure(&format!("Query, {size}, a chain of 62"), &query(characters, early(characters, count)));
+            let same = (late(characters, count), late(characters, count));
+            measure(&format!("Compare, {size}, the same"), &pair(characters, same));
+            measure(&format!("Compare, {size}, that part late"), &pair(characters, parting(characters, count)));
+        }
+    }
+}
+
+fn start(characters: usize, nodes: Vec<Node>) -> Call {
+    Call::new(draft::bytes(&pack(characters, nodes)), Ask::Start)
+}
+
+fn query(characters: usize, nodes: Vec<Node>) -> Call {
+    let chain = (0..62).map(|i| (i % characters) as u8).collect();
+    Call::new(
+        draft::bytes(&pack(characters, early(characters, 1))),
+        Ask::Query { chart: chart::bytes(&nodes), chain, fluent: 0 },
+    )
+}
+
+fn pair(characters: usize, (first, second): (Vec<Node>, Vec<Node>)) -> Call {
+    let ask = Ask::Compare { first: chart::bytes(&first), second: chart::bytes(&second) };
+    Call::new(draft::bytes(&pack(characters, early(characters, 1))), ask)
+}
+
+/// Measures a call, if it is wanted and the library has it.
+fn measure(name: &str, call: &Call) {
+    let wanted = std::env::args().skip(1).all(|word| name.contains(&word));
+    if !wanted || !Library::has(&call.ask) {
+        return;
+    }
+    let expected = answer(&mut Reference, call);
+    assert!(!matches!(expected, Outcome::Refused(_)), "{name} is refused: {expected:?}");
+    println!("{name}: {expected:?}, {} bytes handed in", call.handed().concat().len());
+    let (mut library, mut engine) = (Library::new(), Engine::new());
+    assert!(answer(&mut library, call) == expected && answer(&mut engine, call) == expected);
+    // One pair of buffers for all, since how they lie in memory tells on the time.
+    let buffers = RefCell::new((lent(call.result), lent(call.work)));
+    compare(&mut [
+        Way::new("library", repeated(&mut library, call, &buffers)),
+        Way::new("tuned", repeated(&mut engine, call, &buffers)),
+        Way::new("readable", repeated(&mut Reference, call, &buffers)),
+    ]);
+}
+
+fn answer(by: &mut impl Implementation, call: &Call) -> Outcome {
+    outcome(by, &call.ask, call.handed(), &mut lent(call.result), &mut lent(call.work))
+}
+
+/// The same call again and again.
+fn repeated<'a>(
+    by: &'a mut impl Implementation,
+    call: &'a Call,
+    buffers: &'a RefCell<(Vec<u8>, Vec<u8>)>,
+) -> impl FnMut() + 'a {
+    move || {
+        let (result, work) = &mut *buffers.borrow_mut();
+        drop(black_box(outcome(by, &call.ask, black_box(call.handed()), result, work)))
+    }
+}

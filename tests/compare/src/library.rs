@@ -1,0 +1,108 @@
+//! The proved library's calls as an `Implementation`, each behind a safe function. They ask nothing of their caller, so
+//! any slices will do. Nothing checks these declarations against the library's source: a slice passes as its pointer
+//! and its length.
+
+use crate::report::Report;
+use reference::call::Ask;
+use reference::calls::{Differs, Found};
+use reference::generate::random::Random;
+use reference::implementation::Implementation;
+use reference::refusal::Refusal;
+
+#[rustfmt::skip]
+extern "C" {
+    fn pirwodd_start(
+        pack: *const u8, pack_length: usize, chart: *mut u8, chart_length: usize,
+        work: *mut u8, work_length: usize, report: *mut u64, report_length: usize,
+    ) -> u32;
+    fn pirwodd_query(
+        pack: *const u8, pack_length: usize, chart: *const u8, chart_length: usize, chain: *const u8, chain_length: usize,
+        fluent: u64, work: *mut u8, work_length: usize, report: *mut u64, report_length: usize,
+    ) -> u32;
+}
+
+/// How many entries a report must have.
+pub const ENTRIES: usize = 3;
+
+/// The library, lent a report of so many entries, filled with noise before each call.
+pub struct Library {
+    entries: usize,
+    noise: Random,
+}
+
+impl Library {
+    #[allow(clippy::new_without_default)]
+    pub fn new() -> Library {
+        Library::with_report(ENTRIES)
+    }
+
+    pub fn with_report(entries: usize) -> Library {
+        Library { entries, noise: Random::new(entries as u64) }
+    }
+
+    /// Whether the library has the call yet.
+    pub fn has(ask: &Ask) -> bool {
+        matches!(ask, Ask::Start | Ask::Query { .. })
+    }
+
+    fn report(&mut self) -> Report {
+        Report::new(&mut self.noise, self.entries)
+    }
+}
+
+impl Implementation for Library {
+    fn start(&mut self, pack: &[u8], result: &mut [u8], work: &mut [u8]) -> Result<usize, Refusal> {
+        let mut report = self.report();
+        let lent = report.lent();
+        // SAFETY: pointers and lengths are those of slices that live through the call; those written are borrowed alone.
+        #[rustfmt::skip]
+        let number = unsafe {
+            pirwodd_start(
+                pack.as_ptr(), pack.len(), result.as_mut_ptr(), result.len(),
+                work.as_mut_ptr(), work.len(), lent.as_mut_ptr(), lent.len(),
+            )
+        };
+        report.told(number).map(|[length]| length as usize)
+    }
+
+    fn query(&mut self, pack: &[u8], chart: &[u8], chain: &[u8], fluent: u64, work: &mut [u8]) -> Result<u8, Refusal> {
+        let mut report = self.report();
+        let lent = report.lent();
+        // SAFETY: as above.
+        #[rustfmt::skip]
+        let number = unsafe {
+            pirwodd_query(
+                pack.as_ptr(), pack.len(), chart.as_ptr(), chart.len(), chain.as_ptr(), chain.len(),
+                fluent, work.as_mut_ptr(), work.len(), lent.as_mut_ptr(), lent.len(),
+            )
+        };
+        report.told(number).map(|[value]| u8::try_from(value).expect("a value is a byte"))
+    }
+
+    fn compare(
+        &mut self,
+        _: &[u8],
+        _: &[u8],
+        _: &[u8],
+        _: &mut [u8],
+        _: &mut [u8],
+    ) -> Result<Option<Differs>, Refusal> {
+        unimplemented!("Compare is not exported yet")
+    }
+
+    fn step(&mut self, _: &[u8], _: &[u8], _: u64, _: &mut [u8], _: &mut [u8]) -> Result<usize, Refusal> {
+        unimplemented!("Step is not exported yet")
+    }
+
+    fn explained(&mut self, _: &[u8], _: &[u8], _: u64, _: u64, _: u64, _: u64, _: &mut [u8]) -> Result<bool, Refusal> {
+        unimplemented!("Explained is not exported yet")
+    }
+
+    fn search(&mut self, _: &[u8], _: u64, _: u64, _: u64, _: &mut [u8], _: &mut [u8]) -> Result<Found, Refusal> {
+        unimplemented!("Search is not exported yet")
+    }
+
+    fn ending(&mut self, _: &[u8]) -> String {
+        unimplemented!("the program `ending` is not part of the library")
+    }
+}

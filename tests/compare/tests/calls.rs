@@ -1,0 +1,138 @@
+//! The proved calls agree with the reference on generated ones: the answer or the refusal's number and place, and every
+//! byte of what is lent. All of it lies between margins, and what is written begins as noise.
+
+use compare::asks;
+use compare::inputs::P;
+use compare::lending::{Lent, Noise, Seen};
+use compare::library::{Library, ENTRIES};
+use compare::tally::{refused, Tally};
+use reference::call::{Call, Outcome};
+use reference::generate;
+use reference::generate::random::Random;
+use reference::implementation::{Implementation, Reference};
+use reference::refusal::{without_place, Refusal, RANGE, SHORT};
+use reference::tuned::Engine;
+
+const IN_A_PACK: [u8; 7] = [1, 2, 3, 4, 5, 6, 7];
+const IN_A_CHART: [u8; 6] = [21, 22, 23, 24, 25, 27];
+
+#[test]
+fn start() {
+    let met = alike("start", 60_000, asks::start, &mut Library::new());
+    often(&met, 300, &["chart of 1", "chart of 2 to 31", "chart of 32"], &[&IN_A_PACK[..], &[8]]);
+}
+
+#[test]
+fn query() {
+    let met = alike("query", 60_000, asks::query, &mut Library::new());
+    often(&met, 200, &["value"], &[&IN_A_PACK[..], &IN_A_CHART, &[8, 9]]);
+}
+
+/// Until the library has Compare, the tuned form of the reference stands in its place.
+#[test]
+fn compare() {
+    let met = alike("compare", 40_000, asks::compare, &mut Engine::new());
+    let chains = [0, 1, 20, 40, 61, 62].map(|length| format!("differ after {length:2}"));
+    let chains: Vec<&str> = chains.iter().map(String::as_str).collect();
+    often(&met, 100, &[&["same"], &chains[..]].concat(), &[&IN_A_PACK[..5], &[7, 8], &IN_A_CHART]);
+}
+
+/// The calls of the generator that the library has.
+#[test]
+fn generated() {
+    let (mut tally, mut library, noise) = (Tally::default(), Library::new(), Noise::new());
+    for (seed, call) in (0..8_000).map(|seed| (seed, generate::call(seed))).filter(|(_, call)| Library::has(&call.ask))
+    {
+        both(&mut tally, &mut library, &call, &noise, seed);
+    }
+    println!("generated: {tally}");
+    assert!(tally.all() >= 400);
+}
+
+/// A report of fewer than three entries is 8, at its place among the checks: the reply is that to a call which is lent
+/// no work buffer. Longer reports change nothing.
+#[test]
+fn other_reports() {
+    for entries in [0, 1, 2, 4, 5, 8] {
+        let (mut tally, mut library, noise) = (Tally::default(), Library::with_report(entries), Noise::new());
+        for seed in 0..2_000 {
+            let r = &mut Random::new(6_000_000 + seed);
+            let call = if r.chance(1, 2) { asks::start(r) } else { asks::query(r) };
+            let short = Call { work: if entries < ENTRIES { 0 } else { call.work }, ..call.clone() };
+            let found = Lent::new(&call, &noise, r).to(&mut library, &call);
+            let expected = match Lent::new(&short, &noise, r).to(&mut Reference, &short).outcome {
+                // Without an entry no place is told.
+                Outcome::Refused(refusal) if entries == 0 => Outcome::Refused(without_place(refusal.number)),
+                outcome => outcome,
+            };
+            assert_eq!(found.outcome, expected, "with a report of {entries} entries: {call}");
+            tally.note(what(&found));
+        }
+        println!("a report of {entries}: {tally}");
+        assert!(tally.met(&refused(SHORT)) >= if entries < ENTRIES { 500 } else { 20 });
+        assert!([1, 2, 3, 4, 21, 23].iter().all(|&number| tally.met(&refused(number)) >= 5));
+    }
+}
+
+/// The readings and rows of document 01 that are Start's and Query's.
+#[test]
+fn examples() {
+    let (mut library, mut result, mut work) = (Library::new(), [7; 961], vec![7; 49_152]);
+    assert_eq!(library.start(&P, &mut result, &mut work), Ok(4));
+    assert_eq!(result[..5], [1, 0, 1, 1, 7]);
+    assert!(work.iter().all(|&byte| byte == 0));
+    let short = Err(without_place(SHORT));
+    assert_eq!(library.start(&P, &mut result[..960], &mut work), short);
+    assert_eq!(library.start(&P, &mut result, &mut work[1..]), short);
+    assert_eq!(library.start(&[0x81, 0], &mut [], &mut []), Err(Refusal { number: 2, place: 0 }));
+    let chart = [2, 1, 1, 2, 0, 2, 2];
+    assert_eq!(library.query(&P, &chart, &[], 0, &mut work), Ok(1));
+    assert_eq!(library.query(&P, &chart, &[0, 0, 1], 0, &mut work), Ok(0));
+    assert_eq!(library.query(&P, &chart, &[0, 2], 0, &mut work), Err(without_place(RANGE)));
+    assert_eq!(library.query(&P, &chart, &[], 1 << 32, &mut work), Err(without_place(RANGE)));
+    assert_eq!(library.query(&P, &[0], &[], 0, &mut work), Err(Refusal { number: 23, place: 0 }));
+}
+
+/// Puts so many drawn calls to an implementation and to the reference.
+fn alike(name: &str, count: u64, draw: fn(&mut Random) -> Call, by: &mut impl Implementation) -> Tally {
+    let (mut tally, noise) = (Tally::default(), Noise::new());
+    for seed in 0..count {
+        let call = draw(&mut Random::new(seed));
+        both(&mut tally, by, &call, &noise, seed);
+    }
+    println!("{name}: {tally}");
+    tally
+}
+
+fn both(tally: &mut Tally, by: &mut impl Implementation, call: &Call, noise: &Noise, seed: u64) {
+    let lent = Lent::new(call, noise, &mut Random::new(seed));
+    let (found, expected) = (lent.to(by, call), lent.to(&mut Reference, call));
+    assert_eq!(found.outcome, expected.outcome, "seed {seed}: {call}");
+    assert!(found == expected, "seed {seed}: the buffers differ after {call}");
+    tally.note(what(&found));
+}
+
+fn what(seen: &Seen) -> String {
+    match &seen.outcome {
+        Outcome::Length(_) => match seen.result[0] {
+            1 => "chart of 1".to_string(),
+            32 => "chart of 32".to_string(),
+            _ => "chart of 2 to 31".to_string(),
+        },
+        Outcome::Value(_) => "value".to_string(),
+        Outcome::Same => "same".to_string(),
+        Outcome::Differs(found) => format!("differ after {:2}", found.length),
+        Outcome::Verdict(yes) => if *yes { "yes" } else { "no" }.to_string(),
+        Outcome::Found(found) => format!("list of {}", found.length),
+        Outcome::Text(_) => "text".to_string(),
+        Outcome::Refused(refusal) => refused(refusal.number),
+    }
+}
+
+/// Each of these was met so often.
+fn often(tally: &Tally, least: usize, answers: &[&str], refusals: &[&[u8]]) {
+    let refusals = refusals.concat().into_iter().map(refused);
+    for what in answers.iter().map(|answer| answer.to_string()).chain(refusals) {
+        assert!(tally.met(&what) >= least, "{} calls met: {what}", tally.met(&what));
+    }
+}
