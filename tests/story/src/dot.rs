@@ -3,10 +3,10 @@
 use std::fmt::Write;
 
 use reference::graph::Node;
-use reference::pack::{Condition, Effect};
+use reference::pack::{Action, Condition, Effect};
 
 use crate::names::{chain_text, labels, Label, Names};
-use crate::print::{kind, people, told};
+use crate::print::{is_always, kind, people, told};
 use crate::Story;
 
 /// A story: its views, and its facts with the actions and triggers that look at them and change them.
@@ -20,9 +20,8 @@ pub fn story(story: &Story) -> String {
         line(&mut out, &format!("f{i} [shape=ellipse, label={}];", quoted(&fact.name)));
     }
     for (i, (action, name)) in pack.actions.iter().zip(&names.actions).enumerate() {
-        let by = people(names, &action.consenters);
-        let by = if by.is_empty() { by } else { format!("by {by}") };
-        line(&mut out, &format!("a{i} [label={}];", lines(&[name.clone(), by])));
+        let text = [vec![name.clone()], agents(names, action)].concat();
+        line(&mut out, &format!("a{i} [label={}];", lines(&text)));
         out += &arrows(names, &format!("a{i}"), &action.condition, &action.effects);
     }
     for (i, (trigger, name)) in pack.triggers.iter().zip(&names.triggers).enumerate() {
@@ -60,6 +59,22 @@ fn views(names: &Names, nodes: &[Node], labels: &[Label]) -> String {
     out
 }
 
+/// Who does an action, who sees it, and who sees it at times.
+fn agents(names: &Names, action: &Action) -> Vec<String> {
+    let observers = |wanted: fn(&Condition) -> bool| {
+        let found = (0..action.observations.len()).filter(|&character| wanted(&action.observations[character]));
+        found.collect::<Vec<_>>()
+    };
+    let at_times = |seen: &Condition| !seen.alternatives.is_empty() && !is_always(seen);
+    let told = [
+        ("by", action.consenters.clone()),
+        ("seen by", observers(is_always)),
+        ("at times seen by", observers(at_times)),
+    ];
+    let told = told.into_iter().filter(|(_, who)| !who.is_empty());
+    told.map(|(how, who)| format!("{how} {}", people(names, &who))).collect()
+}
+
 /// From each fact that a condition looks at, and to each fact that the effects change. Those in a belief are dashed.
 fn arrows(names: &Names, happening: &str, condition: &Condition, effects: &[Effect]) -> String {
     let mut arrows = Vec::new();
@@ -95,9 +110,9 @@ fn line(out: &mut String, text: &str) {
     let _ = writeln!(out, "        {text}");
 }
 
-/// A label of several lines; empty ones are left out.
+/// A label of several lines.
 fn lines(text: &[String]) -> String {
-    let lines: Vec<String> = text.iter().filter(|line| !line.is_empty()).map(|line| escaped(line)).collect();
+    let lines: Vec<String> = text.iter().map(|line| escaped(line)).collect();
     format!("\"{}\"", lines.join("\\n"))
 }
 

@@ -3,7 +3,7 @@
 use reference::generate::draft::{always, never};
 use reference::pack::{Action, Condition, Effect, Rule, Trigger};
 
-use crate::cursor::{Cursor, Phrase};
+use crate::cursor::Cursor;
 use crate::error::{Error, Fault, Place};
 use crate::scope::{room, Scope};
 use crate::sections::Section;
@@ -87,7 +87,7 @@ impl Happening {
     fn agents(&mut self, scope: &Scope, cursor: &mut Cursor) -> Result<bool, Error> {
         let at = cursor.at();
         if cursor.take("by") {
-            let consenters = characters(scope, cursor)?;
+            let consenters = characters(scope, cursor)?.into_iter().map(|(character, _)| character).collect();
             note(&mut self.consenters, consenters, at, "'by'")?;
             return Ok(true);
         }
@@ -110,10 +110,10 @@ impl Sight {
         }
         let named = characters(scope, cursor)?;
         let before = cursor.clone();
-        for character in named {
+        for (character, at) in named {
             *cursor = before.clone();
             let condition = if_condition(scope, cursor)?;
-            let what = format!("who '{}' is", scope.characters[character]);
+            let what = format!("whether '{}' sees it", scope.characters[character]);
             note(&mut self.named[character], condition, at, &what)?;
         }
         Ok(())
@@ -134,24 +134,21 @@ fn if_condition(scope: &Scope, cursor: &mut Cursor) -> Result<Condition, Error> 
     Ok(always())
 }
 
-/// Characters with commas or `and` between them, none of them twice.
-fn characters(scope: &Scope, cursor: &mut Cursor) -> Result<Vec<usize>, Error> {
-    let mut found = Vec::new();
+/// Characters with commas or `and` between them, none of them twice, each with its place.
+fn characters(scope: &Scope, cursor: &mut Cursor) -> Result<Vec<(usize, Place)>, Error> {
+    let mut found: Vec<(usize, Place)> = Vec::new();
     loop {
         let name = cursor.phrase("a character")?;
         let character = scope.character(&name)?;
-        if found.contains(&character) {
-            return Err(again(&name));
+        if found.iter().any(|&(known, _)| known == character) {
+            let what = format!("'{}'", name.text);
+            return Err(Error::new(name.at, Fault::Again { what, line: name.at.line }));
         }
-        found.push(character);
+        found.push((character, name.at));
         if !cursor.take_next(&["and"]) {
             return Ok(found);
         }
     }
-}
-
-fn again(name: &Phrase) -> Error {
-    Error::new(name.at, Fault::Again { what: format!("'{}'", name.text), line: name.at.line })
 }
 
 /// Notes what a line says, unless one before said it.

@@ -7,6 +7,9 @@ use reference::pack::{Condition, Effect, Rule, Test};
 use crate::names::{chain_text, labels, Fact, Label, Names};
 use crate::Story;
 
+/// Tests that would make a longer line than this stand on a line each.
+const LONGEST_LINE: usize = 90;
+
 /// The whole text. Read again it gives the same pack and names.
 pub fn story(story: &Story) -> String {
     let Story { pack, names } = story;
@@ -90,7 +93,7 @@ fn happening(names: &Names, condition: &Condition, effects: &[Effect]) -> String
     out
 }
 
-fn is_always(condition: &Condition) -> bool {
+pub fn is_always(condition: &Condition) -> bool {
     matches!(&condition.alternatives[..], [tests] if tests.is_empty())
 }
 
@@ -107,7 +110,12 @@ fn alternative(names: &Names, tests: &[Test]) -> String {
     if tests.is_empty() {
         return "always".to_string();
     }
-    tests.iter().map(|told| test(names, told)).collect::<Vec<_>>().join(" and ")
+    let tests: Vec<String> = tests.iter().map(|told| test(names, told)).collect();
+    let line = tests.join(" and ");
+    if line.chars().count() > LONGEST_LINE {
+        return tests.join("\n     and ");
+    }
+    line
 }
 
 /// A test: whose belief, which fact, which value.
