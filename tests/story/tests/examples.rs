@@ -1,0 +1,60 @@
+//! The stories of `examples/`: each gives its pack and its picture, and `ending` finds what its page says.
+
+use std::fs::{read, read_dir, read_to_string};
+use std::path::PathBuf;
+
+use reference::ending::ending;
+use story::{dot, Story};
+
+fn folder() -> PathBuf {
+    [env!("CARGO_MANIFEST_DIR"), "..", "..", "examples"].iter().collect()
+}
+
+/// The names of the files with an ending.
+fn names(ending: &str) -> Vec<String> {
+    let files = read_dir(folder()).unwrap().map(|file| file.unwrap().file_name().into_string().unwrap());
+    let pages = files.filter(|file| file != "README.md");
+    let mut names: Vec<String> = pages.filter_map(|file| Some(file.strip_suffix(ending)?.to_string())).collect();
+    names.sort();
+    names
+}
+
+#[test]
+fn every_story_has_all_its_files() {
+    let stories = names(".story");
+    assert!(stories.len() >= 7, "{stories:?}");
+    for ending in [".pack", ".out", ".dot", ".md"] {
+        assert_eq!(names(ending), stories, "{ending}");
+    }
+}
+
+#[test]
+fn every_story_gives_its_pack() {
+    for name in names(".story") {
+        let story = story::read(&read(folder().join(name.clone() + ".story")).unwrap()).unwrap();
+        assert_eq!(story.bytes(), read(folder().join(name.clone() + ".pack")).unwrap(), "{name}");
+        let picture = read_to_string(folder().join(name.clone() + ".dot")).unwrap();
+        assert_eq!(dot::story(&story), picture, "{name}");
+    }
+}
+
+#[test]
+fn every_pack_has_its_ending() {
+    for name in names(".pack") {
+        let pack = read(folder().join(name.clone() + ".pack")).unwrap();
+        let out = read_to_string(folder().join(name.clone() + ".out")).unwrap();
+        assert_eq!(ending(&pack), out, "{name}");
+        assert!(Story::of_pack(&pack).is_ok());
+    }
+}
+
+/// The page of a story quotes what `ending` prints, so that it can't tell of another ending.
+#[test]
+fn every_page_quotes_its_ending() {
+    for name in names(".md") {
+        let page = read_to_string(folder().join(name.clone() + ".md")).unwrap();
+        let out = read_to_string(folder().join(name.clone() + ".out")).unwrap();
+        let quoted: String = out.lines().map(|line| format!("    {line}\n")).collect();
+        assert!(page.contains(&quoted), "{name}");
+    }
+}
