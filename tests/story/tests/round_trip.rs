@@ -17,13 +17,13 @@ fn again(story: &Story) -> Story {
 #[test]
 fn generated_packs() {
     let mut accepted = 0;
-    for seed in 0..20_000 {
+    for seed in 0..10_000 {
         let pack = generate::call(seed).pack;
         let Ok(story) = Story::of_pack(&pack) else { continue };
         assert_eq!(again(&story).bytes(), pack, "seed {seed}");
         accepted += 1;
     }
-    assert!(accepted > 15_000, "{accepted}");
+    assert!(accepted > 7_000, "{accepted}");
 }
 
 /// Packs with all counts as large as they may be, and packs of 8,192 bytes.

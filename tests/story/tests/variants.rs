@@ -3,7 +3,8 @@
 use reference::calls::search_pack;
 use reference::ending::{lines, FORESIGHT, NESTING, STORY};
 use reference::happening::step;
-use reference::refusal::ROUNDS;
+use reference::planner::Planner;
+use reference::refusal::{CONDITION, ROUNDS};
 use reference::state::State;
 use reference::{chart, text};
 use story::{read, Story};
@@ -38,11 +39,21 @@ fn ends(story: &str, changes: &[(&str, &str)]) -> String {
     under(&changed(story, changes), (STORY, FORESIGHT, NESTING))
 }
 
-/// The chart after some actions, in hexadecimal.
-fn after(story: &Story, actions: &[usize]) -> String {
+/// The state after some actions.
+fn state(story: &Story, actions: &[usize]) -> State {
     let start = State::new(&story.pack.nodes, 0);
-    let end = actions.iter().fold(start, |state, &action| step(&story.pack, &state, action).unwrap());
-    text::hex(&chart::write(&end))
+    actions.iter().fold(start, |state, &action| step(&story.pack, &state, action).unwrap())
+}
+
+/// Its chart, in hexadecimal.
+fn after(story: &Story, actions: &[usize]) -> String {
+    text::hex(&chart::write(&state(story, actions)))
+}
+
+/// Whether an action after some others is explained to a character, under a foresight and a nesting limit.
+fn explained(story: &Story, actions: &[usize], action: usize, character: usize, limits: (usize, usize)) -> bool {
+    let (foresight, nesting) = limits;
+    Planner::new(&story.pack, foresight).explained(character, action, &state(story, actions), nesting)
 }
 
 #[test]
@@ -50,6 +61,10 @@ fn letter() {
     let story = changed(LETTER, &[]);
     assert_eq!(under(&story, (4, 3, 1)), "1 0\n2 1\n3 2\nauthor 0 5\n");
     assert_eq!(under(&story, (4, 2, 2)), NONE);
+    assert!(explained(&story, &[], 0, 0, (1, 1)), "Ada moves the letter for its own sake");
+    assert!(explained(&story, &[0], 1, 1, (3, 1)) && !explained(&story, &[0], 1, 1, (2, 3)), "he comes home for three");
+    assert!(explained(&story, &[0, 1], 2, 1, (2, 1)) && !explained(&story, &[0, 1], 2, 1, (1, 3)));
+    assert_eq!(step(&story.pack, &state(&story, &[0, 1, 2]), 3), Err(CONDITION), "the letter isn't in the desk");
     let at_home = ("    the cousin is out\n\naction", "    the cousin is in the house\n\naction");
     assert_eq!(ends(LETTER, &[at_home]), NONE);
     assert_eq!(ends(LETTER, &[("seen by the cousin if the cousin is in the house", "seen by the cousin")]), NONE);
@@ -69,7 +84,7 @@ fn alice() {
     assert_eq!(after(&story, &[0]), "02000001020101000002020202");
     assert_eq!(after(&story, &[0, 1]), "01000000010101");
     assert_eq!(after(&story, &[1, 0]), "01000000010101");
-    let start = State::new(&story.pack.nodes, 0);
+    let start = state(&story, &[]);
     assert_eq!(
         start.follow(0, &[1, 2, 0]).values[1],
         2,
@@ -82,6 +97,7 @@ fn alice() {
 #[test]
 fn shoes() {
     let story = changed(SHOES, &[]);
+    assert!(explained(&story, &[], 0, 0, (2, 1)) && !explained(&story, &[], 0, 0, (1, 3)), "going is for buying");
     assert_eq!(after(&story, &[0]), "040202000203020100020401020003030001000404");
     assert_eq!(under(&story, (4, 1, 2)), NONE);
     assert_eq!(under(&story, (4, 2, 1)), "1 0\n2 1\nauthor 0 5\n");
@@ -104,8 +120,7 @@ fn market() {
             ("     and the stalls are seen and Tom believes the stalls are seen\n", ""),
         ],
     );
-    let start = State::new(&literal.pack.nodes, 0);
-    assert_eq!(step(&literal.pack, &start, 0), Err(ROUNDS));
+    assert_eq!(step(&literal.pack, &state(&literal, &[]), 0), Err(ROUNDS));
     assert_eq!(under(&literal, (4, 3, 2)), NONE);
     let found = "1 0\n2 2\nauthor 0 5\n";
     let knows =
@@ -127,6 +142,10 @@ fn market() {
 fn lie() {
     let story = changed(LIE, &[]);
     let found = "1 0\n2 1\n3 3\nauthor 0 5\n";
+    assert!(explained(&story, &[], 0, 0, (3, 2)) && !explained(&story, &[], 0, 0, (6, 1)), "the lie is for two heads");
+    assert!(explained(&story, &[0], 1, 1, (2, 1)) && !explained(&story, &[0], 1, 1, (1, 3)), "he goes to dig");
+    assert!(!explained(&story, &[], 1, 1, (6, 3)), "nobody has said anything");
+    assert_eq!(after(&story, &[0]), "0200000001020100000102");
     assert_eq!(under(&story, (4, 3, 1)), NONE);
     assert_eq!(under(&story, (8, 6, 1)), NONE);
     assert_eq!(under(&story, (3, 3, 2)), found);
@@ -154,6 +173,7 @@ fn lie() {
 fn safe() {
     let story = changed(SAFE, &[]);
     assert_eq!(under(&story, (4, 6, 3)), NONE);
+    assert_eq!(under(&story, (5, 2, 1)), under(&story, (5, 3, 2)));
     assert_eq!(under(&story, (5, 3, 2)), "1 0\n2 1\n3 2\n4 3\n5 4\nauthor 0 5\n");
     let stairs = "action the inspector takes the back stairs:\n    when the inspector is in the library\n    then the inspector is in the study\n    by the inspector\n    seen by everyone\n\nauthor wants:\n";
     assert_eq!(ends(SAFE, &[("author wants:\n", stairs)]), "1 0\n2 1\n3 5\n4 4\nauthor 0 5\n");
