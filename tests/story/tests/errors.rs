@@ -67,6 +67,9 @@ fn signs() {
         "line 6, column 10: expected letters, digits, - _ . ' or , : and # for a remark, found '&'",
     )];
     all(&table, with);
+    assert_eq!(error("characters: Éa, Éa\n# é"), "line 2, column 4: expected a section 'facts:', the story has none");
+    let again = "line 1, column 17: the character 'Éa' is said again, expected it once (see line 1)";
+    assert_eq!(error("characters: Éa, Éa\nfacts:\n"), again);
     let bytes = b"characters: Ada\n# \xC3\xA9\xC3\xA9 \xFF\n";
     assert_eq!(read(bytes).err().unwrap().to_string(), "line 2, column 6: expected text in UTF-8");
 }

@@ -4,6 +4,7 @@ use std::fs::{read, read_dir, read_to_string};
 use std::path::PathBuf;
 
 use reference::ending::ending;
+use story::command::run;
 use story::{dot, Story};
 
 fn folder() -> PathBuf {
@@ -56,5 +57,31 @@ fn every_page_quotes_its_ending() {
         let out = read_to_string(folder().join(name.clone() + ".out")).unwrap();
         let quoted: String = out.lines().map(|line| format!("    {line}\n")).collect();
         assert!(page.contains(&quoted), "{name}");
+    }
+}
+
+/// The program's commands on the examples.
+#[test]
+fn commands() {
+    let file = |path: &str| read(folder().join(path));
+    let said = |words: &[&str]| String::from_utf8(run(words, file).unwrap()).unwrap();
+    let told = "1. Ada moves the letter to the drawer\n2. the cousin comes home\n3. the cousin breaks the desk open\n\
+                The author goes from 0 to 5.\n";
+    assert_eq!(said(&["tell", "letter.story"]), told);
+    assert_eq!(said(&["tell", "p.pack"]), "1. 0\nThe author goes from 0 to 5.\n");
+    assert_eq!(said(&["tell", "safe.story"]), "There is no ending of up to 4 actions.\n");
+    assert_eq!(run(&["pack", "p.story"], file).unwrap(), file("p.pack").unwrap());
+    assert_eq!(said(&["dot", "p.story"]), String::from_utf8(file("p.dot").unwrap()).unwrap());
+    assert!(said(&["text", "p.pack"]).starts_with("characters: A, B\n"));
+    assert!(said(&["dot", "p.story", "02010102000202"]).contains("n0 -> n1 [label=\"Ben\"];"));
+}
+
+/// The pages that quote the ending in words quote what the program tells.
+#[test]
+fn pages_in_words() {
+    for name in ["letter", "lie"] {
+        let story = story::read(&read(folder().join(format!("{name}.story"))).unwrap()).unwrap();
+        let quoted: String = story::command::tell(&story).lines().map(|line| format!("    {line}\n")).collect();
+        assert!(read_to_string(folder().join(format!("{name}.md"))).unwrap().contains(&quoted), "{name}");
     }
 }

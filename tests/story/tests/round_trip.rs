@@ -2,6 +2,7 @@
 
 use reference::generate;
 use reference::generate::random::Random;
+use reference::graph::Node;
 use story::{dot, print, read, Story};
 
 /// Prints a story and reads it again: same pack, same names.
@@ -134,6 +135,25 @@ fn written_stories() {
         let pack = Story::of_pack(&story.bytes()).unwrap();
         assert_eq!(again(&pack).bytes(), story.bytes());
     }
+}
+
+/// The text as it is laid out.
+#[test]
+fn printed_as_expected() {
+    let story = read(include_bytes!("everything.story")).unwrap();
+    assert_eq!(print::story(&story), include_str!("everything.printed"));
+}
+
+/// A view at the end of a long chain has a name, for a long heading reads badly.
+#[test]
+fn long_chains() {
+    let mut pack = generate::draft::empty(1, &[7]);
+    pack.nodes = (0..7).map(|i| Node { values: vec![i as u8], beliefs: vec![(i + 1).min(6)] }).collect();
+    let story = Story::of_pack(&generate::draft::bytes(&pack)).unwrap();
+    let text = print::story(&again(&story));
+    assert!(text
+        .contains("\nwhat A believes A believes A believes A believes:\n    fact 0 is 4\n    A believes number 5\n"));
+    assert!(text.contains("\nview number 5:\n    fact 0 is 5\n    A believes number 6\n"));
 }
 
 const STORIES: [&str; 3] = [
