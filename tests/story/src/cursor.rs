@@ -6,7 +6,6 @@ use crate::words::{Line, Sign, Token};
 /// Words that end a name wherever names are used.
 pub const RESERVED: [&str; 6] = ["is", "are", "believes", "and", "or", "if"];
 
-#[derive(Clone)]
 pub struct Cursor<'l, 'a> {
     tokens: &'l [Token<'a>],
     end: Place,

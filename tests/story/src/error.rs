@@ -83,15 +83,15 @@ impl Display for Fault {
     }
 }
 
-/// The names there are, the first few of them.
+/// The names there are, or the first few of them.
 fn one_of(known: &[String]) -> String {
     const SHOWN: usize = 8;
     let quoted: Vec<String> = known.iter().take(SHOWN).map(|name| format!("'{name}'")).collect();
-    let more = if known.len() > SHOWN { " and so on" } else { "" };
+    if known.len() > SHOWN {
+        return quoted.join(", ") + " and so on";
+    }
     match quoted.split_last() {
-        None => "none, for none is named".to_string(),
-        Some((last, [])) => format!("{last}{more}"),
-        Some((last, others)) if more.is_empty() => format!("{} or {last}", others.join(", ")),
-        Some(_) => quoted.join(", ") + more,
+        Some((last, others)) if !others.is_empty() => format!("{} or {last}", others.join(", ")),
+        _ => quoted.concat(),
     }
 }

@@ -1,7 +1,7 @@
 //! Actions, triggers and what everyone wants.
 
 use reference::generate::draft::{always, never};
-use reference::pack::{Action, Condition, Effect, Rule, Trigger};
+use reference::pack::{Action, Condition, Effect, Rule, Test, Trigger};
 
 use crate::cursor::Cursor;
 use crate::error::{Error, Fault, Place};
@@ -109,12 +109,10 @@ impl Sight {
             return note(&mut self.others, condition, at, "'everyone'");
         }
         let named = characters(scope, cursor)?;
-        let before = cursor.clone();
+        let condition = if_condition(scope, cursor)?;
         for (character, at) in named {
-            *cursor = before.clone();
-            let condition = if_condition(scope, cursor)?;
             let what = format!("whether '{}' sees it", scope.characters[character]);
-            note(&mut self.named[character], condition, at, &what)?;
+            note(&mut self.named[character], copy(&condition), at, &what)?;
         }
         Ok(())
     }
@@ -190,7 +188,6 @@ fn rule(scope: &Scope, cursor: &mut Cursor) -> Result<Rule, Error> {
 }
 
 fn copy(condition: &Condition) -> Condition {
-    use reference::pack::Test;
     let test = |test: &Test| Test { chain: test.chain.clone(), ..*test };
     let alternatives = condition.alternatives.iter().map(|tests| tests.iter().map(test).collect()).collect();
     Condition { alternatives }

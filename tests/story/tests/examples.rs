@@ -3,9 +3,13 @@
 use std::fs::{read, read_dir, read_to_string};
 use std::path::PathBuf;
 
+use reference::call::{Ask, Call, Outcome};
 use reference::ending::ending;
+use reference::implementation::Implementation;
+use reference::plain;
+use reference::tuned::Engine;
 use story::command::run;
-use story::{dot, Story};
+use story::dot;
 
 fn folder() -> PathBuf {
     [env!("CARGO_MANIFEST_DIR"), "..", "..", "examples"].iter().collect()
@@ -45,7 +49,9 @@ fn every_pack_has_its_ending() {
         let pack = read(folder().join(name.clone() + ".pack")).unwrap();
         let out = read_to_string(folder().join(name.clone() + ".out")).unwrap();
         assert_eq!(ending(&pack), out, "{name}");
-        assert!(Story::of_pack(&pack).is_ok());
+        assert_eq!(Engine::new().ending(&pack), out, "{name}, the tuned form");
+        let plainly = plain::answer(&Call::new(pack, Ask::Ending)).map(|answer| answer.outcome);
+        assert_eq!(plainly, Some(Outcome::Text(out)), "{name}, the plain way");
     }
 }
 
