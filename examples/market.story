@@ -20,12 +20,12 @@ the truth:
     the takings are 0
     the stalls are unseen
 
-# Tom has it that the merchant is away and has 2.
+# Tom takes the merchant to be away, and poorer.
 what Tom believes:
     the merchant is at the cottage
     the merchant's wealth is 2
 
-# The merchant knows the truth but for Tom: it has it that Tom knows the truth.
+# The merchant knows how things are, and takes Tom to know it too.
 what the merchant believes:
 
 action Tom walks to the market:

@@ -111,11 +111,7 @@ impl<'l, 'a> Cursor<'l, 'a> {
 
     /// The refusal of what comes next.
     pub fn expected<T>(&self, what: &'static str) -> Result<T, Error> {
-        let found = self.tokens.first().map(|token| match token.sign {
-            Sign::Word(word) => word.to_string(),
-            Sign::Comma => ",".to_string(),
-            Sign::Colon => ":".to_string(),
-        });
+        let found = self.tokens.first().map(|token| token.sign.text().to_string());
         Err(Error::new(self.at(), Fault::Expected { what, found }))
     }
 

@@ -10,6 +10,9 @@ const MOST_CHARACTERS: usize = 6;
 const MOST_FACTS: usize = 24;
 const MOST_VALUES: usize = 128;
 
+/// No character's name begins with one of these, for headings and conditions do.
+const NO_CHARACTERS: [&str; 8] = ["author", "everyone", "always", "never", "what", "view", "action", "trigger"];
+
 /// Names of one kind, in order, none of them twice.
 pub struct Declared {
     what: &'static str,
@@ -47,7 +50,10 @@ pub fn characters(section: &Section) -> Result<Vec<String>, Error> {
     let mut declared = Declared::new("character", ("characters", MOST_CHARACTERS));
     for line in &section.body {
         list(&mut Cursor::new(line), "a character's name", |name| {
-            refuse_word(&name, &["author", "everyone", "always", "never", "what"])?;
+            refuse_word(&name, &NO_CHARACTERS)?;
+            if name.text == "the author" {
+                return Err(Error::new(name.at, misread(&name, "the author doesn't have")));
+            }
             declared.add(name)
         })?;
     }

@@ -24,11 +24,8 @@ pub fn read(bytes: &[u8]) -> Result<Story, Error> {
     let (characters, mut facts) = declared(sections, end)?;
     let scope = &Scope { characters: &characters, facts: &facts };
     let Views { nodes, labels, plural } = views(scope, sections, end)?;
-    let (names, happen) = (titled(sections, Kind::Action, "action", ("actions", MOST_ACTIONS))?, happenings::action);
-    let actions = each(sections, Kind::Action, |section| happen(scope, section))?;
-    let (signs, happen) =
-        (titled(sections, Kind::Trigger, "trigger", ("triggers", MOST_TRIGGERS))?, happenings::trigger);
-    let triggers = each(sections, Kind::Trigger, |section| happen(scope, section))?;
+    let actions = each(sections, Kind::Action, |section| happenings::action(scope, section))?;
+    let triggers = each(sections, Kind::Trigger, |section| happenings::trigger(scope, section))?;
     let utilities = utilities(scope, sections)?;
     let domains = facts.iter().map(|fact| fact.values.len()).collect();
     let pack = Pack { characters: characters.len(), domains, nodes, actions, triggers, utilities };
@@ -37,7 +34,9 @@ pub fn read(bytes: &[u8]) -> Result<Story, Error> {
         return Err(Error::new(end, Fault::TooLong { bytes: length, most: LONGEST_PACK }));
     }
     facts.iter_mut().zip(plural).for_each(|(fact, plural)| fact.plural = plural);
-    Ok(Story { pack, names: Names { characters, facts, views: labels, actions: names, triggers: signs } })
+    let actions = titles(sections, Kind::Action, "action", ("actions", MOST_ACTIONS))?;
+    let triggers = titles(sections, Kind::Trigger, "trigger", ("triggers", MOST_TRIGGERS))?;
+    Ok(Story { pack, names: Names { characters, facts, views: labels, actions, triggers } })
 }
 
 fn declared(sections: &[Section], end: Place) -> Result<(Vec<String>, Vec<Fact>), Error> {
@@ -53,7 +52,7 @@ fn each<T>(sections: &[Section], kind: Kind, read: impl Fn(&Section) -> Result<T
 }
 
 /// The titles of a kind's sections.
-fn titled(
+fn titles(
     sections: &[Section],
     kind: Kind,
     what: &'static str,

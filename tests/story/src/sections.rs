@@ -57,7 +57,7 @@ fn has_colon(line: &Line) -> bool {
 /// Which heading a line is, and where its colon stands.
 fn heading(line: &Line) -> Option<(Kind, usize)> {
     let colon = line.tokens.iter().position(|token| token.sign == Sign::Colon)?;
-    let words: Vec<&str> = line.tokens[..colon].iter().map_while(|token| word(token.sign)).collect();
+    let words: Vec<&str> = line.tokens[..colon].iter().map(|token| token.sign.text()).collect();
     let kind = match words[..] {
         ["characters"] => Kind::Characters,
         ["facts"] => Kind::Facts,
@@ -70,13 +70,6 @@ fn heading(line: &Line) -> Option<(Kind, usize)> {
         _ => return None,
     };
     Some((kind, colon))
-}
-
-fn word(sign: Sign<'_>) -> Option<&str> {
-    match sign {
-        Sign::Word(word) => Some(word),
-        _ => None,
-    }
 }
 
 impl<'a> Section<'a> {

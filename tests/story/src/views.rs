@@ -100,22 +100,26 @@ fn body(scope: &Scope, view: &Section, labels: &[Label]) -> Result<Said, Error> 
     let (facts, characters) = (scope.facts.len(), scope.characters.len());
     let mut said = Said { values: vec![None; facts], plural: vec![false; facts], beliefs: vec![None; characters] };
     for line in &view.body {
-        let cursor = &mut Cursor::new(line);
-        loop {
-            statement(scope, cursor, labels, &mut said)?;
-            if cursor.is_done() {
-                break;
-            }
-            if !cursor.take_next(&["and"]) {
-                return cursor.expected("'and', a comma or the end of the line");
-            }
-        }
+        claims(scope, &mut Cursor::new(line), labels, &mut said)?;
     }
     Ok(said)
 }
 
+/// Claims with commas or `and` between them, to the end of the line.
+fn claims(scope: &Scope, cursor: &mut Cursor, labels: &[Label], said: &mut Said) -> Result<(), Error> {
+    loop {
+        claim(scope, cursor, labels, said)?;
+        if cursor.is_done() {
+            return Ok(());
+        }
+        if !cursor.take_next(&["and"]) {
+            return cursor.expected("'and', a comma or the end of the line");
+        }
+    }
+}
+
 /// `the letter is burnt` or `Ada believes the truth`
-fn statement(scope: &Scope, cursor: &mut Cursor, labels: &[Label], said: &mut Said) -> Result<(), Error> {
+fn claim(scope: &Scope, cursor: &mut Cursor, labels: &[Label], said: &mut Said) -> Result<(), Error> {
     let name = cursor.phrase("a fact or a character")?;
     let plural = cursor.word() == Some("are");
     if cursor.take_is() {
@@ -165,19 +169,28 @@ fn tie(scope: &Scope, views: &[&Section], labels: &[Label], said: &mut [Said]) -
     Ok(())
 }
 
-/// A fact that a view leaves out is as in the truth; who isn't named believes the view itself.
+/// Who isn't named believes the view itself.
 fn nodes(scope: &Scope, truth: &Section, said: Vec<Said>) -> Result<Vec<Node>, Error> {
     let mut nodes: Vec<Node> = Vec::new();
-    for (i, Said { values, beliefs, .. }) in said.into_iter().enumerate() {
-        let mut found = Vec::new();
-        for (fact, value) in values.into_iter().enumerate() {
-            let Some(value) = value.map(|(value, _)| value).or(nodes.first().map(|first| first.values[fact])) else {
-                return Err(Error::new(truth.at, Fault::Unsaid(scope.facts[fact].name.clone())));
-            };
-            found.push(value);
-        }
+    for (i, Said { values: told, beliefs, .. }) in said.into_iter().enumerate() {
+        let values = values(scope, truth, &told, nodes.first())?;
         let beliefs = beliefs.into_iter().map(|belief| belief.map_or(i, |(view, _)| view)).collect();
-        nodes.push(Node { values: found, beliefs });
+        nodes.push(Node { values, beliefs });
     }
     Ok(nodes)
+}
+
+/// A fact that a view leaves out is as in the truth, the first node, which leaves none out.
+fn values(
+    scope: &Scope,
+    truth: &Section,
+    told: &[Option<(u8, usize)>],
+    first: Option<&Node>,
+) -> Result<Vec<u8>, Error> {
+    let value = |(fact, told): (usize, &Option<(u8, usize)>)| match (told, first) {
+        (Some((value, _)), _) => Ok(*value),
+        (None, Some(first)) => Ok(first.values[fact]),
+        (None, None) => Err(Error::new(truth.at, Fault::Unsaid(scope.facts[fact].name.clone()))),
+    };
+    told.iter().enumerate().map(value).collect()
 }

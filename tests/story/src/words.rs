@@ -9,6 +9,16 @@ pub enum Sign<'a> {
     Colon,
 }
 
+impl<'a> Sign<'a> {
+    pub fn text(self) -> &'a str {
+        match self {
+            Sign::Word(word) => word,
+            Sign::Comma => ",",
+            Sign::Colon => ":",
+        }
+    }
+}
+
 #[derive(Clone, Copy, Debug)]
 pub struct Token<'a> {
     pub sign: Sign<'a>,

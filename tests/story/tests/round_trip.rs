@@ -137,6 +137,16 @@ fn written_stories() {
     }
 }
 
+/// Line ends of two signs, a mark at the beginning, tabs and remarks change nothing.
+#[test]
+fn other_layouts() {
+    for text in STORIES {
+        let bytes = read(text.as_bytes()).unwrap().bytes();
+        let other = format!("\u{FEFF}# a remark\r\n\r\n{}", text.replace('\n', " # é\r\n").replace("    ", "\t"));
+        assert_eq!(read(other.as_bytes()).unwrap().bytes(), bytes);
+    }
+}
+
 /// The text as it is laid out.
 #[test]
 fn printed_as_expected() {
