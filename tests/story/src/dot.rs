@@ -1,0 +1,125 @@
+//! Pictures, as text for Graphviz: the views with an arrow for each belief, and what happenings need and change.
+
+use std::fmt::Write;
+
+use reference::graph::Node;
+use reference::pack::{Action, Condition, Effect};
+
+use crate::names::{chain_text, labels, Label, Names};
+use crate::print::{is_always, kind, people, told};
+use crate::Story;
+
+/// A story: its views, and its facts with the actions and triggers that look at them and change them.
+pub fn story(story: &Story) -> String {
+    let Story { pack, names } = story;
+    let mut out = opening();
+    out += "    subgraph cluster_views {\n        label=\"what is so, and what is believed\";\n";
+    out += &views(names, &pack.nodes, &names.views);
+    out += "    }\n    subgraph cluster_plot {\n        label=\"what can happen\";\n";
+    for (i, fact) in names.facts.iter().enumerate() {
+        line(&mut out, &format!("f{i} [shape=ellipse, label={}];", quoted(&fact.name)));
+    }
+    for (i, (action, name)) in pack.actions.iter().zip(&names.actions).enumerate() {
+        let text = [vec![name.clone()], agents(names, action)].concat();
+        line(&mut out, &format!("a{i} [label={}];", lines(&text)));
+        out += &arrows(names, &format!("a{i}"), &action.condition, &action.effects);
+    }
+    for (i, (trigger, name)) in pack.triggers.iter().zip(&names.triggers).enumerate() {
+        line(&mut out, &format!("t{i} [style=rounded, label={}];", quoted(name)));
+        out += &arrows(names, &format!("t{i}"), &trigger.condition, &trigger.effects);
+    }
+    out + "    }\n}\n"
+}
+
+/// A chart: its views.
+pub fn chart(names: &Names, nodes: &[Node]) -> String {
+    opening() + &views(names, nodes, &labels(nodes)) + "}\n"
+}
+
+fn opening() -> String {
+    "digraph story {\n    rankdir=LR;\n    node [shape=box];\n".to_string()
+}
+
+/// A box for each view, the truth with a double border; an arrow from a view to what is believed in it, with the names
+/// of those who believe it.
+fn views(names: &Names, nodes: &[Node], labels: &[Label]) -> String {
+    let mut out = String::new();
+    for (i, (node, label)) in nodes.iter().zip(labels).enumerate() {
+        let text: Vec<String> = std::iter::once(label.text(&names.characters)).chain(told(names, nodes, i)).collect();
+        let border = if i == 0 { "peripheries=2, " } else { "" };
+        line(&mut out, &format!("n{i} [{border}label={}];", lines(&text)));
+        for next in 0..nodes.len() {
+            let who: Vec<usize> =
+                (0..node.beliefs.len()).filter(|&character| node.beliefs[character] == next).collect();
+            if !who.is_empty() {
+                line(&mut out, &format!("n{i} -> n{next} [label={}];", quoted(&people(names, &who))));
+            }
+        }
+    }
+    out
+}
+
+/// Who does an action, who sees it, and who sees it at times.
+fn agents(names: &Names, action: &Action) -> Vec<String> {
+    let observers = |wanted: fn(&Condition) -> bool| {
+        let found = (0..action.observations.len()).filter(|&character| wanted(&action.observations[character]));
+        found.collect::<Vec<_>>()
+    };
+    let at_times = |seen: &Condition| !seen.alternatives.is_empty() && !is_always(seen);
+    let told = [
+        ("by", action.consenters.clone()),
+        ("seen by", observers(is_always)),
+        ("at times seen by", observers(at_times)),
+    ];
+    let told = told.into_iter().filter(|(_, who)| !who.is_empty());
+    told.map(|(how, who)| format!("{how} {}", people(names, &who))).collect()
+}
+
+/// From each fact that a condition looks at, and to each fact that the effects change. Those in a belief are dashed.
+fn arrows(names: &Names, happening: &str, condition: &Condition, effects: &[Effect]) -> String {
+    let mut arrows = Vec::new();
+    for test in condition.alternatives.iter().flatten() {
+        let value = &names.facts[test.fluent].values[test.value as usize];
+        let ends = format!("f{} -> {happening}", test.fluent);
+        arrows.push(arrow(names, ends, &test.chain, format!("{}{value}", kind(test))));
+    }
+    for effect in effects {
+        let chain: Vec<usize> = effect.whom.checked_sub(1).into_iter().collect();
+        let value = names.facts[effect.fluent].values[effect.value as usize].clone();
+        arrows.push(arrow(names, format!("{happening} -> f{}", effect.fluent), &chain, value));
+    }
+    let mut out = String::new();
+    for (i, told) in arrows.iter().enumerate() {
+        if !arrows[..i].contains(told) {
+            line(&mut out, told);
+        }
+    }
+    out
+}
+
+fn arrow(names: &Names, ends: String, chain: &[usize], value: String) -> String {
+    if chain.is_empty() {
+        return format!("{ends} [label={}];", quoted(&value));
+    }
+    let text = [chain_text(chain, &names.characters), value];
+    format!("{ends} [style=dashed, label={}];", lines(&text))
+}
+
+fn line(out: &mut String, text: &str) {
+    // Writing to a string can't fail.
+    let _ = writeln!(out, "        {text}");
+}
+
+/// A label of several lines.
+fn lines(text: &[String]) -> String {
+    let lines: Vec<String> = text.iter().map(|line| escaped(line)).collect();
+    format!("\"{}\"", lines.join("\\n"))
+}
+
+fn quoted(text: &str) -> String {
+    format!("\"{}\"", escaped(text))
+}
+
+fn escaped(text: &str) -> String {
+    text.replace('\\', "\\\\").replace('"', "\\\"")
+}

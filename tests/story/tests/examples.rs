@@ -1,0 +1,93 @@
+//! The stories of `examples/`: each gives its pack and its picture, and `ending` finds what its page says.
+
+use std::fs::{read, read_dir, read_to_string};
+use std::path::PathBuf;
+
+use reference::call::{Ask, Call, Outcome};
+use reference::ending::ending;
+use reference::implementation::Implementation;
+use reference::plain;
+use reference::tuned::Engine;
+use story::command::run;
+use story::dot;
+
+fn folder() -> PathBuf {
+    [env!("CARGO_MANIFEST_DIR"), "..", "..", "examples"].iter().collect()
+}
+
+/// The names of the files with an ending.
+fn names(ending: &str) -> Vec<String> {
+    let files = read_dir(folder()).unwrap().map(|file| file.unwrap().file_name().into_string().unwrap());
+    let pages = files.filter(|file| file != "README.md");
+    let mut names: Vec<String> = pages.filter_map(|file| Some(file.strip_suffix(ending)?.to_string())).collect();
+    names.sort();
+    names
+}
+
+#[test]
+fn every_story_has_all_its_files() {
+    let stories = names(".story");
+    assert!(stories.len() >= 7, "{stories:?}");
+    for ending in [".pack", ".out", ".dot", ".md"] {
+        assert_eq!(names(ending), stories, "{ending}");
+    }
+}
+
+#[test]
+fn every_story_gives_its_pack() {
+    for name in names(".story") {
+        let story = story::read(&read(folder().join(name.clone() + ".story")).unwrap()).unwrap();
+        assert_eq!(story.bytes(), read(folder().join(name.clone() + ".pack")).unwrap(), "{name}");
+        let picture = read_to_string(folder().join(name.clone() + ".dot")).unwrap();
+        assert_eq!(dot::story(&story), picture, "{name}");
+    }
+}
+
+#[test]
+fn every_pack_has_its_ending() {
+    for name in names(".pack") {
+        let pack = read(folder().join(name.clone() + ".pack")).unwrap();
+        let out = read_to_string(folder().join(name.clone() + ".out")).unwrap();
+        assert_eq!(ending(&pack), out, "{name}");
+        assert_eq!(Engine::new().ending(&pack), out, "{name}, the tuned form");
+        let plainly = plain::answer(&Call::new(pack, Ask::Ending)).map(|answer| answer.outcome);
+        assert_eq!(plainly, Some(Outcome::Text(out)), "{name}, the plain way");
+    }
+}
+
+/// The page of a story quotes what `ending` prints, so that it can't tell of another ending.
+#[test]
+fn every_page_quotes_its_ending() {
+    for name in names(".md") {
+        let page = read_to_string(folder().join(name.clone() + ".md")).unwrap();
+        let out = read_to_string(folder().join(name.clone() + ".out")).unwrap();
+        let quoted: String = out.lines().map(|line| format!("    {line}\n")).collect();
+        assert!(page.contains(&quoted), "{name}");
+    }
+}
+
+/// The program's commands on the examples.
+#[test]
+fn commands() {
+    let file = |path: &str| read(folder().join(path));
+    let said = |words: &[&str]| String::from_utf8(run(words, file).unwrap()).unwrap();
+    let told = "1. Ada moves the letter to the drawer\n2. the cousin comes home\n3. the cousin breaks the desk open\n\
+                The author goes from 0 to 5.\n";
+    assert_eq!(said(&["tell", "letter.story"]), told);
+    assert_eq!(said(&["tell", "p.pack"]), "1. 0\nThe author goes from 0 to 5.\n");
+    assert_eq!(said(&["tell", "safe.story"]), "There is no ending of up to 4 actions.\n");
+    assert_eq!(run(&["pack", "p.story"], file).unwrap(), file("p.pack").unwrap());
+    assert_eq!(said(&["dot", "p.story"]), String::from_utf8(file("p.dot").unwrap()).unwrap());
+    assert!(said(&["text", "p.pack"]).starts_with("characters: A, B\n"));
+    assert!(said(&["dot", "p.story", "02010102000202"]).contains("n0 -> n1 [label=\"Ben\"];"));
+}
+
+/// The pages that quote the ending in words quote what the program tells.
+#[test]
+fn pages_in_words() {
+    for name in ["letter", "lie"] {
+        let story = story::read(&read(folder().join(format!("{name}.story"))).unwrap()).unwrap();
+        let quoted: String = story::command::tell(&story).lines().map(|line| format!("    {line}\n")).collect();
+        assert!(read_to_string(folder().join(format!("{name}.md"))).unwrap().contains(&quoted), "{name}");
+    }
+}

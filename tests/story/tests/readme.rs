@@ -1,0 +1,30 @@
+//! The crate's page shows P as it is, with names and without.
+
+use story::{print, Story};
+
+const PAGE: &str = include_str!("../README.md");
+
+/// A text as the page quotes it.
+fn quoted(text: &str) -> String {
+    let line = |line: &str| if line.is_empty() { "\n".to_string() } else { format!("    {line}\n") };
+    text.lines().map(line).collect()
+}
+
+#[test]
+fn p_with_its_names() {
+    assert!(PAGE.contains(&quoted(include_str!("../../../examples/p.story"))));
+}
+
+#[test]
+fn p_without_names() {
+    let story = Story::of_pack(include_bytes!("../../../examples/p.pack")).unwrap();
+    assert!(PAGE.contains(&quoted(&print::story(&story))));
+}
+
+/// The error that the page quotes.
+#[test]
+fn an_error() {
+    let story = include_str!("../../../examples/letter.story").replacen("is in the desk", "is in the dessk", 1);
+    let error = story::read(story.as_bytes()).err().unwrap();
+    assert!(PAGE.contains(&quoted(&format!("letter.story: {error}"))), "{error}");
+}
