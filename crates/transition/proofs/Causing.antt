@@ -1,7 +1,7 @@
 -- Effects at a place of the pack, one after the other, and who takes part. Assumes nothing.
-use Prim.Native.Nat.{ℕ, suc, _+_, _*_, _-_, _<_, _≤_}
+use Prim.Native.Nat.{ℕ, _+_, _-_, _<_, _≤_}
 use mathlib.Core.Path.{_≡_, refl, sym, ap, _∙_}
-use mathlib.Core.Bool.{Bool, true, false, _||_}
+use mathlib.Core.Bool.{Bool, true, false, not, _||_}
 use mathlib.Core.Logic.{_≢_}
 use mathlib.Core.List.{List, [], _∷_}
 use native.Mathlib.Omega.{arith}
@@ -9,18 +9,18 @@ use lib.ListN.{length, getD}
 use lib.Dec.{eqb}
 use borrow.Author.Tests.{eq-eqb, ne-eqb}
 use Rattle.pack.specs.Syntax.{Effect, Node}
-use Rattle.pack.specs.State.{State, meaning}
-use Rattle.pack.specs.Reading.{done, many}
+use Rattle.pack.specs.State.{meaning}
+use Rattle.pack.specs.Reading.{done}
 use Rattle.pack.specs.Grammar.{Dimensions, conditionAt, effectAt, effectsAt}
 use Rattle.pack.specs.Condition.{holds, write}
 use Rattle.pack.specs.Judge.{Small, Over, Judged}
-use Rattle.pack.specs.Table.{cells, stateOf, tableOf}
-use Rattle.pack.specs.Write.{Writable, EffectsWritten, RowOnly}
+use Rattle.pack.specs.Table.{cells, stateOf}
+use Rattle.pack.specs.Write.{Writable, EffectsWritten}
 use Rattle.pack.specs.declared.table.Table.{Table}
 use Rattle.pack.proofs.Judging.{Left, Next, left-start, left-one, left-next, left-none, counted-starts}
 use Rattle.pack.proofs.OneByte.{effect-bytes}
 use Rattle.pack.proofs.Writing.{only-none}
-use Rattle.transition.specs.Inner.Cause.{told, EffectsAt, Telling, ToldWritten, Observes, Tabled, Watched, Took}
+use Rattle.transition.specs.Inner.Cause.{told, EffectsAt, Telling, ToldWritten, Watched, Took}
 
 -- effects that are not meant for whom write nothing for whom
 pub untold-write : (es : List Effect) (whom : ℕ) → told es whom ≡ false → (v : List ℕ) → write whom es v ≡ v
@@ -108,3 +108,12 @@ module _ (pack places work : List ℕ) (observed m c : ℕ) (t : Table) where
       let g = o .stands ne c (w .character) in
       f d (s .over) (o .condition ne c (w .character)) (g .end) (g .reads)
       ∙ ap (λ (l : List Node). holds (meaning (t .characters) l m) (o .condition ne c (w .character))) (s .same) ∙ sym (o .judged ne c (w .character) (meaning (t .characters) table m))
+
+-- a test turned round
+pub not-true : (b : Bool) → not b ≡ true → b ≡ false
+not-true true e = sym e
+not-true false e = refl
+
+pub not-false : (b : Bool) → not b ≡ false → b ≡ true
+not-false true e = refl
+not-false false e = sym e

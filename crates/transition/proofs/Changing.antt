@@ -1,5 +1,5 @@
 -- The slots of what is met in the pass, and the rows of what they stand for. Assumes nothing.
-use Prim.Native.Nat.{ℕ, suc, _+_, _*_, _/_, _%_, _<_, _≤_}
+use Prim.Native.Nat.{ℕ, _+_, _*_, _/_, _%_, _<_, _≤_}
 use mathlib.Core.Path.{_≡_, refl, sym, ap, ap₂, _∙_, subst}
 use mathlib.Core.Bool.{Bool, true, false, cond}
 use mathlib.Core.Logic.{_≢_}
@@ -8,23 +8,21 @@ use native.Mathlib.Numerals.{add-one}
 use native.Mathlib.Omega.{arith}
 use lib.ListN.{length, getD, set}
 use lib.Seq.{getD-set-same, getD-set-other}
-use lib.Dec.{eqb}
 use borrow.Author.Tests.{eq-eqb, ne-eqb}
 use borrow.Author.Count.{below-more}
 use Rattle.pack.specs.Syntax.{Node}
 use Rattle.pack.specs.State.{node, target, Closed}
-use Rattle.pack.specs.Reading.{pick}
 use Rattle.pack.specs.Grammar.{Dimensions}
 use Rattle.pack.specs.Condition.{write}
-use Rattle.pack.specs.Table.{cells, rowsAt, tableOf, TableFits, Below, Above}
+use Rattle.pack.specs.Table.{cells, tableOf, Below}
 use Rattle.pack.specs.declared.table.Table.{Table}
-use Rattle.pack.proofs.Tables.{belief-at, rows-length, cells-at}
+use Rattle.pack.proofs.Tables.{belief-at, rows-length}
 use Rattle.chart.proofs.Cells.{cells-same, row-in, rows-node, rows-same}
 use Rattle.chart.specs.Inner.Put.{PartCopied}
 use Rattle.transition.specs.declared.change.Change.{Change}
 use Rattle.transition.specs.Laws.Changed.{Member, acted, edge, old, There}
-use Rattle.transition.specs.Inner.Cause.{told, EffectsAt, Telling, Tellable, ToldWritten, Observes, Tabled, Watched, Took}
-use Rattle.transition.specs.Inner.Change.{Scene, Stands, at, tells, believed, took, next, valuesOf, memberOf, SlotIs, SlotsPut, RowRoom, MemberPut, Puts}
+use Rattle.transition.specs.Inner.Cause.{told, EffectsAt, Telling, Tellable, ToldWritten, Tabled, Watched, Took}
+use Rattle.transition.specs.Inner.Change.{Scene, Stands, at, tells, believed, took, next, valuesOf, memberOf, SlotIs, SlotsPut, RowRoom, Puts}
 
 -- what a slot stands for
 module _ (h : Change) (n m : ℕ) (l : m < n) where

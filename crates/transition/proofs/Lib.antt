@@ -4,3 +4,8 @@ pub mod Changing
 pub mod Rowing
 pub mod Firing
 pub mod Staging
+pub mod Acting
+pub mod Settling
+pub mod Playing
+pub mod Stepping
+pub mod Stepped

@@ -1,17 +1,11 @@
 -- The pass over the slots of a change, row by row. Assumes nothing.
-use Prim.Native.Nat.{ℕ, suc, _+_, _*_, _/_, _%_, _-_, _<_, _≤_, max}
+use Prim.Native.Nat.{ℕ, suc, _+_, _*_, _/_, _-_, _<_, _≤_, max}
 use mathlib.Core.Path.{_≡_, refl, sym, ap, _∙_, subst}
-use mathlib.Core.Bool.{Bool, false}
 use mathlib.Core.List.{List}
 use native.Mathlib.Omega.{arith}
 use lib.ListN.{length, getD}
-use borrow.Author.Tests.{eq-eqb}
-use Rattle.pack.specs.Syntax.{Node}
-use Rattle.pack.specs.State.{meaning}
-use Rattle.pack.specs.Condition.{write}
 use Rattle.pack.specs.Table.{Below, Above}
 use Rattle.pack.specs.declared.table.Table.{Table}
-use Rattle.chart.specs.Inner.Put.{Cleared}
 use Rattle.chart.specs.Inner.Numbers.{Numbering, Named, Given, keyAt}
 use Rattle.chart.proofs.Cells.{row-in}
 use Rattle.chart.proofs.Numbering.{few}
@@ -22,7 +16,7 @@ use Rattle.transition.specs.Laws.Changed as changed
 use Rattle.transition.specs.Laws.Changed.{Member, acted, There}
 use Rattle.transition.specs.Inner.Change.{Scene, Stands, at, tells, next, valuesOf, memberOf, Puts, Laid, RowMade, ChangeMade}
 use Rattle.transition.proofs.Causing.{untold-write}
-use Rattle.transition.proofs.Changing.{stands-same, member-first}
+use Rattle.transition.proofs.Changing.{member-first}
 
 -- how many slots there are
 abbrev pub slotsOf : Table → ℕ

@@ -1,6 +1,6 @@
 -- A stage: the rows of what happens, their classes, and the merged table put into a slot. Assumes nothing.
-use Prim.Native.Nat.{ℕ, suc, _+_, _*_, _<_, _≤_}
-use mathlib.Core.Path.{_≡_, refl, sym, ap, _∙_, subst}
+use Prim.Native.Nat.{ℕ, _+_, _*_, _<_, _≤_}
+use mathlib.Core.Path.{_≡_, sym, ap, _∙_, subst}
 use mathlib.Core.Logic.{_≢_}
 use mathlib.Core.List.{List}
 use native.Mathlib.Nat.{mul-le-mul-left, mul-le-mul-right}
@@ -15,10 +15,8 @@ use Rattle.pack.specs.Table.{rowsAt, Below, Above}
 use Rattle.pack.specs.Laws.Table.{walk-inside, after-walk}
 use Rattle.pack.specs.declared.table.Table.{Table}
 use Rattle.pack.proofs.Tables.{rows-length}
-use Rattle.chart.specs.Call.{workRoom}
 use Rattle.chart.specs.Chart.{Ordered, Written, Starts}
 use Rattle.chart.specs.States.{AtMost}
-use Rattle.chart.specs.Inner.Bytes.{Between}
 use Rattle.chart.specs.Inner.Put.{PartCopied}
 use Rattle.chart.specs.Inner.Classed.{classAt, Room, Classed, WrittenOut}
 use Rattle.chart.specs.Inner.Level.{Levels, Parted}
@@ -29,7 +27,7 @@ use Rattle.chart.proofs.Numbering.{pigeons}
 use Rattle.transition.specs.declared.change.Change.{Change}
 use Rattle.transition.specs.Happening.{change}
 use Rattle.transition.specs.Inner.Change.{Scene, Stands, at, Laid, ChangeMade}
-use Rattle.transition.specs.Inner.Stage.{StageRoom, SlotOnly, InSlot, Staged}
+use Rattle.transition.specs.Inner.Stage.{StageRoom, Staged}
 use Rattle.transition.proofs.Changing.{small}
 
 pub down-more : {was now : List ℕ} {a b k : ℕ} → PartCopied was now a b k → b + k < length now → b + k < a + k → PartCopied was (set now (b + k) (getD now (a + k) 0)) a b (k + 1)

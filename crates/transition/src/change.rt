@@ -12,7 +12,7 @@ use pack::number::wide;
 use pack::table::Table;
 ghost use Prim.Native.Nat.{_+_, _*_, _<_, _≤_};
 ghost use lib.ListN.{length};
-ghost use Rattle.chart.specs.Inner.Numbers.{Numbering, keyAt, RowFilled};
+ghost use Rattle.chart.specs.Inner.Numbers.{Numbering, keyAt};
 ghost use Rattle.transition.specs.Laws.Changed.{acted, edge, old, There};
 ghost use Rattle.transition.specs.Inner.Cause.{Tabled};
 ghost use Rattle.transition.specs.Inner.Change.{Scene, Stands, Scened, Seen, believed, took, memberOf, SlotIs, SlotsPut, RowRoom, Puts, Laid, RowMade, ChangeMade};

@@ -19,11 +19,11 @@ pub fn settle(
     slot: usize,
 ) -> u8
     requires { ⌜ Settleable (now pack) (now places) triggers (now work) t slot ⌝ }
-    ensures { λ r. ⌜ ((p : Theory) (T : List Node) (actions : ℕ) → Setting p T (now (pack .entry)) (now (places .entry)) actions triggers (now (work .entry)) t slot → Slotted T t slot → SettledIn p (meaning (t .characters) T 0) t (now (work .entry)) (now (work .exit)) slot r) ⌝ }
+    ensures { λ r. ⌜ ((p : Theory) (T : List Node) (actions : ℕ) → Setting p T (now (pack .entry)) (now (places .entry)) actions triggers (now (work .entry)) t slot → Slotted T (now (work .entry)) t slot → SettledIn p (meaning (t .characters) T 0) t (now (work .entry)) (now (work .exit)) slot r) ⌝ }
 {
     let mut effects = [8192usize; 32];
     let mut nodes = t.nodes;
-    let mut rounds = 0;
+    let mut rounds: usize = 0;
     loop {
         let now = Table {
             rows: slot + 1,

@@ -95,7 +95,9 @@ pub fn play(
 }
 
 // Step(pack, chart, action, chart out, work): the length of the chart of what the action leaves, which is written, or a refusal's number and place.
-pub fn step(pack: &[u8], chart: &[u8], action: usize, out: &mut [u8], work: &mut [u8]) -> Charted {
+pub fn step(pack: &[u8], chart: &[u8], action: usize, out: &mut [u8], work: &mut [u8]) -> Charted
+    ensures { λ r. ⌜ Stepped (now (pack .entry)) (now (chart .entry)) action (now (out .entry)) (now (work .entry)) (now (out .exit)) (now (work .exit)) r ⌝ }
+{
     let mut places = [0usize; 327];
     let p = read_pack(pack, &mut places);
     let sizes = p.sizes;

@@ -17,7 +17,7 @@ use Rattle.chart.specs.Inner.Numbers.{keyAt, RowFilled}
 use Rattle.transition.specs.declared.change.Change.{Change}
 use Rattle.transition.specs.Happening.{change}
 use Rattle.transition.specs.Laws.Changed as changed
-use Rattle.transition.specs.Laws.Changed.{Member, acted, edge, old, There}
+use Rattle.transition.specs.Laws.Changed.{Member, acted, edge, old}
 use Rattle.transition.specs.Inner.Cause.{told, EffectsAt, Observes, Tabled}
 
 -- a table, and what happens in it

@@ -3,10 +3,10 @@ use mathlib.Core.Path.{_≡_}
 use mathlib.Core.Bool.{true, false}
 use mathlib.Core.Logic.{_⊎_, _≢_}
 use mathlib.Core.List.{List}
-use Prim.Native.Nat.{ℕ, suc, _+_, _*_, _<_, _≤_}
+use Prim.Native.Nat.{ℕ, suc, _+_, _<_, _≤_}
 use lib.ListN.{length, getD}
 use Rattle.pack.specs.Syntax.{Effect, Node, Theory}
-use Rattle.pack.specs.State.{State, meaning}
+use Rattle.pack.specs.State.{State}
 use Rattle.pack.specs.Answer.{dims}
 use Rattle.pack.specs.Judge.{Small}
 use Rattle.pack.specs.Contents.{TheoryFound}
@@ -23,7 +23,7 @@ use Rattle.pack.specs.Reading as reading
 use Rattle.transition.specs.Step.{Outcome, leaves}
 use Rattle.transition.specs.Answers.{stepTable}
 use Rattle.transition.specs.Replies.{outcomeReply}
-use Rattle.transition.specs.Happening.{Settles, Stops, Plays, Refuses, act, actionOf}
+use Rattle.transition.specs.Happening.{Settles, Stops, Plays, Refuses}
 use Rattle.transition.specs.Inner.Cause.{told, Tabled}
 use Rattle.transition.specs.Inner.Stage.{StageRoom, SlotOnly, InSlot}
 
@@ -51,12 +51,13 @@ abbrev pub Playable : (pack places : List ℕ) (triggers action : ℕ) (work : L
 Playable pack places triggers action work t slot = (p : Theory) × ((T : List Node) × ((actions : ℕ) × (Setting p T pack places actions triggers work t slot × (action < actions))))
 
 -- the table stands in the slot, as a written chart
-pub record Slotted (T : List Node) (t : Table) (slot : ℕ) : Type 0 where
+pub record Slotted (T : List Node) (work : List ℕ) (t : Table) (slot : ℕ) : Type 0 where
+  pub count : getD work slot 0 ≡ t .nodes
   pub rows : t .rows ≡ slot + 1
   pub written : Written (t .characters) T
 
 abbrev pub Settleable : (pack places : List ℕ) (triggers : ℕ) (work : List ℕ) (t : Table) (slot : ℕ) → Type 0
-Settleable pack places triggers work t slot = (p : Theory) × ((T : List Node) × ((actions : ℕ) × (Setting p T pack places actions triggers work t slot × Slotted T t slot)))
+Settleable pack places triggers work t slot = (p : Theory) × ((T : List Node) × ((actions : ℕ) × (Setting p T pack places actions triggers work t slot × Slotted T work t slot)))
 
 -- part 1 is in the slot, or leaves more than 32 states
 pub record Acted (z : State) (t : Table) (was now : List ℕ) (slot r : ℕ) : Type 0 where

@@ -1,7 +1,7 @@
 -- A stage of Step in the work buffer: slots of 961 bytes below 28,832, the stage's scratch from there on. Assumes nothing.
 use mathlib.Core.Path.{_≡_}
 use mathlib.Core.List.{List}
-use Prim.Native.Nat.{ℕ, suc, _+_, _*_, _<_, _≤_}
+use Prim.Native.Nat.{ℕ, _+_, _*_, _<_, _≤_}
 use lib.ListN.{length, getD}
 use Rattle.pack.specs.Table.{rowsAt, Below, Above}
 use Rattle.pack.specs.declared.table.Table.{Table}

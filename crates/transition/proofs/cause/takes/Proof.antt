@@ -1,6 +1,5 @@
 -- Everyone, or those whose condition holds. Assumes nothing.
 use native.Mathlib.Omega.{arith}
-use borrow.Author.Needs.{needs}
 use Rattle.transition.proofs.Causing.{took-all, watched-judged, took-judged}
 use Rattle.transition.proofs.cause.takes.Statement.{statement}
 use Rattle.transition.proofs.cause.takes.Tie as tie

@@ -1,7 +1,6 @@
 -- What is believed, and then what it is told. Assumes nothing.
 use mathlib.Core.Path.{_∙_}
 use native.Mathlib.Omega.{arith}
-use borrow.Author.Needs.{needs}
 use Rattle.transition.proofs.Changing.{small, tellable, edge-put}
 use Rattle.transition.proofs.change.put_edge.Statement.{statement}
 use Rattle.transition.proofs.change.put_edge.Tie as tie

@@ -1,5 +1,4 @@
 -- A slot stands for one of three. Assumes nothing.
-use mathlib.Core.Path.{sym, _∙_}
 use native.Mathlib.Omega.{arith}
 use borrow.Author.Needs.{needs}
 use Rattle.transition.proofs.Changing.{member-first, member-old, member-acted, member-edge, member-there, put-is}

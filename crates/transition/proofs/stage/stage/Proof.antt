@@ -3,7 +3,6 @@ use mathlib.Core.Path.{_≡_, _∙_}
 use Prim.Native.Nat.{_+_, _*_, _<_, _≤_}
 use lib.ListN.{length, length-set}
 use native.Mathlib.Omega.{arith}
-use borrow.Author.Needs.{needs}
 use Rattle.transition.proofs.Staging.{stage-laid, stage-levels, stage-many, stage-room, stage-classed, stage-few, stage-inside, stage-done}
 use Rattle.transition.proofs.stage.stage.Statement.{statement}
 use Rattle.transition.proofs.stage.stage.Tie as tie
