@@ -8,4 +8,3 @@ pub mod Stepping
 pub mod Step
 pub mod Replies
 pub mod Missing
-pub mod Stage

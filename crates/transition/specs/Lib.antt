@@ -4,3 +4,4 @@ pub mod Laws
 pub mod Answers
 pub mod Replies
 pub mod Promises
+pub mod Inner

@@ -1,5 +1,6 @@
 -- The pack P of document 01 as syntax, and what holds of it over chains. Assumes nothing.
 use Prim.Native.Nat.{ℕ, zero, suc, _<_, _≤_}
+use mathlib.Core.Bool.{true}
 use mathlib.Core.Path.{_≡_, refl, sym, _∙_, ap, subst, fun-ext}
 use mathlib.Core.Logic.{⊎-elim, _≢_}
 use mathlib.Core.List.{List, [], _∷_, List·Memᴰ, List·Memᴰ·head, List·Memᴰ·eq-of-singleton}
@@ -15,7 +16,7 @@ use Rattle.chart.specs.Earliest.{Before}
 use Rattle.chart.specs.Laws.Counted.{at-most}
 use Rattle.chart.specs.Laws.Unique.{ordered-reached}
 use Rattle.transition.specs.Happening.{Quiet, Settles, Plays, act, atRoot, firing, actionOf, change, observes}
-use Rattle.transition.specs.Laws.Changed.{Member, changed}
+use Rattle.transition.specs.Laws.Changed.{Member, changed, all-told}
 use Rattle.planner.specs.Ending.{Explained, Ending, Leads}
 use Rattle.planner.specs.Search.{Sought}
 
@@ -111,7 +112,7 @@ acts = sym (means 2 second sem (record {
   inside = λ n c h g. written-second .ordered .closed n c h g;
   beliefs = λ n c h g. two (λ n. sem (target second n c) ≡ belief (sem n) c) (two (λ c. sem (target second 0 c) ≡ belief (sem 0) c) (fun-ext observed) (fun-ext unseen) c g)
       (two (λ c. sem (target second 1 c) ≡ belief (sem 1) c) refl refl c g) n h;
-  outside = λ n c h g chain. ap (λ (s : State). s chain) (two (λ n. belief (sem n) c ≡ (λ chain. [])) (changed (λ s. act0 .effects) (observes act0) 2 first .outside Member.root tt c g) (belief-out 2 first 0 c g) n h);
+  outside = λ n c h g chain. ap (λ (s : State). s chain) (two (λ n. belief (sem n) c ≡ (λ chain. [])) (changed (λ s. act0 .effects) (observes act0) 2 first (λ m d. true) (all-told (λ s. act0 .effects) (observes act0) 2 first) .outside (Member.acted 0) tt c g) (belief-out 2 first 0 c g) n h);
 }) 0 (omega arith))
   where
     sem : ℕ → State

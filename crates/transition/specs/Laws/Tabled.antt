@@ -13,9 +13,9 @@ use Rattle.pack.specs.Laws.Table.{means}
 use Rattle.chart.specs.Laws.Lists.{below, map-in, map-out, below-in, below-out}
 use Rattle.chart.specs.Laws.Tabled.{enumerated, tabled-same, Tabled}
 use Rattle.transition.specs.Happening.{act, change, fires, observes, round}
-use Rattle.transition.specs.Laws.Changed.{Member, root, edge, old, There, next, changed}
+use Rattle.transition.specs.Laws.Changed.{Member, acted, edge, old, There, next, changed, all-told}
 
--- the members of a change: the root, every edge, every old row
+-- the members of a change in which every row that takes part is said to tell its characters something: the first row, every edge, every old row
 edges : ℕ → ℕ → List Member
 edges C zero = []
 edges C (suc m) = map (edge m) (below C) ++ edges C m
@@ -29,7 +29,7 @@ edges-in C (suc n) m c h g =
 
 module _ (C N : ℕ) where
   In : Member → Type 0
-  In root = Unit {0}
+  In (acted m) = m ≡ 0
   In (edge m c) = (m < N) × (c < C)
   In (old m) = m < N
 
@@ -43,32 +43,35 @@ module _ (C N : ℕ) where
   rest : List Member
   rest = map old (below N) ++ edges C N
 
-  listed : (k : Member) → List·Memᴰ k (root ∷ rest) → In k
+  listed : (k : Member) → List·Memᴰ k (acted 0 ∷ rest) → In k
   unfolding In rest
   listed k m =
-      ⊎-elim (λ (e : k ≡ root). subst In (sym e) tt)
+      ⊎-elim (λ (e : k ≡ acted 0). subst In (sym e) refl)
       (λ (m : List·Memᴰ k rest). ⊎-elim (λ (m : List·Memᴰ k (map old (below N))). let (n, i, e) = map-out old (below N) k m in subst In (sym e) (below-out N n i))
       (λ (m : List·Memᴰ k (edges C N)). edges-out N (omega arith) k m) (List·Memᴰ·append-cases (map old (below N)) m)) (List·Memᴰ·cases-cons m)
 
-  whole : (k : Member) → In k → List·Memᴰ k (root ∷ rest)
+  whole : (k : Member) → In k → List·Memᴰ k (acted 0 ∷ rest)
   unfolding In rest
-  whole root h = List·Memᴰ·head refl
+  whole (acted m) h = List·Memᴰ·head (ap acted h)
   whole (edge m c) h = List·Memᴰ·tail (Memᴰ·append-right (map old (below N)) (edges-in C N m c (h .0) (h .1)))
   whole (old m) h = List·Memᴰ·tail (Memᴰ·append-left (edges C N) (map-in old (below N) m (below-in N m h)))
 
 module _ (C : ℕ) (t : List Node) (closed : Closed C t) (some : 0 < length t) (effects : State → List Effect) (takes : State → ℕ → Bool) where
+  abbrev always : ℕ → ℕ → Bool
+  always m d = true
+
   abbrev Has : Member → Type 0
   Has = In C (length t)
 
   has-real : (k : Member) → Has k → There C k
   unfolding In
-  has-real root h = tt
+  has-real (acted m) h = tt
   has-real (edge m c) h = h .1
   has-real (old m) h = tt
 
-  has-next : (k : Member) → Has k → (c : ℕ) → c < C → Has (next effects takes C t k c)
+  has-next : (k : Member) → Has k → (c : ℕ) → c < C → Has (next effects takes C t always k c)
   unfolding In
-  has-next root h d l = (some, l)
+  has-next (acted m) h d l = (omega (arith, h, some), l)
   has-next (edge m c) h d l =
       let n = target t m c in
       let ln : n < length t = closed m c (h .0) (h .1) in
@@ -76,7 +79,7 @@ module _ (C : ℕ) (t : List Node) (closed : Closed C t) (some : 0 < length t) (
   has-next (old m) h d l = closed m d h l
 
   tabled-there : Tabled C (change effects takes (meaning C t 0))
-  tabled-there = enumerated C (changed effects takes C t) Has has-real has-next root (rest C (length t)) (listed C (length t)) (whole C (length t))
+  tabled-there = enumerated C (changed effects takes C t always (all-told effects takes C t)) Has has-real has-next (acted 0) (rest C (length t)) (listed C (length t)) (whole C (length t))
 
 tabled-change : {C : ℕ} {s : State} → Tabled C s → (effects : State → List Effect) (takes : State → ℕ → Bool) → Tabled C (change effects takes s)
 tabled-change {C} x effects takes = tabled-same (ap (change effects takes) (x .means)) (tabled-there C (x .table) (x .closed) (x .some) effects takes)

@@ -1,0 +1,162 @@
+-- A stage: the rows of what happens, their classes, and the merged table put into a slot. Assumes nothing.
+use Prim.Native.Nat.{ℕ, _+_, _*_, _<_, _≤_}
+use mathlib.Core.Path.{_≡_, sym, ap, _∙_, subst}
+use mathlib.Core.Logic.{_≢_}
+use mathlib.Core.List.{List}
+use native.Mathlib.Nat.{mul-le-mul-left, mul-le-mul-right}
+use native.Mathlib.Decide.{decLt}
+use native.Mathlib.Omega.{arith}
+use lib.ListN.{length, getD, set}
+use lib.Seq.{getD-set-same, getD-set-other}
+use borrow.Author.Count.{below-more}
+use Rattle.pack.specs.Syntax.{Node}
+use Rattle.pack.specs.State.{State, meaning, walk, after}
+use Rattle.pack.specs.Table.{rowsAt, Below, Above}
+use Rattle.pack.specs.Laws.Table.{walk-inside, after-walk}
+use Rattle.pack.specs.declared.table.Table.{Table}
+use Rattle.pack.proofs.Tables.{rows-length}
+use Rattle.chart.specs.Chart.{Ordered, Written, Starts}
+use Rattle.chart.specs.States.{AtMost}
+use Rattle.chart.specs.Inner.Put.{PartCopied}
+use Rattle.chart.specs.Inner.Classed.{classAt, Room, Classed, WrittenOut}
+use Rattle.chart.specs.Inner.Level.{Levels, Parted}
+use Rattle.chart.specs.Laws.Merged.{classes, grows}
+use Rattle.chart.specs.Laws.Unique.{ordered-reached, some}
+use Rattle.chart.proofs.Cells.{rows-same}
+use Rattle.chart.proofs.Numbering.{pigeons}
+use Rattle.transition.specs.declared.change.Change.{Change}
+use Rattle.transition.specs.Happening.{change}
+use Rattle.transition.specs.Inner.Change.{Scene, Stands, at, Laid, ChangeMade}
+use Rattle.transition.specs.Inner.Stage.{StageRoom, Staged}
+use Rattle.transition.proofs.Changing.{small}
+
+pub down-more : {was now : List ℕ} {a b k : ℕ} → PartCopied was now a b k → b + k < length now → b + k < a + k → PartCopied was (set now (b + k) (getD now (a + k) 0)) a b (k + 1)
+down-more {was} {now} {a} {b} {k} c l apart = let v = getD now (a + k) 0 in record {
+  part = below-more (λ q. getD (set now (b + k) v) (b + q) 0 ≡ getD was (a + q) 0) k
+      (λ q h. getD-set-other now (b + k) (b + q) v 0 (omega arith) ∙ c .part q h)
+      (getD-set-same now (b + k) v 0 l ∙ c .high (a + k) (omega arith));
+  low = λ p h. getD-set-other now (b + k) p v 0 (omega arith) ∙ c .low p h;
+  high = λ p h. getD-set-other now (b + k) p v 0 (omega arith) ∙ c .high p (omega arith);
+}
+
+-- a written chart has no more rows than its table has classes
+as-many : {C : ℕ} {u w : List Node} (cls : ℕ → ℕ) → Ordered C u → ((i j : ℕ) → i < length u → j < length u → cls i ≡ cls j → meaning C u i ≡ meaning C u j) → Written C w → meaning C w 0 ≡ meaning C u 0 → length w ≤ classes cls (length u)
+as-many {C} {u} {w} cls o same written means = pigeons key (length w) (classes cls (length u)) (λ i l. elim (decLt i (length w)) as (λ d. pick i d < classes cls (length u)) [ yes h ↦ grows cls (row i h) (length u) (row-in i h) | no h ↦ absurd (omega arith) ]) apart
+  where
+    row : (i : ℕ) → i < length w → ℕ
+    row i h = walk u 0 (ordered-reached C w (written .ordered) i h .0)
+
+    row-in : (i : ℕ) (h : i < length w) → row i h < length u
+    row-in i h = walk-inside C u (o .closed) (ordered-reached C w (written .ordered) i h .0) 0 (some u (o .whole)) (ordered-reached C w (written .ordered) i h .1)
+
+    row-means : (i : ℕ) (h : i < length w) → meaning C u (row i h) ≡ meaning C w i
+    row-means i h =
+        let (chain, v, g) = ordered-reached C w (written .ordered) i h in
+        sym (after-walk C u chain 0 v) ∙ ap (λ (s : State). after s chain) (sym means) ∙ after-walk C w chain 0 v ∙ ap (meaning C w) g
+
+    pick : (i : ℕ) → Dec (i < length w) → ℕ
+    pick i (yes h) = cls (row i h)
+    pick i (no h) = 0
+
+    key : ℕ → ℕ
+    key i = pick i (decLt i (length w))
+
+    apart : (i j : ℕ) → i < j → j < length w → key i ≡ key j → ⊥
+    apart i j h l e = elim (decLt i (length w)) as (λ d. pick i d ≡ key j → ⊥) [
+      | yes a ↦ elim (decLt j (length w)) as (λ d. cls (row i a) ≡ pick j d → ⊥) [
+        | yes b ↦ λ q. written .apart i j h l (sym (row-means i a) ∙ same (row i a) (row j b) (row-in i a) (row-in j b) q ∙ row-means j b)
+        | no b ↦ λ q. absurd (omega arith)
+      ]
+      | no a ↦ λ q. absurd (omega arith)
+    ] e
+
+module _ {s : Scene} {pack places effects was : List ℕ} {h : Change} {t : Table} (x : Stands s pack places effects h was t) {slot : ℕ} (p : StageRoom was t slot) where
+  abbrev w : ℕ
+  w = t .width
+
+  abbrev f : ℕ
+  f = t .fluents
+
+  abbrev C : ℕ
+  C = t .characters
+
+  wide : f + C ≤ w
+  wide = omega (arith, x .tabled .fits .wide)
+
+  -- k rows of at most 30 bytes
+  sized : (k m : ℕ) → k ≤ m → k * w ≤ m * 30
+  sized k m l = let slim : w ≤ 30 = omega (arith, x .tabled .fits .wide, small (x .tabled)) in omega (arith, mul-le-mul-left k slim, mul-le-mul-right 30 l)
+
+  most : t .nodes * 7 + 1 ≤ 225
+  most = omega (arith, x .tabled .few)
+
+  pub stage-laid : Laid was t 28832 29284
+  stage-laid = record { source = p .source; scratch = omega (arith, most); room = omega (arith, sized (t .nodes * 7 + 1) 225 most, p .room) }
+
+  -- the state that is made
+  abbrev made : State
+  made = change (s .causes) (s .takes) (at s C 0)
+
+  module _ {mid : List ℕ} {k : ℕ} (y : ChangeMade s t was mid 28832 29284 k) (long : length mid ≡ length was) where
+    some-rows : k ≤ 225
+    some-rows = omega (arith, y .few, most)
+
+    pub stage-levels : Levels mid k w f C 29284 36036 36264 36492
+    stage-levels = record { few = omega (arith, some-rows); wide = wide; source = omega (arith, sized k 225 some-rows); new = omega (arith, some-rows); old = omega (arith, some-rows); leads = omega (arith, some-rows, p .room) }
+
+    module _ {mid′ : List ℕ} {count : ℕ} (z : Parted mid mid′ k w f C 29284 36036 36264 36492 32 count) (long′ : length mid′ ≡ length mid) where
+      -- the rows are where they were
+      means : meaning C (rowsAt mid′ w f C 29284 k) 0 ≡ made
+      means = ap (λ (u : List Node). meaning C u 0) (rows-same mid mid′ w f C 29284 29284 k wide (λ q l. z .low (29284 + q) (omega (arith, sized k 225 some-rows)))) ∙ y .means
+
+      below : Below was mid′ 28832
+      below q l = z .low q (omega arith) ∙ y .low q l
+
+      above : Above was mid′ 36720
+      above q l = z .high q (omega (arith, some-rows)) ∙ y .high q (omega (arith, sized (t .nodes * 7 + 1) 225 most))
+
+      pub stage-many : 32 < count → Staged s t was mid′ slot count
+      stage-many l = record {
+        holds = record { some = omega arith; count = λ g. absurd (omega arith); starts = λ g. absurd (omega arith); many = λ g a. z .many g (subst (AtMost 32 C) (sym means) a) };
+        only = record { low = λ q g. below q (omega (arith, p .slot-room)); mid = λ q g k. below q k; high = λ q g. above q (omega arith) };
+      }
+
+      pub stage-room : Room mid′ k w f C 29284 36264 36720
+      stage-room = record { wide = wide; source = omega (arith, sized k 225 some-rows); classes = omega (arith, some-rows); target = omega (arith, sized k 225 some-rows, p .room) }
+
+      module _ (few : count ≤ 32) where
+        pub stage-classed : Classed mid′ k w f C 29284 36264
+        stage-classed = z .few few .0
+
+        module _ {now : List ℕ} {r : ℕ} (o : WrittenOut mid′ now k w f C 29284 36720 r) where
+          pub stage-few : (0 < r) × (r ≤ 32)
+          stage-few =
+              let u = rowsAt mid′ w f C 29284 k in
+              let v = rowsAt now w f C 36720 r in
+              let lu = rows-length mid′ w f C 29284 k in
+              let lv = rows-length now w f C 36720 r in
+              let c = stage-classed in (
+                omega (arith, lv, some v (o .written .ordered .whole)),
+                omega (arith, lv, as-many {C = C} {u = u} {w = v} (classAt mid′ 36264) (c .ordered) (λ i j a b e. c .exact i j (omega (arith, lu)) (omega (arith, lu)) .0 e) (o .written) (o .means), ap (classes (classAt mid′ 36264)) lu ∙ z .few few .1),
+              )
+
+          pub stage-inside : (36720 + r * w ≤ 37680) × (slot + 1 + r * w ≤ slot + 961) × (37680 ≤ length was)
+          stage-inside = (omega (arith, sized r 32 (stage-few .1)), omega (arith, sized r 32 (stage-few .1)), omega (arith, p .room))
+
+          pub stage-done : {now′ : List ℕ} → length now ≡ length was → PartCopied (set now slot r) now′ 36720 (slot + 1) (r * w) → Staged s t was now′ slot r
+          stage-done {now′} size c =
+              let kept : (q : ℕ) → q ≢ slot → getD (set now slot r) q 0 ≡ getD now q 0 = λ q g. getD-set-other now slot q r 0 g in
+              let rows : rowsAt now′ w f C (slot + 1) r ≡ rowsAt now w f C 36720 r = rows-same now now′ w f C 36720 (slot + 1) r wide (λ q l. c .part q l ∙ kept (36720 + q) (omega (arith, p .slot-room))) in
+              record {
+                holds = record {
+                  some = stage-few .0;
+                  count = λ g. c .low slot (omega arith) ∙ getD-set-same now slot r 0 (omega (arith, size, p .slot-room, p .room));
+                  starts = λ g. subst (Starts C made) (sym rows) (o .written, o .means ∙ means);
+                  many = λ g a. omega (arith, stage-few);
+                };
+                only = record {
+                  low = λ q g. c .low q (omega arith) ∙ kept q (omega arith) ∙ o .low q (omega (arith, p .slot-room)) ∙ below q (omega (arith, p .slot-room));
+                  mid = λ q g k. c .high q (omega (arith, stage-inside)) ∙ kept q (omega arith) ∙ o .low q (omega arith) ∙ below q k;
+                  high = λ q g. c .high q (omega (arith, stage-inside, p .slot-room)) ∙ kept q (omega (arith, p .slot-room)) ∙ o .high q (omega (arith, sized k 225 some-rows)) ∙ above q (omega arith);
+                };
+              }

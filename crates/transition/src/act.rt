@@ -1,0 +1,51 @@
+// Part 1 of Step: an action takes effect in a state, and in the beliefs of those who observe it.
+use crate::cause::tells;
+use crate::change::Change;
+use crate::stage::stage;
+use pack::table::Table;
+ghost use mathlib.Core.List.{List};
+ghost use Prim.Native.Nat.{ℕ, _<_};
+ghost use Rattle.pack.specs.Syntax.{Effect, Node, Theory};
+ghost use Rattle.pack.specs.State.{meaning};
+ghost use Rattle.pack.specs.Grammar.{Dimensions};
+ghost use Rattle.pack.specs.Judge.{Small};
+ghost use Rattle.transition.specs.Happening.{actionOf};
+ghost use Rattle.transition.specs.Inner.Cause.{EffectsAt, Telling};
+ghost use Rattle.transition.specs.Inner.Play.{Untold, Setting, Actable, Acted};
+
+// The lowest character that no effect at a place is meant for, or 7.
+pub fn lowest_untold(pack: &[u8], at: usize, characters: usize) -> usize
+    requires { ⌜ Telling (now pack) at × (characters < 7) ⌝ }
+    ensures { λ r. ⌜ ((d : Dimensions) → Small d → (es : List Effect) → EffectsAt d (now (pack .entry)) at es → Untold es characters r) ⌝ }
+{
+    let mut c = 0;
+    while c < characters {
+        if !tells(pack, at, c + 1) {
+            return c;
+        }
+        c += 1;
+    }
+    7
+}
+
+// Part 1 of an action in what row 0 of a table means, into a slot; how many states that leaves, or more than 32.
+pub fn act(
+    pack: &[u8],
+    places: &[usize],
+    action: usize,
+    work: &mut [u8],
+    t: Table,
+    slot: usize,
+) -> usize
+    requires { ⌜ Actable (now pack) (now places) action (now work) t slot ⌝ }
+    ensures { λ r. ⌜ ((p : Theory) (T : List Node) (actions triggers : ℕ) → Setting p T (now (pack .entry)) (now (places .entry)) actions triggers (now (work .entry)) t slot → action < actions → Acted (Rattle.transition.specs.Happening.act (actionOf p action) (meaning (t .characters) T 0)) t (now (work .entry)) (now (work .exit)) slot r) ⌝ }
+{
+    let at = places[9 * action + 1];
+    let effects = [at; 32];
+    let observers = Change {
+        acted: lowest_untold(pack, at, t.characters),
+        old: 6,
+        observed: 9 * action + 3,
+    };
+    stage(pack, places, &effects, observers, work, t, slot)
+}

@@ -1,0 +1,63 @@
+// Triggers: the lowest that holds in each row.
+use pack::judge::holds;
+use pack::table::Table;
+ghost use Prim.Native.Nat.{_<_, _≤_};
+ghost use mathlib.Core.Path.{_≡_};
+ghost use mathlib.Core.Bool.{_||_};
+ghost use mathlib.Core.List.{List};
+ghost use lib.ListN.{length};
+ghost use Rattle.pack.specs.Syntax.{Trigger, Node};
+ghost use Rattle.pack.specs.Grammar.{Dimensions};
+ghost use Rattle.transition.specs.Inner.Cause.{Tabled};
+ghost use Rattle.transition.specs.Inner.Fire.{Triggered, Firable, Fires, FiredBelow};
+
+// The place of the effects of the lowest trigger that holds in row m, or 8192, which is behind every pack.
+pub fn firing(
+    pack: &[u8],
+    places: &[usize],
+    triggers: usize,
+    work: &[u8],
+    t: Table,
+    m: usize,
+) -> usize
+    requires { ⌜ Firable (now pack) (now places) triggers (now work) t × (m < t .nodes) ⌝ }
+    ensures { λ r. ⌜ Fires (now (pack .entry)) (now (places .entry)) triggers (now (work .entry)) t m r ⌝ }
+{
+    let mut i = 0;
+    while i < triggers {
+        if holds(pack, places[288 + 2 * i], work, t, m) {
+            return places[289 + 2 * i];
+        }
+        i += 1;
+    }
+    8192
+}
+
+fn either(a: bool, b: bool) -> bool
+    ensures { λ r. ⌜ r ≡ (a || b) ⌝ }
+{
+    if a { true } else { b }
+}
+
+// The places of the effects in each row; whether a trigger holds in any.
+pub fn fire_all(
+    pack: &[u8],
+    places: &[usize],
+    triggers: usize,
+    work: &[u8],
+    t: Table,
+    effects: &mut [usize],
+) -> bool
+    requires { ⌜ Firable (now pack) (now places) triggers (now work) t × (t .nodes ≤ length (now effects)) ⌝ }
+    ensures { λ r. ⌜ ((d : Dimensions) (table : List Node) (ts : List Trigger) → Tabled d table (now (work .entry)) t → Triggered d (now (pack .entry)) (now (places .entry)) ts triggers → FiredBelow d (now (pack .entry)) ts (t .characters) table (t .nodes) (now (effects .exit)) r) ⌝ }
+{
+    let mut any = false;
+    let mut m = 0;
+    while m < t.nodes {
+        let at = firing(pack, places, triggers, work, t, m);
+        effects[m] = at;
+        any = either(any, at < pack.len());
+        m += 1;
+    }
+    any
+}

@@ -1,0 +1,53 @@
+// Rounds of triggers, until none holds anywhere.
+use crate::change::Change;
+use crate::fire::fire_all;
+use crate::stage::stage;
+use pack::table::Table;
+ghost use mathlib.Core.List.{List};
+ghost use Prim.Native.Nat.{ℕ};
+ghost use Rattle.pack.specs.Syntax.{Node, Theory};
+ghost use Rattle.pack.specs.State.{meaning};
+ghost use Rattle.transition.specs.Inner.Play.{Setting, Slotted, SettledIn, Settleable};
+
+// Settles the state in a slot, of which t is the table: 0 where it does, 12 where there are more than 32 states, 11 where a trigger holds after round 16.
+pub fn settle(
+    pack: &[u8],
+    places: &[usize],
+    triggers: usize,
+    work: &mut [u8],
+    t: Table,
+    slot: usize,
+) -> u8
+    requires { ⌜ Settleable (now pack) (now places) triggers (now work) t slot ⌝ }
+    ensures { λ r. ⌜ ((p : Theory) (T : List Node) (actions : ℕ) → Setting p T (now (pack .entry)) (now (places .entry)) actions triggers (now (work .entry)) t slot → Slotted T (now (work .entry)) t slot → SettledIn p (meaning (t .characters) T 0) t (now (work .entry)) (now (work .exit)) slot r) ⌝ }
+{
+    let mut effects = [8192usize; 32];
+    let mut nodes = t.nodes;
+    let mut rounds: usize = 0;
+    loop {
+        let now = Table {
+            rows: slot + 1,
+            nodes,
+            fluents: t.fluents,
+            characters: t.characters,
+            width: t.width,
+        };
+        let any = fire_all(pack, places, triggers, work, now, &mut effects);
+        if !any {
+            return 0;
+        }
+        if rounds == 16 {
+            return 11;
+        }
+        let everyone = Change {
+            acted: 6,
+            old: 7,
+            observed: 327,
+        };
+        nodes = stage(pack, places, &effects, everyone, work, now, slot);
+        if 32 < nodes {
+            return 12;
+        }
+        rounds += 1;
+    }
+}

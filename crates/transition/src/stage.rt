@@ -1,0 +1,67 @@
+// A stage of Step, part 1 or a round: the pass, the partition, and the merged table, which is put into a slot of the work buffer.
+use crate::change::Change;
+use crate::change::change_table;
+use chart::merge::write_merged;
+use chart::partition::partition;
+use pack::table::Table;
+ghost use Prim.Native.Nat.{_+_, _≤_};
+ghost use lib.ListN.{length};
+ghost use Rattle.chart.specs.Inner.Put.{PartCopied};
+ghost use Rattle.transition.specs.Inner.Change.{Scene, Stands, Scened};
+ghost use Rattle.transition.specs.Inner.Stage.{StageRoom, Staged};
+
+// Copies the k bytes from a on to b, below them.
+pub fn copy_down(work: &mut [u8], a: usize, b: usize, k: usize)
+    requires { ⌜ (b + k ≤ a) × (a + k ≤ length (now work)) ⌝ }
+    ensures { λ _. ⌜ PartCopied (now (work .entry)) (now (work .exit)) a b k ⌝ }
+{
+    let mut q = 0;
+    while q < k {
+        work[b + q] = work[a + q];
+        q += 1;
+    }
+}
+
+// Puts the table of what happens, merged, into the slot at `slot`: its count there and its rows behind it. How many rows that is, or more than 32, and then the slot is as it was.
+pub fn stage(
+    pack: &[u8],
+    places: &[usize],
+    effects: &[usize],
+    h: Change,
+    work: &mut [u8],
+    t: Table,
+    slot: usize,
+) -> usize
+    requires { ⌜ Scened (now pack) (now places) (now effects) h (now work) t × StageRoom (now work) t slot ⌝ }
+    ensures { λ r. ⌜ ((s : Scene) → Stands s (now (pack .entry)) (now (places .entry)) (now (effects .entry)) h (now (work .entry)) t → Staged s t (now (work .entry)) (now (work .exit)) slot r) ⌝ }
+{
+    let rows = change_table(pack, places, effects, h, work, t, 28832, 29284);
+    let classes = partition(
+        work,
+        rows,
+        t.width,
+        t.fluents,
+        t.characters,
+        29284,
+        36036,
+        36264,
+        36492,
+        32,
+    );
+    if 32 < classes {
+        return classes;
+    }
+    let count = write_merged(
+        work,
+        rows,
+        t.width,
+        t.fluents,
+        t.characters,
+        29284,
+        36264,
+        36720,
+    );
+    work[slot] = count as u8;
+    copy_down(work, 36720, slot + 1, count * t.width);
+    count
+}
