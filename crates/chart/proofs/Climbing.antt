@@ -74,7 +74,7 @@ module _ {was : List ℕ} {n w f c t b r : ℕ} (l : Stack was n w f c t b r) (s
     climbing-sound = still-sound (l .wide) (l .source) s now (g .low)
 
     pub climbing-finer : Finer now n w f c t (levelAt b k)
-    climbing-finer = level-finer (l .wide) (l .source) s k (levelAt b k) (g .levels k (omega arith)) (g .low)
+    climbing-finer = level-finer (l .wide) (l .source) s k (levelAt b k) (g .levels k (omega arith)) (g .numbered) (g .low)
 
     module _ {now′ : List ℕ} {next : ℕ} (v : Leveled now now′ n w f c t (levelAt b (k + 1)) (levelAt b k) r next) where
       low′ : Below was now′ b

@@ -127,8 +127,9 @@ module _ {was : List ℕ} {n w f c t a : ℕ} (wide : f + c ≤ w) (source : t +
   alike-at k now low i j hi hj = subst (λ (U : List Node). Alike now w f c t k i j ↔ Next c U (classAt now k) i j) (same-rows now low) (alike-next now n w f c t k i j hi hj)
 
   -- what a level asks of the classes before it
-  pub level-finer : (depth k : ℕ) {now : List ℕ} → Exactly c tableWas depth (classAt now k) → Below was now a → Finer now n w f c t k
-  level-finer depth k {now} e low = record {
+  pub level-finer : (depth k : ℕ) {now : List ℕ} → Exactly c tableWas depth (classAt now k) → Numbered (classAt now k) n → Below was now a → Finer now n w f c t k
+  level-finer depth k {now} e num low = record {
+    numbered = num;
     same = λ i j hi hj x. next-finer c tableWas table-closed depth (classAt now k) e i j (omega (arith, table-long)) (omega (arith, table-long)) (alike-at k now low i j hi hj .0 x);
   }
 
@@ -160,7 +161,7 @@ module _ {was : List ℕ} {n w f c t a k r : ℕ} (l : Levels was n w f c t a k 
 
   module _ {now : List ℕ} {limit count : ℕ} (g : Parting was n w f c t now a k r limit count) where
     pub parting-finer : Finer now n w f c t k
-    parting-finer = level-finer (l .wide) (l .source) sound (g .depth) k (g .exactly) (g .low)
+    parting-finer = level-finer (l .wide) (l .source) sound (g .depth) k (g .exactly) (g .numbered) (g .low)
 
     pub parting-sound : Sound now n w f c t
     parting-sound = still-sound (l .wide) (l .source) sound now (g .low)

@@ -69,7 +69,7 @@ pub fn alike(
     c <= first_apart(work, a + f, b + f, c, k)
 }
 
-// The first of `count` classes whose leading row, from r on, is alike to row i; or `count` where none is.
+// The first of `count` classes whose leading row, from r on, is alike to row i; or `count` where none is. No class below row i's old one has such a row.
 pub fn class_of(
     work: &[u8],
     w: usize,
@@ -84,7 +84,7 @@ pub fn class_of(
     requires { ⌜ Against (now work) w f c t k r count i ⌝ }
     ensures { λ q. ⌜ ClassIs (now (work .entry)) w f c t k r count i q ⌝ }
 {
-    let mut q = 0;
+    let mut q = wide(work[k + i]);
     while q < count {
         let j = wide(work[r + q]);
         if alike(work, w, f, c, t, k, j, i) {

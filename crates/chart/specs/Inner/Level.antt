@@ -51,6 +51,8 @@ pub record Against (bytes : List ℕ) (w f c t k r count i : ℕ) : Type 0 where
   pub leads : (q : ℕ) → q < count → RowOk bytes w f c t k (getD bytes (r + q) 0)
   -- rows that are alike are of one class already
   pub finer : (q : ℕ) → q < count → Alike bytes w f c t k (getD bytes (r + q) 0) i → classAt bytes k (getD bytes (r + q) 0) ≡ classAt bytes k i
+  -- and the new class has no lower number
+  pub since : (q : ℕ) → q < count → Alike bytes w f c t k (getD bytes (r + q) 0) i → classAt bytes k i ≤ q
 
 -- what `class_of` answers: the first class whose leading row is alike, or `count` where there is none
 pub record ClassIs (bytes : List ℕ) (w f c t k r count i q : ℕ) : Type 0 where
@@ -67,8 +69,9 @@ pub record Levels (bytes : List ℕ) (n w f c t a k r : ℕ) : Type 0 where
   pub old : k + n ≤ r
   pub leads : r + n ≤ length bytes
 
--- rows that are alike are of one class already
+-- rows that are alike are of one class already, and the classes are numbered by first row
 pub record Finer (bytes : List ℕ) (n w f c t k : ℕ) : Type 0 where
+  pub numbered : Numbered (classAt bytes k) n
   pub same : (i j : ℕ) → i < n → j < n → Alike bytes w f c t k i j → classAt bytes k i ≡ classAt bytes k j
 
 -- of the rows below i, `key` numbers the classes of R, `count` of them, by first row; `lead` has a row of each
