@@ -33,6 +33,10 @@ agrees-decides {P} {n} {r} a = record {
   no = λ f. by-cases (decLt r n) (λ h. absurd (a .here h (f r h))) (λ h. le-leb n r (omega arith));
 }
 
+-- what holds below v and from v on holds of all
+pub below-and-from : {P : ℕ → Type 0} {v f : ℕ} → ((q : ℕ) → q < v → P q) → ((q : ℕ) → v ≤ q → q < f → P q) → (q : ℕ) → q < f → P q
+below-and-from {P} {v} {f} x y q h = by-cases (decLt q v) (x q) (λ l. y q (omega arith) h)
+
 pub record Equivalence (R : ℕ → ℕ → Type 0) : Type 0 where
   pub self : (a : ℕ) → R a a
   pub back : {a b : ℕ} → R a b → R b a

@@ -3,15 +3,15 @@ use Prim.Native.Nat.{_-_}
 use native.Mathlib.Omega.{arith}
 use borrow.Author.Needs.{needs}
 use Rattle.chart.proofs.Sorting.{refuted}
-use Rattle.chart.proofs.Leveling.{NoneBelow, against-row, against-finer, none-since, class-found, class-none, none-more}
+use Rattle.chart.proofs.Leveling.{NoneBelow, against-row, against-finer, against-values, none-since, class-found, class-none, none-more}
 use Rattle.chart.proofs.partition.class_of.Statement.{statement}
 use Rattle.chart.proofs.partition.class_of.Tie as tie
 
 abbrev Inv-loop : tie.InvT-loop
-Inv-loop work w f c t k r count i q₀ q = NoneBelow work w f c t k r count i q
+Inv-loop work w f c t k r count i v q₀ q = NoneBelow work w f c t k r count i q
 
 abbrev μ-loop : tie.MeasureT-loop
-μ-loop work w f c t k r count i q₀ q = count - q
+μ-loop work w f c t k r count i v q₀ q = count - q
 
 loop-holds : tie.Need-loop-holds Inv-loop μ-loop
 loop-holds c = none-since (c .before .before .before .pre) _ (c .wide .ensures)
@@ -20,7 +20,8 @@ alike-requires : tie.Need-alike-requires Inv-loop μ-loop
 alike-requires c κs =
     let a = c .before .before .before .before .before .before .before .pre in
     let h = c .before .before .loop-test .taken in
-    (against-row a _ h _ (c .wide2 .ensures), against-finer a _ h _ (c .wide2 .ensures))
+    let e = c .wide2 .ensures in
+    (against-row a _ h _ e, (against-finer a _ h _ e, against-values a _ h _ e))
 
 returns : tie.Need-returns Inv-loop μ-loop
 returns c = class-found _ (c .before .before .before .before .loop-test .taken) _ (c .before .before .wide2 .ensures) (c .before .alike .ensures .yes (c .if1 .taken)) (c .before .before .before .before .before .loop .inv)
