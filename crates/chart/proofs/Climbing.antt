@@ -73,8 +73,8 @@ module _ {was : List ℕ} {n w f c t b r : ℕ} (l : Stack was n w f c t b r) (s
     pub climbing-sound : Sound now n w f c t
     climbing-sound = still-sound (l .wide) (l .source) s now (g .low)
 
-    pub climbing-finer : Finer now n w f c t (levelAt b k)
-    climbing-finer = level-finer (l .wide) (l .source) s k (levelAt b k) (g .levels k (omega arith)) (g .low)
+    pub climbing-finer : (v : ℕ) → (v ≤ f) × (v < f → 1 < k + 1) → Finer now n w f c t (levelAt b k) v
+    climbing-finer v h = level-finer (l .wide) (l .source) s k (levelAt b k) (g .levels k (omega arith)) (g .numbered) (g .low) v (h .0) (λ q. omega (arith, h .1 q))
 
     module _ {now′ : List ℕ} {next : ℕ} (v : Leveled now now′ n w f c t (levelAt b (k + 1)) (levelAt b k) r next) where
       low′ : Below was now′ b

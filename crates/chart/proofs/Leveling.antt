@@ -11,30 +11,42 @@ use lib.Seq.{getD-set-same, getD-set-other}
 use Rattle.chart.specs.Inner.Bytes.{Below, Above, Between}
 use Rattle.chart.specs.Inner.Numbers.{Sound}
 use Rattle.chart.specs.Inner.Classed.{classAt}
-use Rattle.chart.specs.Inner.Level.{Alike, RowOk, Against, ClassIs, Levels, Finer, Sorted, RowClassed, Leveled}
+use Rattle.chart.specs.Inner.Level.{SameFrom, Alike, RowOk, Against, ClassIs, Levels, Finer, Sorted, RowClassed, Leveled}
 use Rattle.chart.proofs.Cells.{row-in}
-use Rattle.chart.proofs.Sorting.{Equivalence, sorted-none, sorted-as, sorted-old, sorted-new}
+use Rattle.chart.proofs.Sorting.{Equivalence, finer-above, sorted-none, sorted-as, sorted-old, sorted-new}
 
-module _ {bytes : List ℕ} {w f c t k r count i : ℕ} where
+-- of the first `count` classes none below q has a leading row that is alike to row i
+pub record NoneBelow (bytes : List ℕ) (w f c t k r count i q : ℕ) : Type 0 where
+  pub none : (p : ℕ) → p < count → p < q → Alike bytes w f c t k (getD bytes (r + p) 0) i → ⊥
+
+module _ {bytes : List ℕ} {w f c t k r count i v : ℕ} where
   -- the leading row of class q against row i
-  pub against-row : Against bytes w f c t k r count i → (q : ℕ) → q < count → (j : ℕ) → j ≡ getD bytes (r + q) 0 → (f + c ≤ w) × RowOk bytes w f c t k j × RowOk bytes w f c t k i
-  against-row a q h j e = (a .wide, subst (RowOk bytes w f c t k) (sym e) (a .leads q h), a .row)
+  pub against-row : Against bytes w f c t k r count i v → (q : ℕ) → q < count → (j : ℕ) → j ≡ getD bytes (r + q) 0 → (f + c ≤ w) × (v ≤ f) × RowOk bytes w f c t k j × RowOk bytes w f c t k i
+  against-row a q h j e = (a .wide, a .some, subst (RowOk bytes w f c t k) (sym e) (a .leads q h), a .row)
 
-  pub against-finer : Against bytes w f c t k r count i → (q : ℕ) → q < count → (j : ℕ) → j ≡ getD bytes (r + q) 0 → Alike bytes w f c t k j i → getD bytes (k + j) 0 ≡ getD bytes (k + i) 0
+  pub against-values : Against bytes w f c t k r count i v → (q : ℕ) → q < count → (j : ℕ) → j ≡ getD bytes (r + q) 0 → getD bytes (k + j) 0 ≡ getD bytes (k + i) 0 → SameFrom bytes w f t v j i
+  against-values a q h j e x = subst (λ (j : ℕ). SameFrom bytes w f t v j i) (sym e) (a .values q h (ap (λ (j : ℕ). getD bytes (k + j) 0) (sym e) ∙ x))
+
+  pub against-finer : Against bytes w f c t k r count i v → (q : ℕ) → q < count → (j : ℕ) → j ≡ getD bytes (r + q) 0 → Alike bytes w f c t k j i → getD bytes (k + j) 0 ≡ getD bytes (k + i) 0
   against-finer a q h j e x = ap (λ (j : ℕ). getD bytes (k + j) 0) e ∙ a .finer q h (subst (λ (j : ℕ). Alike bytes w f c t k j i) e x)
 
-  pub class-found : (q : ℕ) → q < count → (j : ℕ) → j ≡ getD bytes (r + q) 0 → Alike bytes w f c t k j i → ((p : ℕ) → p < q → Alike bytes w f c t k (getD bytes (r + p) 0) i → ⊥) → ClassIs bytes w f c t k r count i q
-  class-found q h j e x none = record { within = omega arith; known = λ _. subst (λ (j : ℕ). Alike bytes w f c t k j i) e x; fresh = none }
+  -- so it is with those below the old class
+  pub none-since : Against bytes w f c t k r count i v → (q : ℕ) → q ≡ classAt bytes k i → NoneBelow bytes w f c t k r count i q
+  none-since a q e = record { none = λ p h l x. absurd (omega (arith, a .since p h x)) }
 
-  pub class-none : (q : ℕ) → count ≤ q → ((p : ℕ) → p < q → Alike bytes w f c t k (getD bytes (r + p) 0) i → ⊥) → ClassIs bytes w f c t k r count i count
-  class-none q h none = record { within = omega arith; known = λ l. absurd (omega arith); fresh = λ p l. none p (omega arith) }
+module _ {bytes : List ℕ} {w f c t k r count i : ℕ} where
+  pub class-found : (q : ℕ) → q < count → (j : ℕ) → j ≡ getD bytes (r + q) 0 → Alike bytes w f c t k j i → NoneBelow bytes w f c t k r count i q → ClassIs bytes w f c t k r count i q
+  class-found q h j e x z = record { within = omega arith; known = λ _. subst (λ (j : ℕ). Alike bytes w f c t k j i) e x; fresh = λ p l. z .none p (omega arith) l }
+
+  pub class-none : (q : ℕ) → count ≤ q → NoneBelow bytes w f c t k r count i q → ClassIs bytes w f c t k r count i count
+  class-none q h z = record { within = omega arith; known = λ l. absurd (omega arith); fresh = λ p l. z .none p l (omega arith) }
 
   -- one more that is not alike
-  pub none-more : Against bytes w f c t k r count i → (q j : ℕ) → j ≡ getD bytes (r + q) 0 → (Alike bytes w f c t k j i → ⊥) → ((p : ℕ) → p < q → Alike bytes w f c t k (getD bytes (r + p) 0) i → ⊥)
-      → (p : ℕ) → p < q + 1 → Alike bytes w f c t k (getD bytes (r + p) 0) i → ⊥
-  none-more a q j e x none p l y =
-      by-cases (decLt p q) (λ h. none p h y)
-      (λ h. let z : p ≡ q = omega arith in x (subst (λ (j : ℕ). Alike bytes w f c t k j i) (ap (λ (p : ℕ). getD bytes (r + p) 0) z ∙ sym e) y))
+  pub none-more : (q j : ℕ) → j ≡ getD bytes (r + q) 0 → (Alike bytes w f c t k j i → ⊥) → NoneBelow bytes w f c t k r count i q → NoneBelow bytes w f c t k r count i (q + 1)
+  none-more q j e x z = record {
+    none = λ p m l y. by-cases (decLt p q) (λ h. z .none p m h y)
+        (λ h. let z : p ≡ q = omega arith in x (subst (λ (j : ℕ). Alike bytes w f c t k j i) (ap (λ (p : ℕ). getD bytes (r + p) 0) z ∙ sym e) y));
+  }
 
 -- `Alike` is an equivalence
 pub alike-equivalence : (bytes : List ℕ) (w f c t k : ℕ) → Equivalence (Alike bytes w f c t k)
@@ -85,7 +97,7 @@ pub record Leveling (was now : List ℕ) (n w f c t a k r i count : ℕ) : Type 
 pub leveling-none : (was : List ℕ) (n w f c t a k r : ℕ) → Leveling was was n w f c t a k r 0 0
 leveling-none was n w f c t a k r = record { within = omega arith; fewer = omega arith; sorted = sorted-none _ _ _; low = λ p l. refl; mid = λ p l h. refl; high = λ p l. refl }
 
-module _ {was now : List ℕ} {n w f c t a k r i count : ℕ} (l : Levels was n w f c t a k r) (sound : Sound was n w f c t) (finer : Finer was n w f c t k) (long : length now ≡ length was) (g : Leveling was now n w f c t a k r i count) where
+module _ {was now : List ℕ} {n w f c t a k r i count v : ℕ} (l : Levels was n w f c t a k r) (sound : Sound was n w f c t) (finer : Finer was n w f c t k v) (long : length now ≡ length was) (g : Leveling was now n w f c t a k r i count) where
   row-ok : (j : ℕ) → j < n → RowOk now w f c t k j
   row-ok j h = record {
     inside = omega (arith, row-in n w j h, l .source, l .new, l .old, l .leads, long);
@@ -95,9 +107,15 @@ module _ {was now : List ℕ} {n w f c t a k r i count : ℕ} (l : Levels was n 
         omega (arith, e, sound .beliefs j d h p, l .old, l .leads, long);
   }
 
-  pub leveling-against : i < n → Against now w f c t k r count i
+  -- the classes so far have no lower numbers than the old ones
+  no-lower : (j : ℕ) → j < i → classAt was k j ≤ classAt now a j
+  no-lower = finer-above (classAt was k) (classAt now a) i (λ j h. finer .numbered j (omega (arith, g .within))) (g .sorted .numbered)
+      (λ x y hx hy e. finer .same x y (omega (arith, g .within)) (omega (arith, g .within)) (g .sorted .same x y hx hy .0 e))
+
+  pub leveling-against : i < n → Against now w f c t k r count i v
   leveling-against h = record {
     wide = l .wide;
+    some = finer .some;
     room = omega (arith, g .fewer, l .leads, long);
     row = row-ok i h;
     leads = λ q p. row-ok (getD now (r + q) 0) (omega (arith, g .sorted .led q p .0));
@@ -105,6 +123,17 @@ module _ {was now : List ℕ} {n w f c t a k r i count : ℕ} (l : Levels was n 
         let lj : getD now (r + q) 0 < n = omega (arith, g .sorted .led q p .0) in
         class-byte now l sound (g .low) (g .mid) (getD now (r + q) 0) lj ∙ finer .same (getD now (r + q) 0) i lj h (alike-same now l sound (g .low) (g .mid) (getD now (r + q) 0) i lj h .0 x)
         ∙ sym (class-byte now l sound (g .low) (g .mid) i h);
+    values = λ q p x u hv hu.
+        let j = getD now (r + q) 0 in
+        let lj : j < n = omega (arith, g .sorted .led q p .0) in
+        let hw : u < w = omega (arith, l .wide) in
+        row-byte now l sound (g .low) (g .mid) j lj u hw
+        ∙ finer .values j i lj h (sym (class-byte now l sound (g .low) (g .mid) j lj) ∙ x ∙ class-byte now l sound (g .low) (g .mid) i h) u hv hu
+        ∙ sym (row-byte now l sound (g .low) (g .mid) i h u hw);
+    since = λ q p x.
+        let (lj, e) = g .sorted .led q p in
+        let z : classAt was k (getD now (r + q) 0) ≡ classAt was k i = finer .same (getD now (r + q) 0) i (omega arith) h (alike-same now l sound (g .low) (g .mid) (getD now (r + q) 0) i (omega arith) h .0 x) in
+        omega (arith, no-lower (getD now (r + q) 0) lj, e, z, class-byte now l sound (g .low) (g .mid) i h);
   }
 
   pub leveling-row : i < n → {now′ : List ℕ} {more : ℕ} → RowClassed now now′ w f c t a k r i count more → Leveling was now′ n w f c t a k r (i + 1) more

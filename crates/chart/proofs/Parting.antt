@@ -18,7 +18,7 @@ use Rattle.chart.specs.Inner.Bytes.{Below, Above}
 use Rattle.chart.specs.Inner.Put.{Cleared, PartCopied}
 use Rattle.chart.specs.Inner.Numbers.{Sound}
 use Rattle.chart.specs.Inner.Classed.{classAt}
-use Rattle.chart.specs.Inner.Level.{Alike, Levels, Finer, Leveled, Parted}
+use Rattle.chart.specs.Inner.Level.{SameByte, Alike, Levels, Finer, Leveled, Parted}
 use Rattle.pack.proofs.Tables.{cells-at, rows-length}
 use Rattle.chart.proofs.Cells.{cells-length, row-in, rows-node, rows-same}
 use Rattle.chart.proofs.Sorting.{classes-same}
@@ -71,6 +71,10 @@ module _ (bytes : List ℕ) (n w f c t : ℕ) where
   pub sound-closed : Sound bytes n w f c t → Closed c tableAt
   sound-closed s i d h l = let e = rows-length bytes w f c t n in let hi : i < n = omega arith in omega (arith, e, target-at i d hi l, s .beliefs i d hi l)
 
+  -- the same values are the same bytes
+  pub values-byte : (i j : ℕ) → i < n → j < n → val c tableAt i ≡ val c tableAt j → (q : ℕ) → q < f → SameByte bytes (t + i * w) (t + j * w) q
+  values-byte i j hi hj e q h = sym (cells-at bytes (t + i * w) f q h) ∙ ap (λ (v : List ℕ). getD v q 0) (sym (values-at i hi) ∙ e ∙ values-at j hj) ∙ cells-at bytes (t + j * w) f q h
+
   pub alike-next : (k i j : ℕ) → i < n → j < n → Alike bytes w f c t k i j ↔ Next c tableAt (classAt bytes k) i j
   alike-next k i j hi hj = (
     λ x. (
@@ -80,7 +84,7 @@ module _ (bytes : List ℕ) (n w f c t : ℕ) where
       λ d h. ap (classAt bytes k) (target-at i d hi h) ∙ x .beliefs d h ∙ ap (classAt bytes k) (sym (target-at j d hj h)),
     ),
     λ y. record {
-      values = λ q h. sym (cells-at bytes (t + i * w) f q h) ∙ ap (λ (v : List ℕ). getD v q 0) (sym (values-at i hi) ∙ y .0 ∙ values-at j hj) ∙ cells-at bytes (t + j * w) f q h;
+      values = values-byte i j hi hj (y .0);
       beliefs = λ d h. ap (classAt bytes k) (sym (target-at i d hi h)) ∙ y .1 d h ∙ ap (classAt bytes k) (target-at j d hj h);
     },
   )
@@ -102,6 +106,8 @@ pub record Parting (was : List ℕ) (n w f c t : ℕ) (now : List ℕ) (a k r li
   pub numbered : Numbered (classAt now k) n
   pub met : classes (classAt now k) n ≡ count
   pub few : count ≤ limit
+  -- one class for all is before the first level
+  pub deep : 1 < count → 0 < depth
   pub low : Below was now a
   pub high : Above was now (r + n)
 
@@ -127,10 +133,18 @@ module _ {was : List ℕ} {n w f c t a : ℕ} (wide : f + c ≤ w) (source : t +
   alike-at k now low i j hi hj = subst (λ (U : List Node). Alike now w f c t k i j ↔ Next c U (classAt now k) i j) (same-rows now low) (alike-next now n w f c t k i j hi hj)
 
   -- what a level asks of the classes before it
-  pub level-finer : (depth k : ℕ) {now : List ℕ} → Exactly c tableWas depth (classAt now k) → Below was now a → Finer now n w f c t k
-  level-finer depth k {now} e low = record {
+  pub level-finer : (depth k : ℕ) {now : List ℕ} → Exactly c tableWas depth (classAt now k) → Numbered (classAt now k) n → Below was now a → (v : ℕ) → v ≤ f → (v < f → 0 < depth) → Finer now n w f c t k v
+  level-finer depth k {now} e num low v some deep = record {
+    some = some;
+    values = λ i j hi hj x q hv hq. values-byte now n w f c t i j hi hj
+        (subst (λ (U : List Node). val c U i ≡ val c U j) (sym (same-rows now low)) (shallow i j (omega (arith, table-long)) (omega (arith, table-long)) (deep (omega arith)) x)) q hq;
+    numbered = num;
     same = λ i j hi hj x. next-finer c tableWas table-closed depth (classAt now k) e i j (omega (arith, table-long)) (omega (arith, table-long)) (alike-at k now low i j hi hj .0 x);
   }
+    where
+      -- rows of one class have the same values
+      shallow : (i j : ℕ) → i < length tableWas → j < length tableWas → 0 < depth → classAt now k i ≡ classAt now k j → val c tableWas i ≡ val c tableWas j
+      shallow i j hi hj h x = let s = e i j hi hj .0 x in moore.same-suc c (val c tableWas) (target tableWas) 0 i j .0 (λ ch l. s ch (omega arith)) .0
 
   -- and what it gives: one deeper
   pub level-exact : (depth k : ℕ) {b r next : ℕ} {now now′ : List ℕ} → Exactly c tableWas depth (classAt now k) → Below was now a → Leveled now now′ n w f c t b k r next → Exactly c tableWas (suc depth) (classAt now′ b)
@@ -154,13 +168,14 @@ module _ {was : List ℕ} {n w f c t a k r : ℕ} (l : Levels was n w f c t a k 
     numbered = λ i g. omega (arith, z i g);
     met = zero-classes (classAt was k) n pos z;
     few = h;
+    deep = λ q. absurd (omega arith);
     low = λ p g. refl;
     high = λ p g. refl;
   }
 
   module _ {now : List ℕ} {limit count : ℕ} (g : Parting was n w f c t now a k r limit count) where
-    pub parting-finer : Finer now n w f c t k
-    parting-finer = level-finer (l .wide) (l .source) sound (g .depth) k (g .exactly) (g .low)
+    pub parting-finer : (v : ℕ) → (v ≤ f) × (v < f → 1 < count) → Finer now n w f c t k v
+    parting-finer v h = level-finer (l .wide) (l .source) sound (g .depth) k (g .exactly) (g .numbered) (g .low) v (h .0) (λ q. g .deep (h .1 q))
 
     pub parting-sound : Sound now n w f c t
     parting-sound = still-sound (l .wide) (l .source) sound now (g .low)
@@ -224,6 +239,7 @@ module _ {was : List ℕ} {n w f c t a k r : ℕ} (l : Levels was n w f c t a k 
         numbered = λ i p. omega (arith, y .part i p, x .sorted .numbered i p, classes-same (classAt now′ a) (classAt now″ k) i (λ j q. y .part j (omega arith)));
         met = classes-same (classAt now′ a) (classAt now″ k) n (λ i p. y .part i p) ∙ x .sorted .met;
         few = h;
+        deep = λ _. omega arith;
         low = λ p q. y .low p (omega (arith, l .new)) ∙ low′ p q;
         high = λ p q. y .high p (omega (arith, l .old)) ∙ high′ p q;
       }

@@ -5,7 +5,7 @@ use mathlib.Core.Logic.{_↔_, ⊎-elim, by-cases}
 use Prim.Native.Nat.{ℕ, zero, suc, _<_, _≤_}
 use native.Mathlib.Nat.{eq-or-lt-of-le, le-of-suc-le-suc}
 use native.Mathlib.Omega.{arith}
-use Rattle.chart.specs.Laws.Merged.{classes, grows}
+use Rattle.chart.specs.Laws.Merged.{classes, grows, Numbered, first}
 use Rattle.chart.specs.Inner.Level.{Decides, Agrees, Sorted}
 use native.Mathlib.Decide.{decLt}
 use lib.Dec.{leb}
@@ -33,6 +33,10 @@ agrees-decides {P} {n} {r} a = record {
   no = λ f. by-cases (decLt r n) (λ h. absurd (a .here h (f r h))) (λ h. le-leb n r (omega arith));
 }
 
+-- what holds below v and from v on holds of all
+pub below-and-from : {P : ℕ → Type 0} {v f : ℕ} → ((q : ℕ) → q < v → P q) → ((q : ℕ) → v ≤ q → q < f → P q) → (q : ℕ) → q < f → P q
+below-and-from {P} {v} {f} x y q h = by-cases (decLt q v) (x q) (λ l. y q (omega arith) h)
+
 pub record Equivalence (R : ℕ → ℕ → Type 0) : Type 0 where
   pub self : (a : ℕ) → R a a
   pub back : {a b : ℕ} → R a b → R b a
@@ -59,6 +63,25 @@ classes-same key key′ (suc i) h = let e = classes-same key key′ i (λ a l. h
 pub sorted-none : (R : ℕ → ℕ → Type 0) (key lead : ℕ → ℕ) → Sorted R key lead 0 0
 unfolding classes
 sorted-none R key lead = record { same = λ a b p. absurd (omega arith); led = λ q p. absurd (omega arith); met = refl; numbered = λ a p. absurd (omega arith) }
+
+-- higher numbers are no fewer classes
+classes-up : (key key′ : ℕ → ℕ) (i : ℕ) → ((a : ℕ) → a < i → key a ≤ key′ a) → classes key i ≤ classes key′ i
+unfolding classes
+classes-up key key′ zero h = omega arith
+classes-up key key′ (suc i) h = let e = classes-up key key′ i (λ a l. h a (omega arith)) in let g = h i (omega arith) in omega arith
+
+-- a numbering that tells apart whatever another does has no lower numbers
+pub finer-above : (key key′ : ℕ → ℕ) (i : ℕ) → Numbered key i → Numbered key′ i → ((a b : ℕ) → a < i → b < i → key′ a ≡ key′ b → key a ≡ key b) → (a : ℕ) → a < i → key a ≤ key′ a
+finer-above key key′ zero num num′ same a h = absurd (omega arith)
+finer-above key key′ (suc i) num num′ same a h =
+    let below = finer-above key key′ i (λ b l. num b (omega arith)) (λ b l. num′ b (omega arith)) (λ b c lb lc. same b c (omega arith) (omega arith)) in
+    ⊎-elim (λ (e : a ≡ i). subst (λ (a : ℕ). key a ≤ key′ a) (sym e) (last below)) (λ (l : a < i). below a l) (eq-or-lt-of-le (le-of-suc-le-suc h))
+  where
+    last : ((a : ℕ) → a < i → key a ≤ key′ a) → key i ≤ key′ i
+    last below =
+        by-cases (decLt (key′ i) (classes key′ i))
+        (λ l. let (b, lb, e, _) = first key′ i (λ b l. num′ b (omega arith)) (key′ i) l in omega (arith, below b lb, same i b (omega arith) (omega arith) (sym e), e))
+        (λ l. omega (arith, num i (omega arith), classes-up key key′ i below))
 
 -- the same numbers under another name
 pub sorted-as : {R : ℕ → ℕ → Type 0} {key lead : ℕ → ℕ} {i count : ℕ} (key′ lead′ : ℕ → ℕ) → Sorted R key lead i count → ((a : ℕ) → a < i → key′ a ≡ key a) → ((q : ℕ) → q < count → lead′ q ≡ lead q) → Sorted R key′ lead′ i count

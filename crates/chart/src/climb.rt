@@ -1,6 +1,7 @@
 // Where two rows of a table part: levels of the partition are kept until they do, and the way down through them is the chain.
 use crate::bytes::clear;
 use crate::bytes::wide;
+use crate::partition::compared;
 use crate::partition::first_apart;
 use crate::partition::level;
 ghost use mathlib.Core.Path.{_≡_};
@@ -33,7 +34,8 @@ pub fn climb(
     loop {
         let old = b + (64 - k) * 64;
         let new = b + (64 - (k + 1)) * 64;
-        let next = level(work, n, w, f, c, t, new, old, r);
+        let v = compared(k + 1, f);
+        let next = level(work, n, w, f, c, t, new, old, r, v);
         if work[new + x] != work[new + y] {
             return k + 1;
         }

@@ -8,7 +8,7 @@ ghost use lib.ListN.{length, getD};
 ghost use Rattle.chart.specs.Chart.{Ordered};
 ghost use Rattle.pack.specs.Table.{rowsAt};
 ghost use Rattle.chart.specs.Inner.Numbers.{Sound};
-ghost use Rattle.chart.specs.Inner.Level.{Decides, Agrees, SameByte, SameClass, Alike, RowOk, Against, ClassIs, Levels, Finer, Sorted, RowClassed, Leveled, Parted};
+ghost use Rattle.chart.specs.Inner.Level.{Decides, Agrees, SameByte, SameClass, SameFrom, Alike, RowOk, Against, ClassIs, Levels, Finer, Sorted, RowClassed, Leveled, Parted};
 
 // The first of the f bytes from a on that is not the same from b on; f where all are.
 pub fn first_other(work: &[u8], a: usize, b: usize, f: usize) -> usize
@@ -43,7 +43,7 @@ pub fn first_apart(work: &[u8], a: usize, b: usize, c: usize, k: usize) -> usize
     c
 }
 
-// Whether rows i and j are alike. Rows of different classes never are, so that is asked first.
+// Whether rows i and j are alike. Rows of different classes never are, so that is asked first; of one class, they may have other values among the first v only.
 pub fn alike(
     work: &[u8],
     w: usize,
@@ -53,9 +53,11 @@ pub fn alike(
     k: usize,
     i: usize,
     j: usize,
+    v: usize,
 ) -> bool
-    requires { ⌜ (f + c ≤ w) × RowOk (now work) w f c t k i × RowOk (now work) w f c t k j ⌝ }
+    requires { ⌜ (f + c ≤ w) × (v ≤ f) × RowOk (now work) w f c t k i × RowOk (now work) w f c t k j ⌝ }
     requires { ⌜ (Alike (now work) w f c t k i j → getD (now work) (k + i) 0 ≡ getD (now work) (k + j) 0) ⌝ }
+    requires { ⌜ (getD (now work) (k + i) 0 ≡ getD (now work) (k + j) 0 → SameFrom (now work) w f t v i j) ⌝ }
     ensures { λ r. ⌜ Decides r (Alike (now (work .entry)) w f c t k i j) ⌝ }
 {
     if work[k + i] != work[k + j] {
@@ -63,13 +65,13 @@ pub fn alike(
     }
     let a = t + i * w;
     let b = t + j * w;
-    if first_other(work, a, b, f) < f {
+    if first_other(work, a, b, v) < v {
         return false;
     }
     c <= first_apart(work, a + f, b + f, c, k)
 }
 
-// The first of `count` classes whose leading row, from r on, is alike to row i; or `count` where none is.
+// The first of `count` classes whose leading row, from r on, is alike to row i; or `count` where none is. No class below row i's old one has such a row.
 pub fn class_of(
     work: &[u8],
     w: usize,
@@ -80,14 +82,15 @@ pub fn class_of(
     r: usize,
     count: usize,
     i: usize,
+    v: usize,
 ) -> usize
-    requires { ⌜ Against (now work) w f c t k r count i ⌝ }
+    requires { ⌜ Against (now work) w f c t k r count i v ⌝ }
     ensures { λ q. ⌜ ClassIs (now (work .entry)) w f c t k r count i q ⌝ }
 {
-    let mut q = 0;
+    let mut q = wide(work[k + i]);
     while q < count {
         let j = wide(work[r + q]);
-        if alike(work, w, f, c, t, k, j, i) {
+        if alike(work, w, f, c, t, k, j, i, v) {
             return q;
         }
         q += 1;
@@ -107,12 +110,13 @@ pub fn class_row(
     r: usize,
     i: usize,
     count: usize,
+    v: usize,
 ) -> usize
     requires { ⌜ (a + i + 1 ≤ r) × (r + count < length (now work)) × (i < 256) × (count < 256) ⌝ }
-    requires { ⌜ Against (now work) w f c t k r count i ⌝ }
+    requires { ⌜ Against (now work) w f c t k r count i v ⌝ }
     ensures { λ more. ⌜ RowClassed (now (work .entry)) (now (work .exit)) w f c t a k r i count more ⌝ }
 {
-    let q = class_of(work, w, f, c, t, k, r, count, i);
+    let q = class_of(work, w, f, c, t, k, r, count, i, v);
     work[a + i] = q as u8;
     if q < count {
         return count;
@@ -121,7 +125,16 @@ pub fn class_row(
     count + 1
 }
 
-// Classes the n rows from t on by their values and by the old classes, from k on, of what they believe: the new classes stand from a on. How many there are.
+// How many of the f values the level after one of `count` classes compares: all where there is one class, which is before the first level; else none, since rows of one
+// class have the same.
+pub fn compared(count: usize, f: usize) -> usize
+    ensures { λ v. ⌜ (v ≤ f) × (v < f → 1 < count) ⌝ }
+{
+    if count <= 1 { f } else { 0 }
+}
+
+// Classes the n rows from t on by their values, of which the first v are compared, and by the old classes, from k on, of what they believe: the new classes stand from a on.
+// How many there are.
 pub fn level(
     work: &mut [u8],
     n: usize,
@@ -132,15 +145,16 @@ pub fn level(
     a: usize,
     k: usize,
     r: usize,
+    v: usize,
 ) -> usize
     requires { ⌜ Levels (now work) n w f c t a k r × Sound (now work) n w f c t ⌝ }
-    requires { ⌜ Finer (now work) n w f c t k ⌝ }
+    requires { ⌜ Finer (now work) n w f c t k v ⌝ }
     ensures { λ count. ⌜ Leveled (now (work .entry)) (now (work .exit)) n w f c t a k r count ⌝ }
 {
     let mut count = 0;
     let mut i = 0;
     while i < n {
-        count = class_row(work, w, f, c, t, a, k, r, i, count);
+        count = class_row(work, w, f, c, t, a, k, r, i, count, v);
         i += 1;
     }
     count
@@ -167,7 +181,8 @@ pub fn partition(
     clear(work, k, n);
     let mut count = 1;
     loop {
-        let next = level(work, n, w, f, c, t, a, k, r);
+        let v = compared(count, f);
+        let next = level(work, n, w, f, c, t, a, k, r, v);
         if limit < next {
             return next;
         }

@@ -8,17 +8,26 @@ use lib.ListN.{length, take, drop, set, replicate, length-append, length-replica
 use Rattle.pack.specs.Reading.{Reply, gives, refuses, pick, told}
 use Rattle.chart.specs.declared.Charted.{Charted}
 use Rattle.chart.specs.declared.Queried.{Queried}
+use Rattle.chart.specs.declared.Matched.{Matched}
 use Rattle.chart.specs.Call.{fits, workRoom, byChecks, cleared, workAfter}
-use Rattle.chart.specs.Replies.{startReply, queryReply}
-use Rattle.chart.specs.Promises.{chartSaid, querySaid, Started, Asked}
+use Rattle.chart.specs.Replies.{startReply, queryReply, compareReply}
+use Rattle.chart.specs.Promises.{difference, chartSaid, querySaid, compareSaid, Started, Asked, Comparison}
 use Rattle.export.specs.Report.{reportRoom, seen, put, numberOf, entries, Returned}
-use Rattle.export.specs.Exports.{one, StartReturned, QueryReturned}
+use Rattle.export.specs.Exports.{one, matchNumbers, StartReturned, QueryReturned, CompareReturned}
 
 -- one store is one number put
 pub put-one : (n : ℕ) (report : List ℕ) → set report 0 n ≡ put (n ∷ []) report
 unfolding put
 put-one n [] = refl
 put-one n (entry ∷ report) = refl
+
+-- three stores are three numbers put
+pub put-three : (a b c : ℕ) (report : List ℕ) → set (set (set report 0 a) 1 b) 2 c ≡ put (a ∷ b ∷ c ∷ []) report
+unfolding put
+put-three a b c [] = refl
+put-three a b c (x ∷ []) = refl
+put-three a b c (x ∷ y ∷ []) = refl
+put-three a b c (x ∷ y ∷ z ∷ report) = refl
 
 -- an entry that isn't there isn't stored
 pub set-beyond : (report : List ℕ) (at n : ℕ) → length report ≤ at → report ≡ set report at n
@@ -118,3 +127,15 @@ module _ (report work : List ℕ) (k : ℕ) (lends : k ≡ room (fits reportRoom
         let p = subst (λ (w : List ℕ). Asked pack chart chain fluent w part x) sees (subst (λ (f : ℕ). Asked pack chart chain f (take k work) part x) (sym same) promise) in
         let reply = queryReply pack chart chain fluent (seen report work) in
         record { returned = returned reply one (told one (querySaid y)) (ap (told one) (sym (p .answer) ∙ ap querySaid is)) (p .scratch) n t }
+
+    pub compare-returned : {pack first second chain chain′ : List ℕ} {x : Matched} (y : Matched) → Comparison pack first second chain (take k work) chain′ part x → x ≡ y
+        → r ≡ numberOf (told matchNumbers (compareSaid y)) → report′ ≡ put (entries (told matchNumbers (compareSaid y))) report
+        → CompareReturned pack first second chain work report chain′ (part ++ drop k work) report′ r
+    compare-returned {pack} {first} {second} {chain} {chain′} {x} y promise is n t =
+        let p = subst (λ (w : List ℕ). Comparison pack first second chain w chain′ part x) sees promise in
+        let reply = compareReply pack first second chain (seen report work) in
+        record {
+          returned = returned reply (λ v. matchNumbers (difference v)) (told matchNumbers (compareSaid y))
+              (sym (told-told matchNumbers difference reply) ∙ ap (told matchNumbers) (sym (p .answer) ∙ ap compareSaid is)) (p .scratch) n t;
+          result = p .result;
+        }

@@ -5,7 +5,8 @@ use mathlib.Core.List.{List, [], _∷_}
 use lib.ListN.{length}
 use Rattle.pack.specs.Reading.{Reply, told}
 use Rattle.chart.specs.Call.{resultAfter}
-use Rattle.chart.specs.Replies.{startReply, queryReply}
+use Rattle.chart.specs.Replies.{startReply, queryReply, compareReply, chainOf}
+use Rattle.chart.specs.Promises.{Difference, nowhere, after, difference}
 use Rattle.export.specs.Report.{seen, Returned}
 
 -- one number
@@ -20,3 +21,13 @@ pub record StartReturned (pack chart work report chart′ work′ report′ : Li
 -- pirwodd_query(pack, chart, chain, fluent, work, report): "gives its value where the chain leads"
 pub record QueryReturned (pack chart chain : List ℕ) (fluent : ℕ) (work report work′ report′ : List ℕ) (r : ℕ) : Type 0 where
   pub returned : Returned (told one (queryReply pack chart chain fluent (seen report work))) work report work′ report′ r
+
+-- 0 for "same"; else 1, the chain's length and the fluent
+abbrev pub matchNumbers : Difference → List ℕ
+matchNumbers nowhere = 0 ∷ []
+matchNumbers (after length fluent) = 1 ∷ length ∷ fluent ∷ []
+
+-- pirwodd_compare(pack, first, second, chain out, work, report): "same, or the shortest chain that leads to a difference"
+pub record CompareReturned (pack first second chain work report chain′ work′ report′ : List ℕ) (r : ℕ) : Type 0 where
+  pub returned : Returned (told (λ v. matchNumbers (difference v)) (compareReply pack first second chain (seen report work))) work report work′ report′ r
+  pub result : chain′ ≡ resultAfter (told chainOf (compareReply pack first second chain (seen report work))) chain

@@ -1,7 +1,9 @@
 // The calls as C and Rust call them. Each hands back 0 for an answer or a refusal's number, and writes numbers into a lent report: what the answer says, or the refusal's
 // place. What that is for each call stands in specs/Exports.antt.
 use chart::Charted;
+use chart::Matched;
 use chart::Queried;
+use chart::compare::compare;
 use chart::query::query;
 use chart::start::start;
 ghost use mathlib.Core.Path.{_≡_};
@@ -10,7 +12,7 @@ ghost use lib.ListN.{set};
 ghost use lib.Dec.{leb};
 ghost use Rattle.pack.specs.Reading.{pick};
 ghost use Rattle.export.specs.Report.{reportRoom, put};
-ghost use Rattle.export.specs.Exports.{StartReturned, QueryReturned};
+ghost use Rattle.export.specs.Exports.{StartReturned, QueryReturned, CompareReturned};
 
 fn wide_byte(x: u8) -> usize
     ensures { λ r. ⌜ x ≡ r ⌝ }
@@ -61,6 +63,16 @@ fn tell(number: u8, entry: usize, report: &mut [u64]) -> u32
     wide_number(number)
 }
 
+// Hands 0 back, and puts three entries into the report: 1, and what is said of a difference.
+fn tell_difference(length: usize, fluent: usize, report: &mut [u64]) -> u32
+    ensures { λ r. ⌜ (0 ≡ r) × (now (report .exit) ≡ put (1 ∷ length ∷ fluent ∷ []) (now (report .entry))) ⌝ }
+{
+    put_entry(report, 0, 1);
+    put_entry(report, 1, length);
+    put_entry(report, 2, fluent);
+    0
+}
+
 // Start: the report's entry is the chart's length.
 #[no_mangle]
 pub extern "C" fn pirwodd_start(
@@ -94,5 +106,25 @@ pub extern "C" fn pirwodd_query(
     match query(pack, chart, chain, index(fluent), &mut work[..room]) {
         Queried::Refused(k, at) => tell(k, at, report),
         Queried::Value(value) => tell(0, wide_byte(value), report),
+    }
+}
+
+// Compare: the report's entries are 0 for "same", or 1, the chain's length and the fluent.
+#[no_mangle]
+pub extern "C" fn pirwodd_compare(
+    pack: &[u8],
+    first: &[u8],
+    second: &[u8],
+    chain: &mut [u8],
+    work: &mut [u8],
+    report: &mut [u64],
+) -> u32
+    ensures { λ r. ⌜ CompareReturned (now (pack .entry)) (now (first .entry)) (now (second .entry)) (now (chain .entry)) (now (work .entry)) (now (report .entry)) (now (chain .exit)) (now (work .exit)) (now (report .exit)) r ⌝ }
+{
+    let room = lent(report.len(), work.len());
+    match compare(pack, first, second, chain, &mut work[..room]) {
+        Matched::Refused(k, at) => tell(k, at, report),
+        Matched::Same => tell(0, 0, report),
+        Matched::Differ(length, fluent) => tell_difference(length, fluent, report),
     }
 }

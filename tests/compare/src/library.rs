@@ -19,6 +19,10 @@ extern "C" {
         pack: *const u8, pack_length: usize, chart: *const u8, chart_length: usize, chain: *const u8, chain_length: usize,
         fluent: u64, work: *mut u8, work_length: usize, report: *mut u64, report_length: usize,
     ) -> u32;
+    fn pirwodd_compare(
+        pack: *const u8, pack_length: usize, first: *const u8, first_length: usize, second: *const u8, second_length: usize,
+        chain: *mut u8, chain_length: usize, work: *mut u8, work_length: usize, report: *mut u64, report_length: usize,
+    ) -> u32;
 }
 
 /// How many entries a report must have.
@@ -42,7 +46,7 @@ impl Library {
 
     /// Whether the library has the call yet.
     pub fn has(ask: &Ask) -> bool {
-        matches!(ask, Ask::Start | Ask::Query { .. })
+        matches!(ask, Ask::Start | Ask::Query { .. } | Ask::Compare { .. })
     }
 
     fn report(&mut self) -> Report {
@@ -81,13 +85,29 @@ impl Implementation for Library {
 
     fn compare(
         &mut self,
-        _: &[u8],
-        _: &[u8],
-        _: &[u8],
-        _: &mut [u8],
-        _: &mut [u8],
+        pack: &[u8],
+        first: &[u8],
+        second: &[u8],
+        result: &mut [u8],
+        work: &mut [u8],
     ) -> Result<Option<Differs>, Refusal> {
-        unimplemented!("Compare is not exported yet")
+        let mut report = self.report();
+        let lent = report.lent();
+        // SAFETY: as above.
+        #[rustfmt::skip]
+        let number = unsafe {
+            pirwodd_compare(
+                pack.as_ptr(), pack.len(), first.as_ptr(), first.len(), second.as_ptr(), second.len(),
+                result.as_mut_ptr(), result.len(), work.as_mut_ptr(), work.len(), lent.as_mut_ptr(), lent.len(),
+            )
+        };
+        if number == 0 && report.first() == 0 {
+            return report.told(number).map(|[_]| None);
+        }
+        report.told(number).map(|[differs, length, fluent]| {
+            assert_eq!(differs, 1, "neither same nor different");
+            Some(Differs { length: length as usize, fluent: fluent as usize })
+        })
     }
 
     fn step(&mut self, _: &[u8], _: &[u8], _: u64, _: &mut [u8], _: &mut [u8]) -> Result<usize, Refusal> {

@@ -26,6 +26,11 @@ impl Report {
         &mut self.entries[MARGIN..MARGIN + self.length]
     }
 
+    /// The first entry, for answers that tell by it how many more are written.
+    pub fn first(&self) -> u64 {
+        self.entries[MARGIN]
+    }
+
     /// What was told with the number handed back: N entries of an answer, or a refusal and its place, which is 0 where
     /// the report has no entry for it. All other entries must be as they were.
     pub fn told<const N: usize>(&self, number: u32) -> Result<[u64; N], Refusal> {

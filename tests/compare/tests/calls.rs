@@ -7,11 +7,11 @@ use compare::lending::{Lent, Noise, Seen};
 use compare::library::{Library, ENTRIES};
 use compare::tally::{refused, Tally};
 use reference::call::{Call, Outcome};
+use reference::calls::Differs;
 use reference::generate;
 use reference::generate::random::Random;
 use reference::implementation::{Implementation, Reference};
 use reference::refusal::{without_place, Refusal, RANGE, SHORT};
-use reference::tuned::Engine;
 
 const IN_A_PACK: [u8; 7] = [1, 2, 3, 4, 5, 6, 7];
 const IN_A_CHART: [u8; 6] = [21, 22, 23, 24, 25, 27];
@@ -28,10 +28,9 @@ fn query() {
     often(&met, 200, &["value"], &[&IN_A_PACK[..], &IN_A_CHART, &[8, 9]]);
 }
 
-/// Until the library has Compare, the tuned form of the reference stands in its place.
 #[test]
 fn compare() {
-    let met = alike("compare", 40_000, asks::compare, &mut Engine::new());
+    let met = alike("compare", 60_000, asks::compare, &mut Library::new());
     let chains = [0, 1, 20, 40, 61, 62].map(|length| format!("differ after {length:2}"));
     let chains: Vec<&str> = chains.iter().map(String::as_str).collect();
     often(&met, 100, &[&["same"], &chains[..]].concat(), &[&IN_A_PACK[..5], &[7, 8], &IN_A_CHART]);
@@ -57,7 +56,8 @@ fn other_reports() {
         let (mut tally, mut library, noise) = (Tally::default(), Library::with_report(entries), Noise::new());
         for seed in 0..2_000 {
             let r = &mut Random::new(6_000_000 + seed);
-            let call = if r.chance(1, 2) { asks::start(r) } else { asks::query(r) };
+            let draw: fn(&mut Random) -> Call = r.pick(&[asks::start, asks::query, asks::compare]);
+            let call = draw(r);
             let short = Call { work: if entries < ENTRIES { 0 } else { call.work }, ..call.clone() };
             let found = Lent::new(&call, &noise, r).to(&mut library, &call);
             let expected = match Lent::new(&short, &noise, r).to(&mut Reference, &short).outcome {
@@ -74,7 +74,7 @@ fn other_reports() {
     }
 }
 
-/// The readings and rows of document 01 that are Start's and Query's.
+/// The readings and rows of document 01 that are Start's, Query's and Compare's.
 #[test]
 fn examples() {
     let (mut library, mut result, mut work) = (Library::new(), [7; 961], vec![7; 49_152]);
@@ -91,6 +91,11 @@ fn examples() {
     assert_eq!(library.query(&P, &chart, &[0, 2], 0, &mut work), Err(without_place(RANGE)));
     assert_eq!(library.query(&P, &chart, &[], 1 << 32, &mut work), Err(without_place(RANGE)));
     assert_eq!(library.query(&P, &[0], &[], 0, &mut work), Err(Refusal { number: 23, place: 0 }));
+    let (differs, mut chain) = (Some(Differs { length: 1, fluent: 0 }), [7; 62]);
+    assert_eq!(library.compare(&P, &chart, &[1, 1, 1, 1], &mut chain, &mut work), Ok(differs));
+    assert_eq!(chain[..2], [1, 7]);
+    assert_eq!(library.compare(&P, &chart, &[3, 1, 1, 2, 0, 3, 2, 0, 2, 3], &mut chain, &mut work), Ok(None));
+    assert_eq!(library.compare(&P, &chart, &chart, &mut chain[1..], &mut work), Err(without_place(SHORT)));
 }
 
 /// Puts so many drawn calls to an implementation and to the reference.

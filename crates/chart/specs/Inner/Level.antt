@@ -43,14 +43,22 @@ pub record RowOk (bytes : List ℕ) (w f c t k i : ℕ) : Type 0 where
   pub class : k + i < length bytes
   pub beliefs : (d : ℕ) → d < c → k + getD bytes (t + i * w + f + d) 0 < length bytes
 
--- the rows that lead the first `count` classes stand from r on, and are to be held against row i
-pub record Against (bytes : List ℕ) (w f c t k r count i : ℕ) : Type 0 where
+-- rows i and j have the same values from the v-th on
+abbrev pub SameFrom : List ℕ → (w f t v i j : ℕ) → Type 0
+SameFrom bytes w f t v i j = (q : ℕ) → v ≤ q → q < f → SameByte bytes (t + i * w) (t + j * w) q
+
+-- the rows that lead the first `count` classes stand from r on, and are to be held against row i; rows of one class may have other values below the v-th only
+pub record Against (bytes : List ℕ) (w f c t k r count i v : ℕ) : Type 0 where
   pub wide : f + c ≤ w
+  pub some : v ≤ f
   pub room : r + count ≤ length bytes
   pub row : RowOk bytes w f c t k i
   pub leads : (q : ℕ) → q < count → RowOk bytes w f c t k (getD bytes (r + q) 0)
   -- rows that are alike are of one class already
   pub finer : (q : ℕ) → q < count → Alike bytes w f c t k (getD bytes (r + q) 0) i → classAt bytes k (getD bytes (r + q) 0) ≡ classAt bytes k i
+  pub values : (q : ℕ) → q < count → classAt bytes k (getD bytes (r + q) 0) ≡ classAt bytes k i → SameFrom bytes w f t v (getD bytes (r + q) 0) i
+  -- and the new class has no lower number
+  pub since : (q : ℕ) → q < count → Alike bytes w f c t k (getD bytes (r + q) 0) i → classAt bytes k i ≤ q
 
 -- what `class_of` answers: the first class whose leading row is alike, or `count` where there is none
 pub record ClassIs (bytes : List ℕ) (w f c t k r count i q : ℕ) : Type 0 where
@@ -67,8 +75,11 @@ pub record Levels (bytes : List ℕ) (n w f c t a k r : ℕ) : Type 0 where
   pub old : k + n ≤ r
   pub leads : r + n ≤ length bytes
 
--- rows that are alike are of one class already
-pub record Finer (bytes : List ℕ) (n w f c t k : ℕ) : Type 0 where
+-- rows that are alike are of one class already, those of one class may have other values below the v-th only, and the classes are numbered by first row
+pub record Finer (bytes : List ℕ) (n w f c t k v : ℕ) : Type 0 where
+  pub some : v ≤ f
+  pub values : (i j : ℕ) → i < n → j < n → classAt bytes k i ≡ classAt bytes k j → SameFrom bytes w f t v i j
+  pub numbered : Numbered (classAt bytes k) n
   pub same : (i j : ℕ) → i < n → j < n → Alike bytes w f c t k i j → classAt bytes k i ≡ classAt bytes k j
 
 -- of the rows below i, `key` numbers the classes of R, `count` of them, by first row; `lead` has a row of each

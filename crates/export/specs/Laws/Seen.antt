@@ -9,9 +9,9 @@ use Rattle.pack.specs.Syntax.{Pack, Node, fluents}
 use Rattle.pack.specs.State.{meaning}
 use Rattle.pack.specs.Reading.{Reply, gives, pick}
 use Rattle.pack.specs.Layout.{chartBytes}
-use Rattle.chart.specs.Answers.{startTable}
-use Rattle.chart.specs.Call.{chartRoom, workRoom, fits, call}
-use Rattle.chart.specs.Replies.{firstOf, allBelow, startReply, queryReply}
+use Rattle.chart.specs.Answers.{startTable, compareTable}
+use Rattle.chart.specs.Call.{chartRoom, chainRoom, workRoom, fits, call}
+use Rattle.chart.specs.Replies.{firstOf, secondOf, allBelow, startReply, queryReply, compareReply}
 use Rattle.export.specs.Report.{reportRoom, seen}
 
 -- the work buffer that is seen is long enough exactly where both it and the report are
@@ -34,4 +34,12 @@ pub query-seen : (pack chart chain : List ℕ) (fluent : ℕ) (work report : Lis
 unfolding queryReply
 query-seen pack chart chain fluent work report =
     ap (λ (b : Bool). call pack (chart ∷ []) b (λ p. allBelow (p .characters) chain && ltb fluent (fluents p)) (λ (p : Pack) (tables : List (List Node)). gives (getD (meaning (p .theory .characters) (firstOf tables) 0 chain) fluent 0)))
+    (seen-fits report work)
+
+pub compare-seen : (pack first second chain work report : List ℕ) → compareReply pack first second chain (seen report work)
+    ≡ call pack (first ∷ second ∷ []) (fits chainRoom chain && (fits reportRoom report && fits workRoom work)) (λ p. true)
+    (λ p tables. gives (compareTable (p .theory .characters) (fluents (p .theory)) (firstOf tables) (secondOf tables)))
+unfolding compareReply
+compare-seen pack first second chain work report =
+    ap (λ (b : Bool). call pack (first ∷ second ∷ []) (fits chainRoom chain && b) (λ p. true) (λ (p : Pack) (tables : List (List Node)). gives (compareTable (p .theory .characters) (fluents (p .theory)) (firstOf tables) (secondOf tables))))
     (seen-fits report work)

@@ -31,9 +31,9 @@ few c = let (long, l, s, g) = c .loop .inv in let p = c .before .before .before 
 
 level-requires : tie.Need-level-requires Inv-loop μ-loop
 level-requires c κs =
-    let (long, l, s, g) = c .before .loop .inv in
-    let p = c .before .before .before .before .before .before .before .pre .1 in
-    ((climbing-levels l s (p .0) (p .1) g long, climbing-sound l s (p .0) (p .1) g), climbing-finer l s (p .0) (p .1) g)
+    let (long, l, s, g) = c .before .before .loop .inv in
+    let p = c .before .before .before .before .before .before .before .before .pre .1 in
+    ((climbing-levels l s (p .0) (p .1) g long, climbing-sound l s (p .0) (p .1) g), climbing-finer l s (p .0) (p .1) g _ (c .before .compared .ensures))
 
 -- rows x and y have classes at the level made
 place : (c : tie.At-loop Inv-loop μ-loop) → let a = c .before .before .before .before .before .before .args in
@@ -42,27 +42,27 @@ place c = let (long, l, s, g) = c .loop .inv in let p = c .before .before .befor
 
 returns : tie.Need-returns Inv-loop μ-loop
 returns c =
-    let (long, l, s, g) = c .before .before .before .before .before .before .before .loop .inv in
-    let p = c .before .before .before .before .before .before .before .before .before .before .before .before .before .pre in
-    climbed-since (p .0 .0) (c .before .before .before .before .before .before .before .before .before .before .clear .ensures) (climbing-parts l s (p .1 .0) (p .1 .1) g (c .before .before .before .before .before .level .ensures) (c .if1 .taken))
+    let (long, l, s, g) = c .before .before .before .before .before .before .before .before .loop .inv in
+    let p = c .before .before .before .before .before .before .before .before .before .before .before .before .before .before .pre in
+    climbed-since (p .0 .0) (c .before .before .before .before .before .before .before .before .before .before .before .clear .ensures) (climbing-parts l s (p .1 .0) (p .1 .1) g (c .before .before .before .before .before .level .ensures) (c .if1 .taken))
 
 returns-2 : tie.Need-returns-2 Inv-loop μ-loop
 returns-2 c =
-    let (long, l, s, g) = c .before .before .before .before .before .before .before .before .loop .inv in
-    let p = c .before .before .before .before .before .before .before .before .before .before .before .before .before .before .pre in
-    climbed-since (p .0 .0) (c .before .before .before .before .before .before .before .before .before .before .before .clear .ensures) (climbing-same l s (p .1 .0) (p .1 .1) g (c .before .before .before .before .before .before .level .ensures) (c .if2 .taken) (c .before .if1 .left))
+    let (long, l, s, g) = c .before .before .before .before .before .before .before .before .before .loop .inv in
+    let p = c .before .before .before .before .before .before .before .before .before .before .before .before .before .before .before .pre in
+    climbed-since (p .0 .0) (c .before .before .before .before .before .before .before .before .before .before .before .before .clear .ensures) (climbing-same l s (p .1 .0) (p .1 .1) g (c .before .before .before .before .before .before .level .ensures) (c .if2 .taken) (c .before .if1 .left))
 
 loop-less : tie.Need-loop-less Inv-loop μ-loop
-loop-less c = let (long, l, s, g) = c .before .before .before .before .before .before .before .before .loop .inv in omega (arith, c .if2 .left, c .before .before .before .before .before .before .level .ensures .fewer)
+loop-less c = let (long, l, s, g) = c .before .before .before .before .before .before .before .before .before .loop .inv in omega (arith, c .if2 .left, c .before .before .before .before .before .before .level .ensures .fewer)
 
 loop-again : tie.Need-loop-again Inv-loop μ-loop
 loop-again c =
-    let (long, l, s, g) = c .before .before .before .before .before .before .before .before .loop .inv in
-    let p = c .before .before .before .before .before .before .before .before .before .before .before .before .before .before .pre .1 in
+    let (long, l, s, g) = c .before .before .before .before .before .before .before .before .before .loop .inv in
+    let p = c .before .before .before .before .before .before .before .before .before .before .before .before .before .before .before .pre .1 in
     (c .before .before .before .before .before .before .level .kept .0 ∙ long, l, s, climbing-more l s (p .0) (p .1) g (c .before .before .before .before .before .before .level .ensures) (omega (arith, c .if2 .left)) (c .before .if1 .left))
 
 pub climb-spec : {M : Type 1} → statement M
 climb-spec =
     tie.close
     (tie.spec Inv-loop μ-loop (λ c. omega (arith, c .before .before .pre .0 .0)) (λ c κs. omega (arith, c .before .before .pre .0 .0)) loop-holds (λ c. omega (arith, few c)) (λ c. omega (arith, few c)) (λ c. omega (arith, few c, c .before .before .before .before .before .before .pre .0 .0)) (λ c. omega (arith, few c))
-    (λ c. omega (arith, few c)) (λ c. omega (arith, few c)) (λ c. omega (arith, few c, c .before .before .before .before .before .before .pre .0 .0)) level-requires (λ c. omega (arith, place (c .before .before .before .before))) (λ c. omega (arith, place (c .before .before .before .before .before), c .before .before .before .level .kept .0)) (λ c. omega (arith, place (c .before .before .before .before .before))) (λ c. omega (arith, place (c .before .before .before .before .before .before), c .before .before .before .before .level .kept .0)) (λ c. omega (arith, few (c .before .before .before .before .before .before .before))) (λ c. search needs) returns (λ c. search needs) returns-2 (λ c. omega (arith, few (c .before .before .before .before .before .before .before .before))) loop-less loop-again)
+    (λ c. omega (arith, few c)) (λ c. omega (arith, few c)) (λ c. omega (arith, few c, c .before .before .before .before .before .before .pre .0 .0)) (λ c. omega (arith, few c)) (λ c κs. search needs) level-requires (λ c. omega (arith, place (c .before .before .before .before .before))) (λ c. omega (arith, place (c .before .before .before .before .before .before), c .before .before .before .level .kept .0)) (λ c. omega (arith, place (c .before .before .before .before .before .before))) (λ c. omega (arith, place (c .before .before .before .before .before .before .before), c .before .before .before .before .level .kept .0)) (λ c. omega (arith, few (c .before .before .before .before .before .before .before .before))) (λ c. search needs) returns (λ c. search needs) returns-2 (λ c. omega (arith, few (c .before .before .before .before .before .before .before .before .before))) loop-less loop-again)

@@ -28,22 +28,22 @@ loop-holds c =
 
 level-requires : tie.Need-level-requires Inv-loop μ-loop
 level-requires c κs =
-    let (long, l, o, g) = c .before .loop .inv in
-    ((levels-same l long, parting-sound l o g), parting-finer l o g)
+    let (long, l, o, g) = c .before .before .loop .inv in
+    ((levels-same l long, parting-sound l o g), parting-finer l o g _ (c .before .compared .ensures))
 
 returns : tie.Need-returns Inv-loop μ-loop
 returns c =
-    let (long, l, o, g) = c .before .before .before .before .before .loop .inv in
-    parted-since (c .before .before .before .before .before .before .before .before .before .before .before .pre .0 .0) (c .before .before .before .before .before .before .before .before .clear .ensures) (parting-many l o g (c .before .before .before .level .ensures) (c .if1 .taken))
+    let (long, l, o, g) = c .before .before .before .before .before .before .loop .inv in
+    parted-since (c .before .before .before .before .before .before .before .before .before .before .before .before .pre .0 .0) (c .before .before .before .before .before .before .before .before .before .clear .ensures) (parting-many l o g (c .before .before .before .level .ensures) (c .if1 .taken))
 
 returns-2 : tie.Need-returns-2 Inv-loop μ-loop
 returns-2 c =
-    let (long, l, o, g) = c .before .before .before .before .before .before .loop .inv in
-    parted-since (c .before .before .before .before .before .before .before .before .before .before .before .before .pre .0 .0) (c .before .before .before .before .before .before .before .before .before .clear .ensures) (parting-done l o g (c .before .before .before .before .level .ensures) (c .if2 .taken))
+    let (long, l, o, g) = c .before .before .before .before .before .before .before .loop .inv in
+    parted-since (c .before .before .before .before .before .before .before .before .before .before .before .before .before .pre .0 .0) (c .before .before .before .before .before .before .before .before .before .before .clear .ensures) (parting-done l o g (c .before .before .before .before .level .ensures) (c .if2 .taken))
 
 copy-part-requires : tie.Need-copy-part-requires Inv-loop μ-loop
 copy-part-requires c κs =
-    let (long, l, o, g) = c .before .before .before .before .before .before .before .loop .inv in
+    let (long, l, o, g) = c .before .before .before .before .before .before .before .before .loop .inv in
     (omega (arith, l), omega (arith, l, long, c .before .before .before .before .before .level .kept .0))
 
 loop-less : tie.Need-loop-less Inv-loop μ-loop
@@ -51,10 +51,10 @@ loop-less c = omega (arith, c .before .before .before .before .before .if1 .left
 
 loop-again : tie.Need-loop-again Inv-loop μ-loop
 loop-again c =
-    let (long, l, o, g) = c .before .before .before .before .before .before .before .before .before .before .loop .inv in
+    let (long, l, o, g) = c .before .before .before .before .before .before .before .before .before .before .before .loop .inv in
     (c .before .before .copy-part .kept .0 ∙ c .before .before .before .before .before .before .before .before .level .kept .0 ∙ long, l, o, parting-more l o g (c .before .before .before .before .before .before .before .before .level .ensures) (omega (arith, c .before .before .before .before .before .if1 .left)) (c .before .before .copy-part .ensures))
 
 pub partition-spec : {M : Type 1} → statement M
 partition-spec =
     tie.close
-    (tie.spec Inv-loop μ-loop (λ c κs. omega (arith, c .before .before .pre .0 .0)) loop-holds level-requires (λ c. search needs) returns (λ c. search needs) returns-2 copy-part-requires loop-less loop-again)
+    (tie.spec Inv-loop μ-loop (λ c κs. omega (arith, c .before .before .pre .0 .0)) loop-holds (λ c κs. search needs) level-requires (λ c. search needs) returns (λ c. search needs) returns-2 copy-part-requires loop-less loop-again)
