@@ -85,7 +85,8 @@ pub fn put_acted(
     requires { ⌜ Scened (now pack) (now places) (now effects) h (now work) t × (m < t .nodes) × RowRoom (now work) t to ⌝ }
     ensures { λ _. ⌜ ((s : Scene) → Stands s (now (pack .entry)) (now (places .entry)) (now (effects .entry)) h (now (work .entry)) t → Puts s h t (acted m) (now (work .entry)) (now (work .exit)) to) ⌝ }
 {
-    copy_part(work, t.rows + m * t.width, to, t.fluents);
+    let from = t.rows + m * t.width;
+    copy_part(work, from, to, t.fluents);
     write_told(pack, effects[m], 0, work, to, t.fluents);
     put_slots(pack, places, effects, h, work, t, m, to + t.fluents)
 }
