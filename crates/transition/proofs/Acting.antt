@@ -50,40 +50,42 @@ module _ {p : Theory} {T : List Node} {pack places : List ℕ} {actions triggers
   abbrev pub scene : Scene
   scene = record { dimensions = dims (p .characters) (p .domains); table = T; causes = λ s. A .effects; takes = observes A }
 
-  abbrev pub part : ℕ → Change
-  part u = record { acted = u; old = 6; observed = 9 * a + 3 }
+  module _ (root : ℕ) (inside : root < t .nodes) where
+    abbrev pub part : ℕ → Change
+    part u = record { acted = u; old = 6; observed = 9 * a + 3; root = root }
 
-  kinds : (u : ℕ) → Untold (A .effects) C u → Kinds scene (t .nodes) C (part u)
-  kinds u y = record {
-    edges = λ m d hm hd e. (
-      omega (arith, small (x .tabled)),
-      λ q. ⊎-elim
-          (λ (o : (u < C) × (told (A .effects) (suc u) ≡ false)). clash e (ap (λ (k : ℕ). told (A .effects) (suc k)) q ∙ o .1))
-          (λ (o : (u ≡ 7) × ((d : ℕ) → d < C → told (A .effects) (suc d) ≡ true)). omega (arith, o .0, q, small (x .tabled))) (y .one),
-    );
-    acts = λ m d hm hd e f. ⊎-elim
-        (λ (o : (u < C) × (told (A .effects) (suc u) ≡ false)). (omega (arith, o .0, small (x .tabled)), omega (arith, o .0, small (x .tabled))))
-        (λ (o : (u ≡ 7) × ((d : ℕ) → d < C → told (A .effects) (suc d) ≡ true)). clash (o .1 d hd) e) (y .one);
-    keeps = λ m d hm hd e. omega arith;
-  }
+    kinds : (u : ℕ) → Untold (A .effects) C u → Kinds scene (t .nodes) C (part u)
+    kinds u y = record {
+      edges = λ m d hm hd e. (
+        omega (arith, small (x .tabled)),
+        λ q. ⊎-elim
+            (λ (o : (u < C) × (told (A .effects) (suc u) ≡ false)). clash e (ap (λ (k : ℕ). told (A .effects) (suc k)) q ∙ o .1))
+            (λ (o : (u ≡ 7) × ((d : ℕ) → d < C → told (A .effects) (suc d) ≡ true)). omega (arith, o .0, q, small (x .tabled))) (y .one),
+      );
+      acts = λ m d hm hd e f. ⊎-elim
+          (λ (o : (u < C) × (told (A .effects) (suc u) ≡ false)). (omega (arith, o .0, small (x .tabled)), omega (arith, o .0, small (x .tabled))))
+          (λ (o : (u ≡ 7) × ((d : ℕ) → d < C → told (A .effects) (suc d) ≡ true)). clash (o .1 d hd) e) (y .one);
+      keeps = λ m d hm hd e. omega arith;
+    }
 
-  pub act-stands : (u : ℕ) → ((d : Rattle.pack.specs.Grammar.Dimensions) → Rattle.pack.specs.Judge.Small d → (es : List Effect) → EffectsAt d pack (getD places (9 * a + 1) 0) es → Untold es C u)
-      → Stands scene pack places (replicate 32 (getD places (9 * a + 1) 0)) (part u) work t
-  act-stands u y = record {
-    tabled = x .tabled;
-    effects-stand = λ m hm. subst (λ (k : ℕ). EffectsAt (dims (p .characters) (p .domains)) pack k (A .effects)) (sym (getD-replicate {A = ℕ} 32 m (getD places (9 * a + 1) 0) 0 (omega (arith, x .tabled .few)))) act-effects;
-    long = omega (arith, length-replicate {A = ℕ} 32 (getD places (9 * a + 1) 0), x .tabled .few);
-    observes = record {
-      everyone = λ e. absurd (omega (arith, act-places));
-      few = omega (arith, act-places);
-      inside = λ h. omega (arith, act-places);
-      condition = λ h c lc. getD (A .observed) c [];
-      stands = λ h c lc. found .observed c (omega (arith, x .tabled .over .characters));
-      judged = λ h c lc z. refl;
-    };
-    kinds = kinds u (y (dims (p .characters) (p .domains)) (x .theorized .small) (A .effects) act-effects);
-  }
+    pub act-stands : (u : ℕ) → ((d : Rattle.pack.specs.Grammar.Dimensions) → Rattle.pack.specs.Judge.Small d → (es : List Effect) → EffectsAt d pack (getD places (9 * a + 1) 0) es → Untold es C u)
+        → Stands scene pack places (replicate 32 (getD places (9 * a + 1) 0)) (part u) work t
+    act-stands u y = record {
+      tabled = x .tabled;
+      effects-stand = λ m hm. subst (λ (k : ℕ). EffectsAt (dims (p .characters) (p .domains)) pack k (A .effects)) (sym (getD-replicate {A = ℕ} 32 m (getD places (9 * a + 1) 0) 0 (omega (arith, x .tabled .few)))) act-effects;
+      long = omega (arith, length-replicate {A = ℕ} 32 (getD places (9 * a + 1) 0), x .tabled .few);
+      observes = record {
+        everyone = λ e. absurd (omega (arith, act-places));
+        few = omega (arith, act-places);
+        inside = λ h. omega (arith, act-places);
+        condition = λ h c lc. getD (A .observed) c [];
+        stands = λ h c lc. found .observed c (omega (arith, x .tabled .over .characters));
+        judged = λ h c lc z. refl;
+      };
+      kinds = kinds u (y (dims (p .characters) (p .domains)) (x .theorized .small) (A .effects) act-effects);
+      root = inside;
+    }
 
-  pub acted-in : {now : List ℕ} {r : ℕ} → Staged scene t work now slot r → Acted (act A (meaning C T 0)) t work now slot r
-  unfolding act
-  acted-in s = record { holds = s .holds; only = s .only }
+    pub acted-in : {now : List ℕ} {r : ℕ} → Staged scene root t work now slot r → Acted (act A (meaning C T root)) t work now slot r
+    unfolding act
+    acted-in s = record { holds = s .holds; only = s .only }

@@ -60,7 +60,7 @@ tabled-same {was = was} {now} {t} x low long =
     }
 
 pub stands-same : {s : Scene} {pack places effects was now : List ℕ} {h : Change} {t : Table} → Stands s pack places effects h was t → Below was now (t .rows + t .nodes * t .width) → length now ≡ length was → Stands s pack places effects h now t
-stands-same x low long = record { tabled = tabled-same (x .tabled) low long; effects-stand = x .effects-stand; long = x .long; observes = x .observes; kinds = x .kinds }
+stands-same x low long = record { tabled = tabled-same (x .tabled) low long; effects-stand = x .effects-stand; long = x .long; observes = x .observes; kinds = x .kinds; root = x .root }
 
 -- the beliefs and values of a row
 module _ {d : Dimensions} {T : List Node} {work : List ℕ} {t : Table} (x : Tabled d T work t) where
@@ -224,7 +224,7 @@ module _ {s : Scene} {pack places effects was : List ℕ} {h : Change} {t : Tabl
 
 -- what a slot stands for, by the tests made on it
 module _ (h : Change) (n slot : ℕ) where
-  pub member-first : slot / 7 ≡ n → acted 0 ≡ memberOf h n slot
+  pub member-first : slot / 7 ≡ n → acted (h .root) ≡ memberOf h n slot
   unfolding memberOf
   member-first e = rw (eq-eqb (slot / 7) n e)
 

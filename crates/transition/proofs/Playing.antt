@@ -19,7 +19,7 @@ use Rattle.transition.specs.Happening.{nothing, actionOf, act, Settles, 
 use Rattle.transition.specs.Inner.Play.{Setting, Slotted, Acted, SettledIn, PlayedIn}
 use Rattle.transition.proofs.Settling.{only-none, only-then, tableIn, slot-small}
 
-module _ {p : Theory} {T : List Node} {pack places : List ℕ} {actions triggers : ℕ} {was : List ℕ} {t : Table} {slot : ℕ} (x : Setting p T pack places actions triggers was t slot) {a : ℕ} (l : a < actions) where
+module _ {p : Theory} {T : List Node} {pack places : List ℕ} {actions triggers : ℕ} {was : List ℕ} {t : Table} {slot : ℕ} (x : Setting p T pack places actions triggers was t slot) {a : ℕ} (l : a < actions) (root : ℕ) (inside : root < t .nodes) where
   abbrev A : Action
   A = actionOf p a
 
@@ -27,18 +27,18 @@ module _ {p : Theory} {T : List Node} {pack places : List ℕ} {actions triggers
   d = dims (p .characters) (p .domains)
 
   abbrev z : State
-  z = meaning (t .characters) T 0
+  z = meaning (t .characters) T root
 
-  pub play-judged : Judged conditionAt pack (getD places (9 * a) 0) t was 0
+  pub play-judged : Judged conditionAt pack (getD places (9 * a) 0) t was root
   play-judged =
       let g = x .theorized .found .action a l nothing .condition in
-      record { table = x .tabled .fits; there = x .tabled .some; dimensions = d; over = x .tabled .over; value = A .condition; end = g .end; reads = g .reads }
+      record { table = x .tabled .fits; there = inside; dimensions = d; over = x .tabled .over; value = A .condition; end = g .end; reads = g .reads }
 
-  module _ {b : Bool} (judged : (d : Dimensions) → Over d t → (c : Condition) (n : ℕ) → conditionAt d pack (getD places (9 * a) 0) ≡ done c n → b ≡ holds (stateOf t was 0) c) where
+  module _ {b : Bool} (judged : (d : Dimensions) → Over d t → (c : Condition) (n : ℕ) → conditionAt d pack (getD places (9 * a) 0) ≡ done c n → b ≡ holds (stateOf t was root) c) where
     may : holds z (A .condition) ≡ b
     may =
         let g = x .theorized .found .action a l nothing .condition in
-        ap (λ (U : List Node). holds (meaning (t .characters) U 0) (A .condition)) (sym (x .tabled .same)) ∙ sym (judged d (x .tabled .over) (A .condition) (g .end) (g .reads))
+        ap (λ (U : List Node). holds (meaning (t .characters) U root) (A .condition)) (sym (x .tabled .same)) ∙ sym (judged d (x .tabled .over) (A .condition) (g .end) (g .reads))
 
     pub play-forbidden : b ≡ false → PlayedIn p z a t was was slot 10
     play-forbidden e = record { plays = λ q. absurd (omega arith); refuses = λ q. Refuses.forbidden (may ∙ e); only = only-none was slot }

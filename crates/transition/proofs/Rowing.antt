@@ -52,8 +52,8 @@ module _ (s : Scene) (h : Change) (t : Table) where
   silent : changed.Silent (s .causes) (s .takes) C (s .table) (tells s C)
   silent m d e v = untold-write (s .causes (at s C m)) (suc d) e v
 
-  -- the last slot is that of row 0 having taken part
-  last : of (t .nodes * 7) ≡ acted 0
+  -- the last slot is that of the root having taken part
+  last : of (t .nodes * 7) ≡ acted (h .root)
   last = let e : (t .nodes * 7) / 7 ≡ t .nodes = omega arith in sym (member-first h (t .nodes) (t .nodes * 7) e)
 
   pub making-start : {old was : List ℕ} {b u root count : ℕ} → Given old was b (slotsOf t) 0 (slotsOf t - 1) root → count ≡ max 0 (suc root) → Making was was b u 0 count × (keyAt was b (slotsOf t) 0 ≡ t .nodes * 7)
@@ -72,7 +72,7 @@ module _ (s : Scene) (h : Change) (t : Table) where
       going-row C (There C) (valuesOf s C) (next s C) of was old now b (slotsOf t) u (t .width) (t .fluents) i count more _ _ (laid .scratch) wide g l (r .filled) refl (r .names)
       (λ d k. changed.changed (s .causes) (s .takes) C (s .table) (tells s C) silent .real (of (keyAt old b (slotsOf t) i)) (making-real g l) d k)
 
-  pub making-end : {entry was now : List ℕ} {b u i count : ℕ} → Making was now b u i count → count ≤ i → keyAt was b (slotsOf t) 0 ≡ t .nodes * 7 → Below entry was b → Above entry was (b + slotsOf t + slotsOf t) → b + slotsOf t + slotsOf t ≤ u → ChangeMade s t entry now b u count
+  pub making-end : {entry was now : List ℕ} {b u i count : ℕ} → Making was now b u i count → count ≤ i → keyAt was b (slotsOf t) 0 ≡ t .nodes * 7 → Below entry was b → Above entry was (b + slotsOf t + slotsOf t) → b + slotsOf t + slotsOf t ≤ u → ChangeMade s h t entry now b u count
   making-end {entry} {was} {now} {b} {u} {i} {count} g l key low high after =
       let (ordered, means) = going-end C (There C) (valuesOf s C) (next s C) of (changed.sem C (s .table) (change (s .causes) (s .takes))) (changed.changed (s .causes) (s .takes) C (s .table) (tells s C) silent) was now b (slotsOf t) u (t .width) (t .fluents) i count g l in
       record {

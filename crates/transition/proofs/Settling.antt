@@ -152,7 +152,7 @@ module _ {p : Theory} {T : List Node} {pack places : List ℕ} {actions triggers
         roundScene = record { dimensions = dims (p .characters) (p .domains); table = U; causes = fires (p .triggers); takes = λ z c. true }
 
         abbrev pub everyone : Change
-        everyone = record { acted = 6; old = 7; observed = 327 }
+        everyone = record { acted = 6; old = 7; observed = 327; root = 0 }
 
         pub round-stands : length effects ≡ 32 → Stands roundScene pack places effects everyone now (tableIn t slot nodes)
         round-stands l = record {
@@ -161,12 +161,13 @@ module _ {p : Theory} {T : List Node} {pack places : List ℕ} {actions triggers
           long = omega (arith, l, g .few);
           observes = record { everyone = λ q z c. refl; few = omega arith; inside = λ h. absurd (h refl); condition = λ h c lc. absurd (h refl); stands = λ h c lc. absurd (h refl); judged = λ h c lc z. absurd (h refl) };
           kinds = record { edges = λ m d hm hd q. (omega (arith, small round-table), omega (arith, small round-table)); acts = λ m d hm hd q k. (omega arith, omega arith); keeps = λ m d hm hd q. clash refl q };
+          root = g .holds .some;
         }
 
         pub round-room : StageRoom now (tableIn t slot nodes) slot
         round-room = record { source = slot-small nodes (g .few); slot-room = x .room .slot-room; room = omega (arith, long, x .room .room) }
 
-        module _ {then : List ℕ} {r : ℕ} (st : Staged roundScene (tableIn t slot nodes) now then slot r) (h : rounds ≢ 16) (few : rounds ≤ 16) where
+        module _ {then : List ℕ} {r : ℕ} (st : Staged roundScene 0 (tableIn t slot nodes) now then slot r) (h : rounds ≢ 16) (few : rounds ≤ 16) where
           going : Going p s₀ (15 - rounds) (round (p .triggers) (g .state))
           going = let e : g .left ≡ suc (15 - rounds) = omega (arith, g .sum) in going-on (subst (λ (k : ℕ). Going p s₀ k (g .state)) e (g .going)) most loud
 

@@ -95,9 +95,9 @@ module _ {s : Scene} {pack places effects was : List ℕ} {h : Change} {t : Tabl
 
   -- the state that is made
   abbrev made : State
-  made = change (s .causes) (s .takes) (at s C 0)
+  made = change (s .causes) (s .takes) (at s C (h .root))
 
-  module _ {mid : List ℕ} {k : ℕ} (y : ChangeMade s t was mid 28832 29284 k) (long : length mid ≡ length was) where
+  module _ {mid : List ℕ} {k : ℕ} (y : ChangeMade s h t was mid 28832 29284 k) (long : length mid ≡ length was) where
     some-rows : k ≤ 225
     some-rows = omega (arith, y .few, most)
 
@@ -115,7 +115,7 @@ module _ {s : Scene} {pack places effects was : List ℕ} {h : Change} {t : Tabl
       above : Above was mid′ 36720
       above q l = z .high q (omega (arith, some-rows)) ∙ y .high q (omega (arith, sized (t .nodes * 7 + 1) 225 most))
 
-      pub stage-many : 32 < count → Staged s t was mid′ slot count
+      pub stage-many : 32 < count → Staged s (h .root) t was mid′ slot count
       stage-many l = record {
         holds = record { some = omega arith; count = λ g. absurd (omega arith); starts = λ g. absurd (omega arith); many = λ g a. z .many g (subst (AtMost 32 C) (sym means) a) };
         only = record { low = λ q g. below q (omega (arith, p .slot-room)); mid = λ q g k. below q k; high = λ q g. above q (omega arith) };
@@ -143,7 +143,7 @@ module _ {s : Scene} {pack places effects was : List ℕ} {h : Change} {t : Tabl
           pub stage-inside : (36720 + r * w ≤ 37680) × (slot + 1 + r * w ≤ slot + 961) × (37680 ≤ length was)
           stage-inside = (omega (arith, sized r 32 (stage-few .1)), omega (arith, sized r 32 (stage-few .1)), omega (arith, p .room))
 
-          pub stage-done : {now′ : List ℕ} → length now ≡ length was → PartCopied (set now slot r) now′ 36720 (slot + 1) (r * w) → Staged s t was now′ slot r
+          pub stage-done : {now′ : List ℕ} → length now ≡ length was → PartCopied (set now slot r) now′ 36720 (slot + 1) (r * w) → Staged s (h .root) t was now′ slot r
           stage-done {now′} size c =
               let kept : (q : ℕ) → q ≢ slot → getD (set now slot r) q 0 ≡ getD now q 0 = λ q g. getD-set-other now slot q r 0 g in
               let rows : rowsAt now′ w f C (slot + 1) r ≡ rowsAt now w f C 36720 r = rows-same now now′ w f C 36720 (slot + 1) r wide (λ q l. c .part q l ∙ kept (36720 + q) (omega (arith, p .slot-room))) in

@@ -28,17 +28,18 @@ pub fn lowest_untold(pack: &[u8], at: usize, characters: usize) -> usize
     7
 }
 
-// Part 1 of an action in what row 0 of a table means, into a slot; how many states that leaves, or more than 32.
+// Part 1 of an action in what a row of a table means, into a slot; how many states that leaves, or more than 32.
 pub fn act(
     pack: &[u8],
     places: &[usize],
     action: usize,
     work: &mut [u8],
     t: Table,
+    root: usize,
     slot: usize,
 ) -> usize
-    requires { ⌜ Actable (now pack) (now places) action (now work) t slot ⌝ }
-    ensures { λ r. ⌜ ((p : Theory) (T : List Node) (actions triggers : ℕ) → Setting p T (now (pack .entry)) (now (places .entry)) actions triggers (now (work .entry)) t slot → action < actions → Acted (Rattle.transition.specs.Happening.act (actionOf p action) (meaning (t .characters) T 0)) t (now (work .entry)) (now (work .exit)) slot r) ⌝ }
+    requires { ⌜ Actable (now pack) (now places) action (now work) t root slot ⌝ }
+    ensures { λ r. ⌜ ((p : Theory) (T : List Node) (actions triggers : ℕ) → Setting p T (now (pack .entry)) (now (places .entry)) actions triggers (now (work .entry)) t slot → action < actions → root < t .nodes → Acted (Rattle.transition.specs.Happening.act (actionOf p action) (meaning (t .characters) T root)) t (now (work .entry)) (now (work .exit)) slot r) ⌝ }
 {
     let at = places[9 * action + 1];
     let effects = [at; 32];
@@ -46,6 +47,7 @@ pub fn act(
         acted: lowest_untold(pack, at, t.characters),
         old: 6,
         observed: 9 * action + 3,
+        root,
     };
     stage(pack, places, &effects, observers, work, t, slot)
 }

@@ -17,11 +17,13 @@ ghost use Rattle.transition.specs.Laws.Changed.{acted, edge, old, There}
 ghost use Rattle.transition.specs.Inner.Cause.{Tabled};
 ghost use Rattle.transition.specs.Inner.Change.{Scene, Stands, Scened, Seen, believed, took, memberOf, SlotIs, SlotsPut, RowRoom, Puts, Laid, RowMade, ChangeMade};
 
-// Which of a row's seven slots stand for the row having taken part and for the row as it was, and where the observation conditions are; the others are its characters'.
+// Which of a row's seven slots stand for the row having taken part and for the row as it was, the others being its characters'; where the observation conditions are; and the
+// row in which it happens.
 pub struct Change {
     pub acted: usize,
     pub old: usize,
     pub observed: usize,
+    pub root: usize,
 }
 
 // The slot of what character d believes in row m, which took part.
@@ -148,7 +150,7 @@ pub fn put_edge(
     write_told(pack, effects[m], c + 1, work, to, t.fluents)
 }
 
-// Writes the row of a slot. The last slot is that of row 0 having taken part.
+// Writes the row of a slot. The last slot is that of the root having taken part.
 pub fn put_member(
     pack: &[u8],
     places: &[usize],
@@ -165,7 +167,7 @@ pub fn put_member(
     let m = slot / 7;
     let kind = slot % 7;
     if m == t.nodes {
-        put_acted(pack, places, effects, h, work, t, 0, to)
+        put_acted(pack, places, effects, h, work, t, h.root, to)
     } else if kind == h.old {
         put_old(h, work, t, m, to)
     } else if kind == h.acted {
@@ -211,7 +213,7 @@ pub fn change_table(
     u: usize,
 ) -> usize
     requires { ⌜ Scened (now pack) (now places) (now effects) h (now work) t × Laid (now work) t b u ⌝ }
-    ensures { λ r. ⌜ ((s : Scene) → Stands s (now (pack .entry)) (now (places .entry)) (now (effects .entry)) h (now (work .entry)) t → ChangeMade s t (now (work .entry)) (now (work .exit)) b u r) ⌝ }
+    ensures { λ r. ⌜ ((s : Scene) → Stands s (now (pack .entry)) (now (places .entry)) (now (effects .entry)) h (now (work .entry)) t → ChangeMade s h t (now (work .entry)) (now (work .exit)) b u r) ⌝ }
 {
     let size = t.nodes * 7 + 1;
     clear(work, b, size);

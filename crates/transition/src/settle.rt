@@ -43,6 +43,7 @@ pub fn settle(
             acted: 6,
             old: 7,
             observed: 327,
+            root: 0,
         };
         nodes = stage(pack, places, &effects, everyone, work, now, slot);
         if 32 < nodes {

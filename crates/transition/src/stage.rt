@@ -33,7 +33,7 @@ pub fn stage(
     slot: usize,
 ) -> usize
     requires { ⌜ Scened (now pack) (now places) (now effects) h (now work) t × StageRoom (now work) t slot ⌝ }
-    ensures { λ r. ⌜ ((s : Scene) → Stands s (now (pack .entry)) (now (places .entry)) (now (effects .entry)) h (now (work .entry)) t → Staged s t (now (work .entry)) (now (work .exit)) slot r) ⌝ }
+    ensures { λ r. ⌜ ((s : Scene) → Stands s (now (pack .entry)) (now (places .entry)) (now (effects .entry)) h (now (work .entry)) t → Staged s (h .root) t (now (work .entry)) (now (work .exit)) slot r) ⌝ }
 {
     let rows = change_table(pack, places, effects, h, work, t, 28832, 29284);
     let classes = partition(

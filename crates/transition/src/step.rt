@@ -20,7 +20,7 @@ ghost use Rattle.pack.specs.State.{meaning};
 ghost use Rattle.transition.specs.Promises.{Stepped};
 ghost use Rattle.transition.specs.Inner.Play.{Setting, Playable, PlayedIn, Steppable, StepPut};
 
-// Plays an action in what row 0 of a table means, into a slot: 0, or 10, 11 or 12.
+// Plays an action in what a row of a table means, into a slot: 0, or 10, 11 or 12.
 pub fn step_slot(
     pack: &[u8],
     places: &[usize],
@@ -28,16 +28,17 @@ pub fn step_slot(
     action: usize,
     work: &mut [u8],
     t: Table,
+    root: usize,
     slot: usize,
 ) -> u8
-    requires { ⌜ Playable (now pack) (now places) triggers action (now work) t slot ⌝ }
-    ensures { λ r. ⌜ ((p : Theory) (T : List Node) (actions : ℕ) → Setting p T (now (pack .entry)) (now (places .entry)) actions triggers (now (work .entry)) t slot → action < actions → PlayedIn p (meaning (t .characters) T 0) action t (now (work .entry)) (now (work .exit)) slot r) ⌝ }
+    requires { ⌜ Playable (now pack) (now places) triggers action (now work) t root slot ⌝ }
+    ensures { λ r. ⌜ ((p : Theory) (T : List Node) (actions : ℕ) → Setting p T (now (pack .entry)) (now (places .entry)) actions triggers (now (work .entry)) t slot → action < actions → root < t .nodes → PlayedIn p (meaning (t .characters) T root) action t (now (work .entry)) (now (work .exit)) slot r) ⌝ }
 {
-    let may = holds(pack, places[9 * action], work, t, 0);
+    let may = holds(pack, places[9 * action], work, t, root);
     if !may {
         return 10;
     }
-    let nodes = act(pack, places, action, work, t, slot);
+    let nodes = act(pack, places, action, work, t, root, slot);
     if 32 < nodes {
         return 12;
     }
@@ -75,7 +76,7 @@ pub fn play(
         characters,
         width: fluents + characters,
     };
-    let number = step_slot(pack, places, triggers, action, work, t, 961);
+    let number = step_slot(pack, places, triggers, action, work, t, 0, 961);
     if number != 0 {
         clear(work, 0, 49152);
         return Charted::Refused(number, 0);

@@ -58,7 +58,7 @@ pub record Kinds (s : Scene) (n C : ℕ) (h : Change) : Type 0 where
 -- what a slot stands for, where there are n rows
 unfoldable pub memberOf : Change → ℕ → ℕ → Member
 memberOf h n slot =
-    pick (eqb (slot / 7) n) (acted 0) (pick (eqb (slot % 7) (h .old)) (old (slot / 7)) (pick (eqb (slot % 7) (h .acted)) (acted (slot / 7)) (edge (slot / 7) (slot % 7))))
+    pick (eqb (slot / 7) n) (acted (h .root)) (pick (eqb (slot % 7) (h .old)) (old (slot / 7)) (pick (eqb (slot % 7) (h .acted)) (acted (slot / 7)) (edge (slot / 7) (slot % 7))))
 
 -- the scene is what the pack, the places and the work buffer say
 pub record Stands (s : Scene) (pack places effects : List ℕ) (h : Change) (work : List ℕ) (t : Table) : Type 0 where
@@ -67,6 +67,7 @@ pub record Stands (s : Scene) (pack places effects : List ℕ) (h : Change) (wor
   pub long : t .nodes ≤ length effects
   pub observes : Observes (s .dimensions) pack places (h .observed) (t .characters) (s .takes)
   pub kinds : Kinds s (t .nodes) (t .characters) h
+  pub root : h .root < t .nodes
 
 abbrev pub Scened : (pack places effects : List ℕ) (h : Change) (work : List ℕ) (t : Table) → Type 0
 Scened pack places effects h work t = (s : Scene) × Stands s pack places effects h work t
@@ -114,10 +115,10 @@ pub record RowMade (s : Scene) (h : Change) (t : Table) (was now : List ℕ) (b 
   pub filled : RowFilled was now b (t .nodes * 7 + 1) count more (u + i * t .width) (t .width) (t .fluents) (t .characters) (valuesOf s (t .characters) (memberOf h (t .nodes) (keyAt was b (t .nodes * 7 + 1) i))) wanted
 
 -- r rows from u on, in the order met breadth first, that mean what happens
-pub record ChangeMade (s : Scene) (t : Table) (was now : List ℕ) (b u r : ℕ) : Type 0 where
+pub record ChangeMade (s : Scene) (h : Change) (t : Table) (was now : List ℕ) (b u r : ℕ) : Type 0 where
   pub some : 0 < r
   pub few : r ≤ t .nodes * 7 + 1
   pub ordered : Ordered (t .characters) (rowsAt now (t .width) (t .fluents) (t .characters) u r)
-  pub means : meaning (t .characters) (rowsAt now (t .width) (t .fluents) (t .characters) u r) 0 ≡ change (s .causes) (s .takes) (at s (t .characters) 0)
+  pub means : meaning (t .characters) (rowsAt now (t .width) (t .fluents) (t .characters) u r) 0 ≡ change (s .causes) (s .takes) (at s (t .characters) (h .root))
   pub low : Below was now b
   pub high : Above was now (u + (t .nodes * 7 + 1) * t .width)

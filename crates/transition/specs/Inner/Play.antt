@@ -44,11 +44,11 @@ pub record Setting (p : Theory) (T : List Node) (pack places : List ℕ) (action
   pub tabled : Tabled (dims (p .characters) (p .domains)) T work t
   pub room : StageRoom work t slot
 
-abbrev pub Actable : (pack places : List ℕ) (action : ℕ) (work : List ℕ) (t : Table) (slot : ℕ) → Type 0
-Actable pack places action work t slot = (p : Theory) × ((T : List Node) × ((actions : ℕ) × ((triggers : ℕ) × (Setting p T pack places actions triggers work t slot × (action < actions)))))
+abbrev pub Actable : (pack places : List ℕ) (action : ℕ) (work : List ℕ) (t : Table) (root slot : ℕ) → Type 0
+Actable pack places action work t root slot = (p : Theory) × ((T : List Node) × ((actions : ℕ) × ((triggers : ℕ) × (Setting p T pack places actions triggers work t slot × (action < actions) × (root < t .nodes)))))
 
-abbrev pub Playable : (pack places : List ℕ) (triggers action : ℕ) (work : List ℕ) (t : Table) (slot : ℕ) → Type 0
-Playable pack places triggers action work t slot = (p : Theory) × ((T : List Node) × ((actions : ℕ) × (Setting p T pack places actions triggers work t slot × (action < actions))))
+abbrev pub Playable : (pack places : List ℕ) (triggers action : ℕ) (work : List ℕ) (t : Table) (root slot : ℕ) → Type 0
+Playable pack places triggers action work t root slot = (p : Theory) × ((T : List Node) × ((actions : ℕ) × (Setting p T pack places actions triggers work t slot × (action < actions) × (root < t .nodes))))
 
 -- the table stands in the slot, as a written chart
 pub record Slotted (T : List Node) (work : List ℕ) (t : Table) (slot : ℕ) : Type 0 where

@@ -32,6 +32,6 @@ pub record InSlot (t : Table) (z : State) (work : List ℕ) (slot r : ℕ) : Typ
   pub starts : r ≤ 32 → Starts (t .characters) z (rowsAt work (t .width) (t .fluents) (t .characters) (slot + 1) r)
   pub many : 32 < r → AtMost 32 (t .characters) z → ⊥
 
-pub record Staged (s : Scene) (t : Table) (was now : List ℕ) (slot r : ℕ) : Type 0 where
-  pub holds : InSlot t (change (s .causes) (s .takes) (at s (t .characters) 0)) now slot r
+pub record Staged (s : Scene) (root : ℕ) (t : Table) (was now : List ℕ) (slot r : ℕ) : Type 0 where
+  pub holds : InSlot t (change (s .causes) (s .takes) (at s (t .characters) root)) now slot r
   pub only : SlotOnly was now slot

@@ -9,14 +9,14 @@ pub act-spec : {M : Type 1} → statement M
 act-spec =
     tie.close
     (tie.spec
-    (λ c. let (p, (T, (n, (k, (x, l))))) = c .before .before .before .pre in omega (arith, act-places x l))
-    (λ c. let (p, (T, (n, (k, (x, l))))) = c .before .before .before .pre in omega (arith, act-places x l))
-    (λ c. let (p, (T, (n, (k, (x, l))))) = c .before .before .before .pre in omega (arith, act-places x l))
-    (λ c. let (p, (T, (n, (k, (x, l))))) = c .before .before .before .before .pre in omega (arith, act-places x l))
-    (λ c κs. let (p, (T, (n, (k, (x, l))))) = c .before .before .before .before .pre in (act-telling x l, omega (arith, act-places x l)))
-    (λ c. let (p, (T, (n, (k, (x, l))))) = c .before .before .before .before .before .pre in omega (arith, act-places x l))
-    (λ c. let (p, (T, (n, (k, (x, l))))) = c .before .before .before .before .before .pre in omega (arith, act-places x l))
+    (λ c. let (p, (T, (n, (k, (x, l, i))))) = c .before .before .before .pre in omega (arith, act-places x l))
+    (λ c. let (p, (T, (n, (k, (x, l, i))))) = c .before .before .before .pre in omega (arith, act-places x l))
+    (λ c. let (p, (T, (n, (k, (x, l, i))))) = c .before .before .before .pre in omega (arith, act-places x l))
+    (λ c. let (p, (T, (n, (k, (x, l, i))))) = c .before .before .before .before .pre in omega (arith, act-places x l))
+    (λ c κs. let (p, (T, (n, (k, (x, l, i))))) = c .before .before .before .before .pre in (act-telling x l, omega (arith, act-places x l)))
+    (λ c. let (p, (T, (n, (k, (x, l, i))))) = c .before .before .before .before .before .pre in omega (arith, act-places x l))
+    (λ c. let (p, (T, (n, (k, (x, l, i))))) = c .before .before .before .before .before .pre in omega (arith, act-places x l))
     (λ c. search needs)
-    (λ c κs. let (p, (T, (n, (k, (x, l))))) = c .before .before .before .before .before .before .before .pre in ((scene x l, act-stands x l _ (c .before .before .lowest-untold .ensures)), x .room))
+    (λ c κs. let (p, (T, (n, (k, (x, l, i))))) = c .before .before .before .before .before .before .before .pre in ((scene x l, act-stands x l _ i _ (c .before .before .lowest-untold .ensures)), x .room))
     (λ c. search needs)
-    (λ c. λ p T n k x l. acted-in x l (c .before .before .stage .ensures (scene x l) (act-stands x l _ (c .before .before .before .before .before .lowest-untold .ensures)))))
+    (λ c. λ p T n k x l i. acted-in x l _ i (c .before .before .stage .ensures (scene x l) (act-stands x l _ i _ (c .before .before .before .before .before .lowest-untold .ensures)))))

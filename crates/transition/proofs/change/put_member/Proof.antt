@@ -9,7 +9,7 @@ pub put-member-spec : {M : Type 1} → statement M
 put-member-spec =
     tie.close
     (tie.spec
-    (λ c κs. let p = c .before .before .before .before .before .before .before .pre in (p .0, p .0 .1 .tabled .some, p .3))
+    (λ c κs. let p = c .before .before .before .before .before .before .before .pre in (p .0, p .0 .1 .root, p .3))
     (λ c κs. let p = c .before .before .before .before .before .before .before .before .before .pre in ((p .0 .0, p .0 .1 .tabled), omega (arith, p .1, c .before .before .before .if1 .left), omega (arith, c .before .if2 .taken), p .3))
     (λ c κs. let p = c .before .before .before .before .before .before .before .before .before .before .before .pre in (p .0, omega (arith, p .1, c .before .before .before .before .before .if1 .left), p .3))
     (λ c κs. let p = c .before .before .before .before .before .before .before .before .before .before .before .pre in (p .0, omega (arith, p .1, c .before .before .before .before .before .if1 .left), member-there _ _ _ _ (c .before .before .before .before .before .if1 .left) (c .before .before .before .if2 .left) (c .before .if3 .left) (p .2), p .3))
