@@ -108,12 +108,3 @@ module _ (pack places work : List ℕ) (observed m c : ℕ) (t : Table) where
       let g = o .stands ne c (w .character) in
       f d (s .over) (o .condition ne c (w .character)) (g .end) (g .reads)
       ∙ ap (λ (l : List Node). holds (meaning (t .characters) l m) (o .condition ne c (w .character))) (s .same) ∙ sym (o .judged ne c (w .character) (meaning (t .characters) table m))
-
--- a test turned round
-pub not-true : (b : Bool) → not b ≡ true → b ≡ false
-not-true true e = sym e
-not-true false e = refl
-
-pub not-false : (b : Bool) → not b ≡ false → b ≡ true
-not-false true e = refl
-not-false false e = sym e

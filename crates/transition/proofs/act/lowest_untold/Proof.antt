@@ -7,12 +7,12 @@ use Prim.Native.Nat.{ℕ, suc, _-_, _<_, _≤_}
 use native.Mathlib.Numerals.{add-one}
 use native.Mathlib.Omega.{arith}
 use borrow.Author.Needs.{needs}
+use borrow.Author.Tests.{not-true, not-false}
 use borrow.Author.Count.{below-more}
 use Rattle.pack.specs.Syntax.{Effect}
 use Rattle.pack.specs.Grammar.{Dimensions}
 use Rattle.pack.specs.Judge.{Small}
 use Rattle.transition.specs.Inner.Cause.{told, EffectsAt}
-use Rattle.transition.proofs.Causing.{not-true, not-false}
 use Rattle.transition.proofs.act.lowest_untold.Statement.{statement}
 use Rattle.transition.proofs.act.lowest_untold.Tie as tie
 

@@ -5,10 +5,10 @@ use Prim.Native.Nat.{ℕ, _-_, _≤_}
 use lib.ListN.{length}
 use native.Mathlib.Omega.{arith}
 use borrow.Author.Needs.{needs}
+use borrow.Author.Tests.{not-true, not-false}
 use Rattle.pack.specs.Syntax.{Node, Theory}
 use Rattle.pack.specs.State.{meaning}
 use Rattle.transition.specs.Inner.Play.{Setting, Slotted}
-use Rattle.transition.proofs.Causing.{not-true, not-false}
 use Rattle.transition.proofs.Settling.{InRound, round-start, round-table, round-firable, theory-triggers, round-quiet, round-last, roundScene, round-stands, round-room, round-many, round-next}
 use Rattle.transition.proofs.settle.settle.Statement.{statement}
 use Rattle.transition.proofs.settle.settle.Tie as tie

@@ -2,7 +2,7 @@
 use mathlib.Core.Path.{_∙_}
 use native.Mathlib.Omega.{arith}
 use borrow.Author.Needs.{needs}
-use Rattle.transition.proofs.Causing.{not-true, not-false}
+use borrow.Author.Tests.{not-true, not-false}
 use Rattle.transition.proofs.Acting.{act-places}
 use Rattle.transition.proofs.Playing.{playTable, play-judged, play-forbidden, play-many, play-setting, play-slotted, play-settled}
 use Rattle.transition.proofs.step.step_slot.Statement.{statement}
