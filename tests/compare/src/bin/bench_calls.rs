@@ -2,7 +2,7 @@
 //! argument measures only the cases that have it in their names.
 
 use compare::library::Library;
-use compare::tables::{early, late, pack, parting};
+use compare::tables::{early, late, pack, parting, stepping, TRIGGERS};
 use compare::timing::{compare, Way, ROUNDS};
 use reference::call::{lent, Ask, Call, Outcome};
 use reference::chart;
@@ -30,7 +30,19 @@ fn main() {
             let same = (late(characters, count), late(characters, count));
             measure(&format!("Compare, {size}, the same"), &pair(characters, same));
             measure(&format!("Compare, {size}, that part late"), &pair(characters, parting(characters, count)));
+            steps(&size, characters, &early(characters, count));
         }
+    }
+}
+
+/// A step with and without triggers, and the same call with an action whose condition fails: the difference is what
+/// playing the action and writing the chart take.
+fn steps(size: &str, characters: usize, nodes: &[Node]) {
+    for (with, triggers) in [("no triggers".to_string(), false), (format!("{TRIGGERS} rounds of triggers"), true)] {
+        let pack = draft::bytes(&stepping(characters, nodes.to_vec(), triggers));
+        let ask = |action| Call::new(pack.clone(), Ask::Step { chart: chart::bytes(nodes), action });
+        measure(&format!("Step, {size}, {with}"), &ask(0));
+        measure(&format!("Step, {size}, {with}, refused as 10"), &ask(1));
     }
 }
 
@@ -58,7 +70,8 @@ fn measure(name: &str, call: &Call) {
         return;
     }
     let expected = answer(&mut Reference, call);
-    assert!(!matches!(expected, Outcome::Refused(_)), "{name} is refused: {expected:?}");
+    let refused = matches!(expected, Outcome::Refused(_));
+    assert!(refused == name.contains("refused"), "{name}: {expected:?}");
     println!("{name}: {expected:?}, {} bytes handed in", call.handed().concat().len());
     let (mut library, mut engine) = (Library::new(), Engine::new());
     assert!(answer(&mut library, call) == expected && answer(&mut engine, call) == expected);
