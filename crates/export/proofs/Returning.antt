@@ -12,8 +12,10 @@ use Rattle.chart.specs.declared.Matched.{Matched}
 use Rattle.chart.specs.Call.{fits, workRoom, byChecks, cleared, workAfter}
 use Rattle.chart.specs.Replies.{startReply, queryReply, compareReply}
 use Rattle.chart.specs.Promises.{difference, chartSaid, querySaid, compareSaid, Started, Asked, Comparison}
+use Rattle.transition.specs.Replies.{stepReply}
+use Rattle.transition.specs.Promises.{Stepped}
 use Rattle.export.specs.Report.{reportRoom, seen, put, numberOf, entries, Returned}
-use Rattle.export.specs.Exports.{one, matchNumbers, StartReturned, QueryReturned, CompareReturned}
+use Rattle.export.specs.Exports.{one, matchNumbers, StartReturned, QueryReturned, CompareReturned, StepReturned}
 
 -- one store is one number put
 pub put-one : (n : ℕ) (report : List ℕ) → set report 0 n ≡ put (n ∷ []) report
@@ -55,6 +57,11 @@ told-after : {A B : Type 0} (f : A → B) (x : Reply A) (work : List ℕ) → wo
 unfolding workAfter
 told-after f (gives a) work = refl
 told-after f (refuses k p) work = refl
+
+-- what is told of an answer, where its case is known
+pub charted-told : {x : Charted} (y : Charted) (report : List ℕ) {report′ : List ℕ} {r : ℕ} → x ≡ y → r ≡ numberOf (told one (chartSaid y)) → report′ ≡ put (entries (told one (chartSaid y))) report
+    → (r ≡ numberOf (told one (chartSaid x))) × (report′ ≡ put (entries (told one (chartSaid x))) report)
+charted-told y report {report′} {r} e n t = subst (λ (z : Charted). (r ≡ numberOf (told one (chartSaid z))) × (report′ ≡ put (entries (told one (chartSaid z))) report)) (sym e) (n, t)
 
 -- how much of the work buffer is lent
 abbrev room : (b : Bool) (work : List ℕ) → ℕ
@@ -111,15 +118,22 @@ module _ (report work : List ℕ) (k : ℕ) (lends : k ≡ room (fits reportRoom
           ∙ told-after tells reply work;
     }
 
-    pub start-returned : {pack chart chart′ : List ℕ} {x : Charted} (y : Charted) → Started pack chart (take k work) chart′ part x → x ≡ y
-        → r ≡ numberOf (told one (chartSaid y)) → report′ ≡ put (entries (told one (chartSaid y))) report → StartReturned pack chart work report chart′ (part ++ drop k work) report′ r
-    start-returned {pack} {chart} {chart′} {x} y promise is n t =
+    -- of a chart that was written its length is told
+    charted : (reply : Reply (List ℕ)) (x : Charted) → chartSaid x ≡ told length reply → part ≡ workAfter reply (seen report work)
+        → r ≡ numberOf (told one (chartSaid x)) → report′ ≡ put (entries (told one (chartSaid x))) report → Returned (told (λ bytes. one (length bytes)) reply) work report (part ++ drop k work) report′ r
+    charted reply x answer = returned reply (λ bytes. one (length bytes)) (told one (chartSaid x)) (sym (told-told one length reply) ∙ ap (told one) (sym answer))
+
+    pub start-returned : {pack chart chart′ : List ℕ} {x : Charted} → Started pack chart (take k work) chart′ part x
+        → r ≡ numberOf (told one (chartSaid x)) → report′ ≡ put (entries (told one (chartSaid x))) report → StartReturned pack chart work report chart′ (part ++ drop k work) report′ r
+    start-returned {pack} {chart} {chart′} {x} promise n t =
         let p = subst (λ (w : List ℕ). Started pack chart w chart′ part x) sees promise in
-        let reply = startReply pack chart (seen report work) in
-        record {
-          returned = returned reply (λ bytes. one (length bytes)) (told one (chartSaid y)) (sym (told-told one length reply) ∙ ap (told one) (sym (p .answer) ∙ ap chartSaid is)) (p .scratch) n t;
-          result = p .result;
-        }
+        record { returned = charted (startReply pack chart (seen report work)) x (p .answer) (p .scratch) n t; result = p .result }
+
+    pub step-returned : {pack chart : List ℕ} {action played : ℕ} {out out′ : List ℕ} {x : Charted} → action ≡ played → Stepped pack chart played out (take k work) out′ part x
+        → r ≡ numberOf (told one (chartSaid x)) → report′ ≡ put (entries (told one (chartSaid x))) report → StepReturned pack chart action out work report out′ (part ++ drop k work) report′ r
+    step-returned {pack} {chart} {action} {played} {out} {out′} {x} same promise n t =
+        let p = subst (λ (w : List ℕ). Stepped pack chart action out w out′ part x) sees (subst (λ (a : ℕ). Stepped pack chart a out (take k work) out′ part x) (sym same) promise) in
+        record { returned = charted (stepReply pack chart action out (seen report work)) x (p .answer) (p .scratch) n t; result = p .result }
 
     pub query-returned : {pack chart chain : List ℕ} {fluent asked : ℕ} {x : Queried} (y : Queried) → fluent ≡ asked → Asked pack chart chain asked (take k work) part x → x ≡ y
         → r ≡ numberOf (told one (querySaid y)) → report′ ≡ put (entries (told one (querySaid y))) report → QueryReturned pack chart chain fluent work report (part ++ drop k work) report′ r

@@ -3,10 +3,11 @@ use Prim.Native.Nat.{ℕ}
 use mathlib.Core.Path.{_≡_}
 use mathlib.Core.List.{List, [], _∷_}
 use lib.ListN.{length}
-use Rattle.pack.specs.Reading.{Reply, told}
+use Rattle.pack.specs.Reading.{told}
 use Rattle.chart.specs.Call.{resultAfter}
 use Rattle.chart.specs.Replies.{startReply, queryReply, compareReply, chainOf}
 use Rattle.chart.specs.Promises.{Difference, nowhere, after, difference}
+use Rattle.transition.specs.Replies.{stepReply}
 use Rattle.export.specs.Report.{seen, Returned}
 
 -- one number
@@ -31,3 +32,8 @@ matchNumbers (after length fluent) = 1 ∷ length ∷ fluent ∷ []
 pub record CompareReturned (pack first second chain work report chain′ work′ report′ : List ℕ) (r : ℕ) : Type 0 where
   pub returned : Returned (told (λ v. matchNumbers (difference v)) (compareReply pack first second chain (seen report work))) work report work′ report′ r
   pub result : chain′ ≡ resultAfter (told chainOf (compareReply pack first second chain (seen report work))) chain
+
+-- pirwodd_step(pack, chart, action, chart out, work, report): "its length is given with it"
+pub record StepReturned (pack chart : List ℕ) (action : ℕ) (out work report out′ work′ report′ : List ℕ) (r : ℕ) : Type 0 where
+  pub returned : Returned (told (λ bytes. one (length bytes)) (stepReply pack chart action out (seen report work))) work report work′ report′ r
+  pub result : out′ ≡ resultAfter (stepReply pack chart action out (seen report work)) out

@@ -6,13 +6,15 @@ use chart::Queried;
 use chart::compare::compare;
 use chart::query::query;
 use chart::start::start;
+use transition::step::step;
 ghost use mathlib.Core.Path.{_≡_};
 ghost use mathlib.Core.List.{[], _∷_};
 ghost use lib.ListN.{set};
 ghost use lib.Dec.{leb};
-ghost use Rattle.pack.specs.Reading.{pick};
-ghost use Rattle.export.specs.Report.{reportRoom, put};
-ghost use Rattle.export.specs.Exports.{StartReturned, QueryReturned, CompareReturned};
+ghost use Rattle.pack.specs.Reading.{pick, told};
+ghost use Rattle.chart.specs.Promises.{chartSaid};
+ghost use Rattle.export.specs.Report.{reportRoom, put, numberOf, entries};
+ghost use Rattle.export.specs.Exports.{one, StartReturned, QueryReturned, CompareReturned, StepReturned};
 
 fn wide_byte(x: u8) -> usize
     ensures { λ r. ⌜ x ≡ r ⌝ }
@@ -73,6 +75,16 @@ fn tell_difference(length: usize, fluent: usize, report: &mut [u64]) -> u32
     0
 }
 
+// Tells the length of the chart that was written, or the refusal.
+fn tell_charted(answer: Charted, report: &mut [u64]) -> u32
+    ensures { λ r. ⌜ (r ≡ numberOf (told one (chartSaid answer))) × (now (report .exit) ≡ put (entries (told one (chartSaid answer))) (now (report .entry))) ⌝ }
+{
+    match answer {
+        Charted::Refused(k, at) => tell(k, at, report),
+        Charted::Chart(length) => tell(0, length, report),
+    }
+}
+
 // Start: the report's entry is the chart's length.
 #[no_mangle]
 pub extern "C" fn pirwodd_start(
@@ -84,10 +96,8 @@ pub extern "C" fn pirwodd_start(
     ensures { λ r. ⌜ StartReturned (now (pack .entry)) (now (chart .entry)) (now (work .entry)) (now (report .entry)) (now (chart .exit)) (now (work .exit)) (now (report .exit)) r ⌝ }
 {
     let room = lent(report.len(), work.len());
-    match start(pack, chart, &mut work[..room]) {
-        Charted::Refused(k, at) => tell(k, at, report),
-        Charted::Chart(length) => tell(0, length, report),
-    }
+    let answer = start(pack, chart, &mut work[..room]);
+    tell_charted(answer, report)
 }
 
 // Query: the report's entry is the value.
@@ -127,4 +137,21 @@ pub extern "C" fn pirwodd_compare(
         Matched::Same => tell(0, 0, report),
         Matched::Differ(length, fluent) => tell_difference(length, fluent, report),
     }
+}
+
+// Step: the report's entry is the length of the chart of what the action leaves.
+#[no_mangle]
+pub extern "C" fn pirwodd_step(
+    pack: &[u8],
+    chart: &[u8],
+    action: u64,
+    result: &mut [u8],
+    work: &mut [u8],
+    report: &mut [u64],
+) -> u32
+    ensures { λ r. ⌜ StepReturned (now (pack .entry)) (now (chart .entry)) action (now (result .entry)) (now (work .entry)) (now (report .entry)) (now (result .exit)) (now (work .exit)) (now (report .exit)) r ⌝ }
+{
+    let room = lent(report.len(), work.len());
+    let answer = step(pack, chart, index(action), result, &mut work[..room]);
+    tell_charted(answer, report)
 }

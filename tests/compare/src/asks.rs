@@ -4,7 +4,7 @@ use crate::{inputs, numbers};
 use reference::call::{Ask, Call};
 use reference::chart;
 use reference::generate::random::Random;
-use reference::generate::{about, comparison, damage, draft, tables};
+use reference::generate::{about, comparison, damage, draft, limits, packs, stories, tables, wander};
 use reference::graph::Node;
 use reference::pack::Pack;
 
@@ -27,6 +27,43 @@ pub fn query(r: &mut Random) -> Call {
 pub fn compare(r: &mut Random) -> Call {
     let call = comparison(r);
     faulty(r, call)
+}
+
+/// Steps of every kind of pack, many of them at the limits of 16 rounds and 32 states.
+pub fn step(r: &mut Random) -> Call {
+    let call = step_in_order(r);
+    faulty(r, call)
+}
+
+fn step_in_order(r: &mut Random) -> Call {
+    let at_a_limit: Option<fn(&mut Random) -> Pack> = match r.below(16) {
+        0 | 1 => Some(limits::counter),
+        2 | 3 => Some(limits::gossip),
+        4 | 5 => Some(limits::crowd),
+        6 => Some(limits::restless),
+        _ => None,
+    };
+    match at_a_limit {
+        Some(draw) => {
+            let pack = draw(r);
+            about::step_from(r, &pack, 0)
+        }
+        None => {
+            let pack = story(r);
+            about::step_somewhere(r, &pack)
+        }
+    }
+}
+
+/// A pack with actions to go from one state to another.
+fn story(r: &mut Random) -> Pack {
+    match r.below(32) {
+        0..=13 => packs::small(r),
+        14..=19 => stories::story(r).pack,
+        20..=22 => stories::tangle(r),
+        23..=30 => wander::wander(r),
+        _ => packs::large(r),
+    }
 }
 
 /// A table under a pack's head: random, doubled and mixed up, or with states that are told apart late.

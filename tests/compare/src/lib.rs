@@ -2,10 +2,13 @@
 //!
 //! `library` calls the proved library and `probe` its reader of packs and charts, with the numbers they tell in a
 //! `report`; `lending` puts a call with all that it is lent between margins. `expected` asks the reference's readers,
-//! `numbers` finds and damages the numbers of a pack or chart, `inputs` draws packs and charts and `asks` calls, `tally`
-//! compares and counts, `largest` and `tables` build what the benchmarks are run on, `timing` measures.
+//! `numbers` finds and damages the numbers of a pack or chart, `inputs` draws packs and charts and `asks` calls, `agreement`
+//! compares calls and `tally` what is read, and counts, `course` tells what a step met, `largest` and `tables` build
+//! what the benchmarks are run on, `timing` measures.
 
+pub mod agreement;
 pub mod asks;
+pub mod course;
 pub mod expected;
 pub mod inputs;
 pub mod largest;

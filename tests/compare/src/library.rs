@@ -23,6 +23,10 @@ extern "C" {
         pack: *const u8, pack_length: usize, first: *const u8, first_length: usize, second: *const u8, second_length: usize,
         chain: *mut u8, chain_length: usize, work: *mut u8, work_length: usize, report: *mut u64, report_length: usize,
     ) -> u32;
+    fn pirwodd_step(
+        pack: *const u8, pack_length: usize, chart: *const u8, chart_length: usize, action: u64,
+        result: *mut u8, result_length: usize, work: *mut u8, work_length: usize, report: *mut u64, report_length: usize,
+    ) -> u32;
 }
 
 /// How many entries a report must have.
@@ -46,7 +50,7 @@ impl Library {
 
     /// Whether the library has the call yet.
     pub fn has(ask: &Ask) -> bool {
-        matches!(ask, Ask::Start | Ask::Query { .. } | Ask::Compare { .. })
+        matches!(ask, Ask::Start | Ask::Query { .. } | Ask::Compare { .. } | Ask::Step { .. })
     }
 
     fn report(&mut self) -> Report {
@@ -110,8 +114,25 @@ impl Implementation for Library {
         })
     }
 
-    fn step(&mut self, _: &[u8], _: &[u8], _: u64, _: &mut [u8], _: &mut [u8]) -> Result<usize, Refusal> {
-        unimplemented!("Step is not exported yet")
+    fn step(
+        &mut self,
+        pack: &[u8],
+        chart: &[u8],
+        action: u64,
+        result: &mut [u8],
+        work: &mut [u8],
+    ) -> Result<usize, Refusal> {
+        let mut report = self.report();
+        let lent = report.lent();
+        // SAFETY: as above.
+        #[rustfmt::skip]
+        let number = unsafe {
+            pirwodd_step(
+                pack.as_ptr(), pack.len(), chart.as_ptr(), chart.len(), action,
+                result.as_mut_ptr(), result.len(), work.as_mut_ptr(), work.len(), lent.as_mut_ptr(), lent.len(),
+            )
+        };
+        report.told(number).map(|[length]| length as usize)
     }
 
     fn explained(&mut self, _: &[u8], _: &[u8], _: u64, _: u64, _: u64, _: u64, _: &mut [u8]) -> Result<bool, Refusal> {

@@ -1,7 +1,7 @@
 //! Charts of the sizes that the benchmark of the calls is run on.
 
 use reference::calls::CHAIN_ROOM;
-use reference::generate::draft;
+use reference::generate::draft::{self, action, always, effect, is, never, trigger};
 use reference::generate::random::Random;
 use reference::generate::tables::{long_difference, ring};
 use reference::graph::Node;
@@ -13,6 +13,24 @@ pub const FLUENTS: usize = 8;
 /// A pack with these nodes and nothing else.
 pub fn pack(characters: usize, nodes: Vec<Node>) -> Pack {
     Pack { nodes, ..draft::empty(characters, &[32; FLUENTS]) }
+}
+
+/// How many triggers `stepping` has, each of which takes a round.
+pub const TRIGGERS: u8 = 4;
+
+/// A pack with an action that everyone observes, which leaves as many states as there are, and one whose condition fails.
+/// With triggers, the action is followed by a round for each of them, in every state; the last also tells character 0.
+pub fn stepping(characters: usize, nodes: Vec<Node>, triggers: bool) -> Pack {
+    let mut pack = pack(characters, nodes);
+    let deed = action(&pack, always(), vec![effect(0, 1, 1)], &[]);
+    let refused = action(&pack, never(), vec![effect(0, 1, 1)], &[]);
+    pack.actions = vec![deed, refused];
+    if triggers {
+        pack.triggers = (1..=TRIGGERS).map(|value| trigger(is(1, value), vec![effect(0, 1, value + 1)])).collect();
+        let told = [effect(0, 2, 1), effect(1, 2, 1)];
+        pack.triggers.last_mut().expect("there are triggers").effects.extend(told);
+    }
+    pack
 }
 
 /// So many states, all reached, each with a value of its own.

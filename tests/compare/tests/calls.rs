@@ -1,9 +1,10 @@
 //! The proved calls agree with the reference on generated ones: the answer or the refusal's number and place, and every
 //! byte of what is lent. All of it lies between margins, and what is written begins as noise.
 
+use compare::agreement::{alike, both, often, what};
 use compare::asks;
 use compare::inputs::P;
-use compare::lending::{Lent, Noise, Seen};
+use compare::lending::{Lent, Noise};
 use compare::library::{Library, ENTRIES};
 use compare::tally::{refused, Tally};
 use reference::call::{Call, Outcome};
@@ -11,7 +12,7 @@ use reference::calls::Differs;
 use reference::generate;
 use reference::generate::random::Random;
 use reference::implementation::{Implementation, Reference};
-use reference::refusal::{without_place, Refusal, RANGE, SHORT};
+use reference::refusal::{without_place, Refusal, CONDITION, RANGE, SHORT};
 
 const IN_A_PACK: [u8; 7] = [1, 2, 3, 4, 5, 6, 7];
 const IN_A_CHART: [u8; 6] = [21, 22, 23, 24, 25, 27];
@@ -56,7 +57,7 @@ fn other_reports() {
         let (mut tally, mut library, noise) = (Tally::default(), Library::with_report(entries), Noise::new());
         for seed in 0..2_000 {
             let r = &mut Random::new(6_000_000 + seed);
-            let draw: fn(&mut Random) -> Call = r.pick(&[asks::start, asks::query, asks::compare]);
+            let draw: fn(&mut Random) -> Call = r.pick(&[asks::start, asks::query, asks::compare, asks::step]);
             let call = draw(r);
             let short = Call { work: if entries < ENTRIES { 0 } else { call.work }, ..call.clone() };
             let found = Lent::new(&call, &noise, r).to(&mut library, &call);
@@ -74,7 +75,7 @@ fn other_reports() {
     }
 }
 
-/// The readings and rows of document 01 that are Start's, Query's and Compare's.
+/// The readings and rows of document 01 that are Start's, Query's, Compare's and Step's.
 #[test]
 fn examples() {
     let (mut library, mut result, mut work) = (Library::new(), [7; 961], vec![7; 49_152]);
@@ -96,48 +97,10 @@ fn examples() {
     assert_eq!(chain[..2], [1, 7]);
     assert_eq!(library.compare(&P, &chart, &[3, 1, 1, 2, 0, 3, 2, 0, 2, 3], &mut chain, &mut work), Ok(None));
     assert_eq!(library.compare(&P, &chart, &chart, &mut chain[1..], &mut work), Err(without_place(SHORT)));
-}
-
-/// Puts so many drawn calls to an implementation and to the reference.
-fn alike(name: &str, count: u64, draw: fn(&mut Random) -> Call, by: &mut impl Implementation) -> Tally {
-    let (mut tally, noise) = (Tally::default(), Noise::new());
-    for seed in 0..count {
-        let call = draw(&mut Random::new(seed));
-        both(&mut tally, by, &call, &noise, seed);
-    }
-    println!("{name}: {tally}");
-    tally
-}
-
-fn both(tally: &mut Tally, by: &mut impl Implementation, call: &Call, noise: &Noise, seed: u64) {
-    let lent = Lent::new(call, noise, &mut Random::new(seed));
-    let (found, expected) = (lent.to(by, call), lent.to(&mut Reference, call));
-    assert_eq!(found.outcome, expected.outcome, "seed {seed}: {call}");
-    assert!(found == expected, "seed {seed}: the buffers differ after {call}");
-    tally.note(what(&found));
-}
-
-fn what(seen: &Seen) -> String {
-    match &seen.outcome {
-        Outcome::Length(_) => match seen.result[0] {
-            1 => "chart of 1".to_string(),
-            32 => "chart of 32".to_string(),
-            _ => "chart of 2 to 31".to_string(),
-        },
-        Outcome::Value(_) => "value".to_string(),
-        Outcome::Same => "same".to_string(),
-        Outcome::Differs(found) => format!("differ after {:2}", found.length),
-        Outcome::Verdict(yes) => if *yes { "yes" } else { "no" }.to_string(),
-        Outcome::Found(found) => format!("list of {}", found.length),
-        Outcome::Text(_) => "text".to_string(),
-        Outcome::Refused(refusal) => refused(refusal.number),
-    }
-}
-
-/// Each of these was met so often.
-fn often(tally: &Tally, least: usize, answers: &[&str], refusals: &[&[u8]]) {
-    let refusals = refusals.concat().into_iter().map(refused);
-    for what in answers.iter().map(|answer| answer.to_string()).chain(refusals) {
-        assert!(tally.met(&what) >= least, "{} calls met: {what}", tally.met(&what));
-    }
+    assert_eq!(library.step(&P, &[1, 0, 1, 1], 0, &mut result, &mut work), Ok(7));
+    assert_eq!(result[..8], [2, 1, 1, 2, 0, 2, 2, 7]);
+    assert_eq!(library.step(&P, &[1, 1, 1, 1], 0, &mut result, &mut work), Err(without_place(CONDITION)));
+    assert_eq!(library.step(&P, &[1, 0, 1, 1], 1, &mut result, &mut work), Err(without_place(RANGE)));
+    assert_eq!(library.step(&P, &[1, 0, 1, 1], 1 << 32, &mut result, &mut work), Err(without_place(RANGE)));
+    assert_eq!(library.step(&P, &[1, 0, 1, 1], 0, &mut result[1..], &mut work), Err(without_place(SHORT)));
 }

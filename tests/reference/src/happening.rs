@@ -109,3 +109,12 @@ fn round(pack: &Pack, state: &State, fired: &[Option<usize>]) -> Vec<Node> {
 pub fn course(pack: &Pack, state: &State, action: usize) -> (Result<State, u8>, usize) {
     settle(pack, act(&pack.actions[action], state))
 }
+
+/// The state after part 1 and so many rounds, whatever the limits say.
+pub fn after_rounds(pack: &Pack, state: &State, action: usize, rounds: usize) -> State {
+    (0..rounds).fold(State::new(&act(&pack.actions[action], state), 0), |state, _| {
+        let at = |node| fires(pack, &state, node);
+        let fired: Vec<Option<usize>> = (0..state.nodes().len()).map(at).collect();
+        State::new(&round(pack, &state, &fired), 0)
+    })
+}

@@ -13,12 +13,9 @@ slice-aggregate-start : tie.Need-slice-aggregate-start
 slice-aggregate-start c = let a = c .before .before .before .before .before .before .before .args in sym (length-take-le _ _ (lent-within (a .report .now) (a .work .now) _ (c .before .before .lent .ensures)))
 
 returns : tie.Need-returns
-returns c = start-returned _ _ _ (c .before .before .before .before .before .before .before .before .before .before .before .before .before .before .lent .ensures) _ _ _ (c .before .before .before .before .before .before .before .before .work .given .0) _ (c .before .before .before .before .before .before .before .before .before .before .before .start .ensures) (c .before .before .before .before .before .k .given .1) (sym (c .before .before .tell .ensures .0)) (c .before .before .tell .ensures .1)
-
-returns-2 : tie.Need-returns-2
-returns-2 c = start-returned _ _ _ (c .before .before .before .before .before .before .before .before .before .before .before .before .before .before .lent .ensures) _ _ _ (c .before .before .before .before .before .before .before .before .work .given .0) _ (c .before .before .before .before .before .before .before .before .before .before .before .start .ensures) (c .before .before .before .before .before .length .given .1) (sym (c .before .before .tell2 .ensures .0)) (c .before .before .tell2 .ensures .1)
+returns c = start-returned _ _ _ (c .before .before .before .before .before .before .before .before .before .before .before .lent .ensures) _ _ _ (c .before .before .before .before .before .work .given .0) (c .before .before .before .before .before .before .before .before .start .ensures) (c .before .before .tell-charted .ensures .0) (c .before .before .tell-charted .ensures .1)
 
 pub pirwodd-start-spec : {M : Type 1} → statement M
 pirwodd-start-spec =
     tie.close
-    (tie.spec (λ c κs. search needs) slice-relend-prefix-start slice-aggregate-start (λ c κs. search needs) (λ c. search needs) (λ c κs. search needs) (λ c. search needs) (λ c κs. search needs) (λ c. search needs) (λ c. search needs) (λ c. search needs) returns (λ c. search needs) (λ c. search needs) (λ c. search needs) returns-2)
+    (tie.spec (λ c κs. search needs) slice-relend-prefix-start slice-aggregate-start (λ c κs. search needs) (λ c κs. search needs) (λ c. search needs) (λ c. search needs) (λ c. search needs) returns)

@@ -3,15 +3,17 @@ use Prim.Native.Nat.{ℕ}
 use mathlib.Core.Path.{_≡_, refl, ap}
 use mathlib.Core.Bool.{Bool, true, false, _&&_}
 use mathlib.Core.List.{List, [], _∷_}
-use lib.ListN.{getD}
+use lib.ListN.{getD, length}
 use lib.Dec.{ltb}
 use Rattle.pack.specs.Syntax.{Pack, Node, fluents}
 use Rattle.pack.specs.State.{meaning}
-use Rattle.pack.specs.Reading.{Reply, gives, pick}
+use Rattle.pack.specs.Reading.{gives, pick}
 use Rattle.pack.specs.Layout.{chartBytes}
 use Rattle.chart.specs.Answers.{startTable, compareTable}
 use Rattle.chart.specs.Call.{chartRoom, chainRoom, workRoom, fits, call}
 use Rattle.chart.specs.Replies.{firstOf, secondOf, allBelow, startReply, queryReply, compareReply}
+use Rattle.transition.specs.Answers.{stepTable}
+use Rattle.transition.specs.Replies.{outcomeReply, stepReply}
 use Rattle.export.specs.Report.{reportRoom, seen}
 
 -- the work buffer that is seen is long enough exactly where both it and the report are
@@ -42,4 +44,12 @@ pub compare-seen : (pack first second chain work report : List ℕ) → compareR
 unfolding compareReply
 compare-seen pack first second chain work report =
     ap (λ (b : Bool). call pack (first ∷ second ∷ []) (fits chainRoom chain && b) (λ p. true) (λ (p : Pack) (tables : List (List Node)). gives (compareTable (p .theory .characters) (fluents (p .theory)) (firstOf tables) (secondOf tables))))
+    (seen-fits report work)
+
+pub step-seen : (pack chart : List ℕ) (action : ℕ) (out work report : List ℕ) → stepReply pack chart action out (seen report work)
+    ≡ call pack (chart ∷ []) (fits chartRoom out && (fits reportRoom report && fits workRoom work)) (λ p. ltb action (length (p .actions)))
+    (λ p tables. outcomeReply (stepTable (p .theory) (firstOf tables) action))
+unfolding stepReply
+step-seen pack chart action out work report =
+    ap (λ (b : Bool). call pack (chart ∷ []) (fits chartRoom out && b) (λ p. ltb action (length (p .actions))) (λ (p : Pack) (tables : List (List Node)). outcomeReply (stepTable (p .theory) (firstOf tables) action)))
     (seen-fits report work)

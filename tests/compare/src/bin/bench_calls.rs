@@ -2,13 +2,14 @@
 //! argument measures only the cases that have it in their names.
 
 use compare::library::Library;
-use compare::tables::{early, late, pack, parting};
+use compare::tables::{early, late, pack, parting, stepping, TRIGGERS};
 use compare::timing::{compare, Way, ROUNDS};
 use reference::call::{lent, Ask, Call, Outcome};
 use reference::chart;
 use reference::generate::draft;
 use reference::graph::Node;
 use reference::implementation::{outcome, Implementation, Reference};
+use reference::refusal::{without_place, CONDITION};
 use reference::tuned::Engine;
 use std::cell::RefCell;
 use std::hint::black_box;
@@ -30,7 +31,20 @@ fn main() {
             let same = (late(characters, count), late(characters, count));
             measure(&format!("Compare, {size}, the same"), &pair(characters, same));
             measure(&format!("Compare, {size}, that part late"), &pair(characters, parting(characters, count)));
+            steps(&size, characters, &early(characters, count));
         }
+    }
+}
+
+/// A step with and without triggers, beside the same call with an action whose condition fails: the difference is what
+/// playing the action and writing the chart take.
+fn steps(size: &str, characters: usize, nodes: &[Node]) {
+    for (with, triggers) in [("no triggers".to_string(), false), (format!("{TRIGGERS} rounds of triggers"), true)] {
+        let pack = draft::bytes(&stepping(characters, nodes.to_vec(), triggers));
+        let ask = |action| Call::new(pack.clone(), Ask::Step { chart: chart::bytes(nodes), action });
+        let refused = ask(1);
+        assert_eq!(answer(&mut Reference, &refused), Outcome::Refused(without_place(CONDITION)));
+        measure_beside(&format!("Step, {size}, {with}"), &ask(0), Some(&refused));
     }
 }
 
@@ -51,8 +65,12 @@ fn pair(characters: usize, (first, second): (Vec<Node>, Vec<Node>)) -> Call {
     Call::new(draft::bytes(&pack(characters, early(characters, 1))), ask)
 }
 
-/// Measures a call, if it is wanted and the library has it.
 fn measure(name: &str, call: &Call) {
+    measure_beside(name, call, None);
+}
+
+/// Measures a call, if it is wanted and the library has it; and in turn with it one that is refused as 10, if given.
+fn measure_beside(name: &str, call: &Call, refused: Option<&Call>) {
     let wanted = std::env::args().skip(1).all(|word| name.contains(&word));
     if !wanted || !Library::has(&call.ask) {
         return;
@@ -60,15 +78,21 @@ fn measure(name: &str, call: &Call) {
     let expected = answer(&mut Reference, call);
     assert!(!matches!(expected, Outcome::Refused(_)), "{name} is refused: {expected:?}");
     println!("{name}: {expected:?}, {} bytes handed in", call.handed().concat().len());
-    let (mut library, mut engine) = (Library::new(), Engine::new());
+    let (mut library, mut engine, mut reference) = (Library::new(), Engine::new(), Reference);
+    let (mut other_library, mut other_engine) = (Library::new(), Engine::new());
     assert!(answer(&mut library, call) == expected && answer(&mut engine, call) == expected);
     // One pair of buffers for all, since how they lie in memory tells on the time.
     let buffers = RefCell::new((lent(call.result), lent(call.work)));
-    compare(&mut [
+    let mut ways = vec![
         Way::new("library", repeated(&mut library, call, &buffers)),
         Way::new("tuned", repeated(&mut engine, call, &buffers)),
-        Way::new("readable", repeated(&mut Reference, call, &buffers)),
-    ]);
+        Way::new("readable", repeated(&mut reference, call, &buffers)),
+    ];
+    if let Some(refused) = refused {
+        ways.push(Way::new("library, refused as 10", repeated(&mut other_library, refused, &buffers)));
+        ways.push(Way::new("tuned, refused as 10", repeated(&mut other_engine, refused, &buffers)));
+    }
+    compare(&mut ways);
 }
 
 fn answer(by: &mut impl Implementation, call: &Call) -> Outcome {

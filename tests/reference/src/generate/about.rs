@@ -36,7 +36,7 @@ pub fn any(r: &mut Random, pack: &Pack, story: usize, foresight: usize, nesting:
 
 /// An action and a character: mostly an action whose condition holds there, or in somebody's belief, and one of
 /// its consenters.
-fn deed(r: &mut Random, pack: &Pack, table: &[Node]) -> (u64, u64) {
+pub fn deed(r: &mut Random, pack: &Pack, table: &[Node]) -> (u64, u64) {
     let mut state = State::new(table, 0);
     if r.chance(1, 4) {
         state = state.belief(r.below(pack.characters));
@@ -59,6 +59,17 @@ pub fn search(pack: &Pack, story: usize, foresight: usize, nesting: usize) -> Ca
 
 pub fn step_from(r: &mut Random, pack: &Pack, action: u64) -> Call {
     let table = if r.chance(1, 3) { tables::equivalent(r, &pack.nodes) } else { pack.nodes.clone() };
+    Call::new(draft::bytes(pack), Ask::Step { chart: chart::bytes(&table), action })
+}
+
+/// A step of an action that mostly may be done there, from the pack's own nodes, a random table, or what some steps lead
+/// to.
+pub fn step_somewhere(r: &mut Random, pack: &Pack) -> Call {
+    let mut table = table(r, pack);
+    if r.chance(1, 3) {
+        table = tables::equivalent(r, &table);
+    }
+    let (action, _) = deed(r, pack, &table);
     Call::new(draft::bytes(pack), Ask::Step { chart: chart::bytes(&table), action })
 }
 
