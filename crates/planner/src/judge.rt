@@ -1,0 +1,129 @@
+// Explained.
+use crate::Judged;
+use crate::explain::Foresight;
+use crate::explain::Nesting;
+use crate::explain::Shape;
+use crate::explain::explained;
+use chart::bytes::clear;
+use chart::call::check_lent;
+use chart::call::check_under;
+use pack::contents::read_pack;
+use pack::copy::copy_table;
+use pack::number::Number;
+use pack::table::Table;
+
+// Whether a number is from low to high.
+pub fn within(x: usize, low: usize, high: usize) -> bool {
+    if low <= x { x <= high } else { false }
+}
+
+// Whether the numbers handed to Explained are those of something there.
+pub fn in_range(
+    character: usize,
+    characters: usize,
+    action: usize,
+    actions: usize,
+    foresight: usize,
+    nesting: usize,
+) -> bool {
+    if character < characters {
+        if action < actions {
+            if within(foresight, 1, 6) {
+                nesting <= 3
+            } else {
+                false
+            }
+        } else {
+            false
+        }
+    } else {
+        false
+    }
+}
+
+// The verdict in a chart of so many nodes. The work buffer is cleared.
+pub fn judge(
+    pack: &[u8],
+    places: &[usize],
+    p: Shape,
+    chart: &[u8],
+    nodes: usize,
+    character: usize,
+    action: usize,
+    foresight: usize,
+    nesting: usize,
+    work: &mut [u8],
+) -> bool {
+    copy_table(chart, 1, nodes, work, 0, p.fluents, p.characters);
+    let t = Table {
+        rows: 1,
+        nodes,
+        fluents: p.fluents,
+        characters: p.characters,
+        width: p.fluents + p.characters,
+    };
+    let verdict = explained(
+        pack,
+        places,
+        p,
+        work,
+        t,
+        0,
+        961,
+        character,
+        action,
+        Nesting(nesting),
+        Foresight(foresight),
+    );
+    clear(work, 0, 49152);
+    verdict
+}
+
+// Explained(pack, chart, character, action, K, e, work): yes or no, or a refusal's number and place.
+pub fn explained_call(
+    pack: &[u8],
+    chart: &[u8],
+    character: usize,
+    action: usize,
+    foresight: usize,
+    nesting: usize,
+    work: &mut [u8],
+) -> Judged {
+    let mut places = [0usize; 327];
+    let p = read_pack(pack, &mut places);
+    let sizes = p.sizes;
+    let answer = p.answer;
+    let nodes = check_under(answer, p.characters, &sizes[..p.fluents], chart);
+    let there = in_range(
+        character,
+        p.characters,
+        action,
+        p.actions,
+        foresight,
+        nesting,
+    );
+    match check_lent(nodes, 49152 <= work.len(), there) {
+        Number::Refused(k, at) => Judged::Refused(k, at),
+        Number::Is(n, _) => {
+            let shape = Shape {
+                actions: p.actions,
+                triggers: p.triggers,
+                fluents: p.fluents,
+                characters: p.characters,
+            };
+            let verdict = judge(
+                pack,
+                &places,
+                shape,
+                chart,
+                n,
+                character,
+                action,
+                foresight,
+                nesting,
+                work,
+            );
+            Judged::Verdict(verdict)
+        }
+    }
+}
