@@ -1,2 +1,3 @@
 -- The modules of `proofs/` that belong to no one function.
 pub mod Telling
+pub mod Judging

@@ -1,4 +1,4 @@
-// Explained.
+// Explained: the checks, and the verdict on a chart.
 use crate::Judged;
 use crate::explain::Foresight;
 use crate::explain::Nesting;
@@ -11,9 +11,21 @@ use pack::contents::read_pack;
 use pack::copy::copy_table;
 use pack::number::Number;
 use pack::table::Table;
+ghost use mathlib.Core.Path.{_≡_};
+ghost use mathlib.Core.Bool.{_&&_};
+ghost use mathlib.Core.List.{List};
+ghost use lib.Dec.{ltb, leb};
+ghost use Rattle.pack.specs.Syntax.{Node, Theory};
+ghost use Rattle.pack.specs.State.{meaning};
+ghost use Rattle.planner.specs.Ending.{Explained};
+ghost use Rattle.planner.specs.Replies.{foresightLimit, nestingLimit};
+ghost use Rattle.planner.specs.Promises.{Judgement};
+ghost use Rattle.planner.specs.Inner.Explain.{Judging, Judgeable, Verdict};
 
 // Whether a number is from low to high.
-pub fn within(x: usize, low: usize, high: usize) -> bool {
+pub fn within(x: usize, low: usize, high: usize) -> bool
+    ensures { λ r. ⌜ r ≡ (leb low x && leb x high) ⌝ }
+{
     if low <= x { x <= high } else { false }
 }
 
@@ -25,7 +37,9 @@ pub fn in_range(
     actions: usize,
     foresight: usize,
     nesting: usize,
-) -> bool {
+) -> bool
+    ensures { λ r. ⌜ r ≡ (ltb character characters && (ltb action actions && (foresightLimit foresight && nestingLimit nesting))) ⌝ }
+{
     if character < characters {
         if action < actions {
             if within(foresight, 1, 6) {
@@ -42,7 +56,7 @@ pub fn in_range(
 }
 
 // The verdict in a chart of so many nodes. The work buffer is cleared.
-pub fn judge(
+pub fn judge_chart(
     pack: &[u8],
     places: &[usize],
     p: Shape,
@@ -53,7 +67,10 @@ pub fn judge(
     foresight: usize,
     nesting: usize,
     work: &mut [u8],
-) -> bool {
+) -> bool
+    requires { ⌜ Judgeable (now pack) (now places) p (now chart) nodes character action foresight nesting (now work) ⌝ }
+    ensures { λ r. ⌜ ((th : Theory) (T : List Node) → Judging th T (now (pack .entry)) (now (places .entry)) p (now (chart .entry)) nodes character action foresight nesting (now (work .entry)) → Verdict (Explained th foresight nesting character action (meaning (p .characters) T 0)) (now (work .entry)) (now (work .exit)) r) ⌝ }
+{
     copy_table(chart, 1, nodes, work, 0, p.fluents, p.characters);
     let t = Table {
         rows: 1,
@@ -80,7 +97,7 @@ pub fn judge(
 }
 
 // Explained(pack, chart, character, action, K, e, work): yes or no, or a refusal's number and place.
-pub fn explained_call(
+pub fn judge(
     pack: &[u8],
     chart: &[u8],
     character: usize,
@@ -88,7 +105,9 @@ pub fn explained_call(
     foresight: usize,
     nesting: usize,
     work: &mut [u8],
-) -> Judged {
+) -> Judged
+    ensures { λ r. ⌜ Judgement (now (pack .entry)) (now (chart .entry)) character action foresight nesting (now (work .entry)) (now (work .exit)) r ⌝ }
+{
     let mut places = [0usize; 327];
     let p = read_pack(pack, &mut places);
     let sizes = p.sizes;
@@ -111,7 +130,7 @@ pub fn explained_call(
                 fluents: p.fluents,
                 characters: p.characters,
             };
-            let verdict = judge(
+            let verdict = judge_chart(
                 pack,
                 &places,
                 shape,

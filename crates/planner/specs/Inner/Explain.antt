@@ -1,15 +1,16 @@
 -- Where the state stands that is asked about, and what is told of it. Assumes nothing.
 use mathlib.Core.Path.{_≡_}
 use mathlib.Core.Bool.{Bool, true, false}
-use mathlib.Core.List.{List, List·Memᴰ}
-use Prim.Native.Nat.{ℕ, suc, _+_, _*_, _<_, _≤_}
+use mathlib.Core.List.{List}
+use Prim.Native.Nat.{ℕ, _+_, _*_, _<_, _≤_}
 use lib.ListN.{length, getD}
 use Rattle.pack.specs.Syntax.{Node, Theory}
-use Rattle.pack.specs.State.{State, meaning}
+use Rattle.pack.specs.State.{State}
 use Rattle.pack.specs.Answer.{dims}
 use Rattle.pack.specs.Table as table
 use Rattle.pack.specs.declared.table.Table.{Table}
-use Rattle.chart.specs.Call.{workRoom}
+use Rattle.chart.specs.Call.{workRoom, cleared}
+use Rattle.chart.specs.Inner.Look.{NodesRead}
 use Rattle.transition.specs.Happening.{actionOf}
 use Rattle.transition.specs.Inner.Cause.{Tabled}
 use Rattle.transition.specs.Inner.Play.{Theorized}
@@ -59,3 +60,24 @@ AboveBy p K e c base n x s = explaining.Reaches p (Other c) (Explained p K e) s 
 -- action x is explained to its consenters other than c
 abbrev pub Agreed : (p : Theory) (foresight nesting c x : ℕ) → State → Type 0
 Agreed p K e c x s = explaining.Agreeing p (Other c) (Explained p K e) s x (actionOf p x .consenters)
+
+-- an accepted pack and chart, and numbers of something there
+pub record Judging (th : Theory) (T : List Node) (pack places : List ℕ) (h : Shape) (chart : List ℕ) (nodes character action foresight nesting : ℕ) (work : List ℕ) : Type 0 where
+  pub theorized : Theorized th pack places (h .actions) (h .triggers)
+  pub read : NodesRead chart nodes (h .fluents) (h .characters) T
+  pub same-characters : th .characters ≡ h .characters
+  pub same-fluents : length (th .domains) ≡ h .fluents
+  pub who : character < h .characters
+  pub what : action < h .actions
+  pub foreseen : (0 < foresight) × (foresight ≤ 6)
+  pub nested : nesting ≤ 3
+  pub room : workRoom ≤ length work
+
+abbrev pub Judgeable : (pack places : List ℕ) (h : Shape) (chart : List ℕ) (nodes character action foresight nesting : ℕ) (work : List ℕ) → Type 0
+Judgeable pack places h chart nodes character action foresight nesting work = (th : Theory) × ((T : List Node) × Judging th T pack places h chart nodes character action foresight nesting work)
+
+-- the verdict, and the work buffer cleared
+pub record Verdict (P : Type 0) (work work′ : List ℕ) (r : Bool) : Type 0 where
+  pub sound : r ≡ true → P
+  pub complete : r ≡ false → P → ⊥
+  pub scratch : work′ ≡ cleared work
