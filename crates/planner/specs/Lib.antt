@@ -6,3 +6,4 @@ pub mod Replies
 pub mod Promises
 pub mod Readings
 pub mod Theorems
+pub mod Inner

@@ -37,7 +37,7 @@ use Rattle.transition.specs.Inner.Play.{Stepping, Steppable, StepPut}
 use Rattle.transition.proofs.Stepping.{step-cleared}
 
 -- an accepted pack has at most 8,192 bytes
-short-pack : (pack : List ℕ) (x : Pack) → packOf pack ≡ gives x → length pack ≤ 8192
+pub short-pack : (pack : List ℕ) (x : Pack) → packOf pack ≡ gives x → length pack ≤ 8192
 short-pack pack x e = by-cases (decLe (length pack) 8192) (λ h. h) (λ h. never-gives (sym (pack-long pack (omega arith)) ∙ e))
 
 module _ {pack places : List ℕ} (chart : List ℕ) (action : ℕ) (out work : List ℕ) {p : Contents} (got : PackRead pack places p) (nodes : Number) (under : repliedCount nodes ≡ with (replied (p .answer)) (λ u. counted p chart))

@@ -1,0 +1,163 @@
+-- Explained: what the checks leave, as the verdict asks it, and what it gives. Assumes nothing.
+use Prim.Native.Nat.{ℕ, _+_, _*_, _≤_}
+use mathlib.Core.Path.{_≡_, refl, sym, ap, ap₂, _∙_, subst}
+use mathlib.Core.Bool.{Bool, true, false, _&&_}
+use mathlib.Core.List.{List, [], _∷_, map}
+use native.Mathlib.Nat.{mul-le-mul-left, mul-le-mul-right}
+use native.Mathlib.Omega.{arith}
+use lib.ListN.{length, getD}
+use lib.Dec.{ltb, leb}
+use borrow.Author.Tests.{ltb-true, leb-true}
+use Rattle.pack.specs.Syntax.{Theory, Node, Pack}
+use Rattle.pack.specs.State.{meaning}
+use Rattle.pack.specs.Reading.{Reply, gives, with, told}
+use Rattle.pack.specs.Grammar.{packOf}
+use Rattle.pack.specs.Copy.{TableCopyable, TableCopied}
+use Rattle.pack.specs.Contents.{PackRead, replied, repliedCount}
+use Rattle.pack.specs.Laws.Exact.{Bytes}
+use Rattle.pack.specs.declared.contents.Contents.{Contents}
+use Rattle.pack.specs.declared.number.Number.{Number}
+use Rattle.pack.specs.declared.number.Number.the-variants as numbers
+use Rattle.pack.specs.declared.table.Table.{Table}
+use Rattle.pack.proofs.Ready.{copied-fits, small-pack}
+use Rattle.chart.specs.Call.{fits, workRoom, workAfter}
+use Rattle.chart.specs.Replies.{firstOf}
+use Rattle.chart.specs.Laws.Answers.{fits-table}
+use Rattle.chart.specs.Laws.Replies.{chart-fits}
+use Rattle.chart.specs.Inner.Look.{NodesRead}
+use Rattle.chart.specs.Inner.Put.{Cleared}
+use Rattle.chart.proofs.Calling.{and-true}
+use Rattle.chart.proofs.Looking.{cleared-all}
+use Rattle.chart.proofs.Checking.{counted, lent, checks, Accepted, FirstRead, first-read, nodes-read, refused-by, accepted-by, left-alone, check-one}
+use Rattle.transition.proofs.Stepped.{short-pack}
+use Rattle.planner.specs.declared.Judged.the-variants as judged
+use Rattle.planner.specs.declared.explain.Shape.{Shape}
+use Rattle.planner.specs.Ending.{Explained}
+use Rattle.planner.specs.Answers.{explainedTable}
+use Rattle.planner.specs.Replies.{foresightLimit, nestingLimit, explainedReply}
+use Rattle.planner.specs.Promises.{Judgement}
+use Rattle.planner.specs.Laws.Answers.{explained-table-iff}
+use Rattle.planner.specs.Inner.Explain.{Stage, Free, Told, Judging, Judgeable, Verdict}
+
+module _ {th : Theory} {T : List Node} {pack places : List ℕ} {h : Shape} {chart : List ℕ} {nodes c a K e : ℕ} {work : List ℕ} (x : Judging th T pack places h chart nodes c a K e work) where
+  abbrev f : ℕ
+  f = h .fluents
+
+  abbrev C : ℕ
+  C = h .characters
+
+  abbrev pub judgeFrom : Table
+  judgeFrom = record { rows = 1; nodes = nodes; fluents = f; characters = C; width = f + C }
+
+  table-size : 1 + nodes * (f + C) ≤ 961
+  table-size =
+      let s = x .theorized .small in
+      let narrow : f + C ≤ 30 = omega (arith, s .characters, s .fluents, x .same-characters, x .same-fluents) in
+      omega (arith, mul-le-mul-left nodes narrow, mul-le-mul-right 30 (x .read .few))
+
+  pub judge-copies : TableCopyable chart 1 nodes work 0 f C
+  judge-copies = let r = x .read in record { dimensions = r .dimensions; sized = r .shaped; few = r .few; value = T; end = length chart; reads = r .reads; room = omega (arith, table-size, x .room) }
+
+  pub judge-free : Free 961 (K * e)
+  judge-free = omega (arith, mul-le-mul-left K (x .nested), mul-le-mul-right 3 (x .foreseen .1))
+
+  module _ {mid : List ℕ} (y : TableCopied chart 1 nodes work mid 0 f C) where
+    pub judge-stage : Stage th T pack places h mid judgeFrom 961
+    judge-stage = let r = x .read in record {
+      theorized = x .theorized;
+      tabled = record {
+        over = record { small = x .theorized .small; characters = x .same-characters; fluents = x .same-fluents };
+        fits = copied-fits chart 1 nodes work mid 0 f C y (r .dimensions) (r .shaped) T (length chart) (r .reads) (omega (arith, table-size, x .room));
+        same = y .table (r .dimensions) (r .shaped) T (length chart) (r .reads);
+        few = r .few;
+        some = r .some;
+      };
+      same-fluents = refl;
+      same-characters = refl;
+      behind = omega (arith, table-size);
+      room = omega (arith, y .long, x .room);
+    }
+
+    pub judge-verdict : {P : Type 0} {mid′ now : List ℕ} {r : Bool} → Told 961 mid mid′ r P → Cleared mid′ now 0 workRoom → length now ≡ length work → Verdict P work now r
+    judge-verdict told cl long = record { sound = told .sound; complete = told .complete; scratch = cleared-all work cl (λ q g. told .high q (omega arith) ∙ y .above q (omega (arith, table-size))) long (x .room) }
+
+module _ {pack places : List ℕ} (chart : List ℕ) (c a K e : ℕ) (work : List ℕ) {p : Contents} (got : PackRead pack places p) (nodes : Number) (under : repliedCount nodes ≡ with (replied (p .answer)) (λ u. counted p chart))
+    (there : Bool) (here : there ≡ (ltb c (p .characters) && (ltb a (p .actions) && (foresightLimit K && nestingLimit e)))) (r : Number) (says : repliedCount r ≡ with (repliedCount nodes) (λ v. lent (fits workRoom work) there (gives v))) where
+  abbrev verdictOf : Pack → List (List Node) → Reply Bool
+  verdictOf p tables = gives (explainedTable (p .theory) K e c a (firstOf tables))
+
+  abbrev wanted : Theory → Bool
+  wanted p = ltb c (p .characters) && (ltb a (length (p .actions)) && (foresightLimit K && nestingLimit e))
+
+  abbrev theReply : Reply Bool
+  theReply = explainedReply pack chart c a K e work
+
+  in-range : (x : Pack) → packOf pack ≡ gives x → there ≡ wanted (x .theory)
+  in-range x q = let g = got .found x q in here ∙ ap₂ (λ (k m : ℕ). ltb c k && (ltb a m && (foresightLimit K && nestingLimit e))) (sym (g .characters)) (sym (g .theory .actions))
+
+  agrees : repliedCount r ≡ told (λ ns. getD ns 0 0) (checks p (chart ∷ []) (fits workRoom work) there)
+  agrees = says ∙ ap (λ (y : Reply ℕ). with y (λ v. lent (fits workRoom work) there (gives v))) under ∙ check-one p (fits workRoom work) there chart
+
+  pub judge-refused : (k q : ℕ) → r ≡ numbers.Refused k q → Judgement pack chart c a K e work work (judged.Refused k q)
+  unfolding explainedReply
+  judge-refused k q z =
+      let z = refused-by (chart ∷ []) got (fits workRoom work) there wanted in-range verdictOf (λ ns. getD ns 0 0) (repliedCount r) agrees k q (ap repliedCount z) in
+      record { answer = sym (z .0); scratch = left-alone theReply work k q z }
+
+  module _ (pack-bytes : Bytes pack) (chart-bytes : Bytes chart) (marked : 327 ≤ length places) (n m : ℕ) (q : r ≡ numbers.Is n m) where
+    accepted-now : (ns : List ℕ) × (getD ns 0 0 ≡ n) × ((x : Accepted pack places (chart ∷ []) p ns (fits workRoom work) there) × (theReply ≡ verdictOf (x .thePack) (x .tables)))
+    unfolding explainedReply
+    accepted-now = accepted-by (chart ∷ []) got (fits workRoom work) there wanted in-range verdictOf (λ ns. getD ns 0 0) (repliedCount r) agrees n (ap repliedCount q)
+
+    abbrev theory : Theory
+    theory = accepted-now .2 .0 .thePack .theory
+
+    first : FirstRead theory chart [] (accepted-now .2 .0 .tables)
+    first = let x = accepted-now .2 .0 in first-read theory chart [] (x .tables) (x .read)
+
+    read : NodesRead chart n (p .fluents) (p .characters) (first .table)
+    read =
+        let (ns, g, (x, replies)) = accepted-now in
+        nodes-read (x .accepted) (x .found) (first .read) (ap (λ (l : List (List Node)). getD (map length l) 0 0) (sym (first .same)) ∙ ap (λ (l : List ℕ). getD l 0 0) (x .long) ∙ g)
+
+    abbrev pub shape : Shape
+    shape = record { actions = p .actions; triggers = p .triggers; fluents = p .fluents; characters = p .characters }
+
+    ready : Judging theory (first .table) pack places shape chart n c a K e work
+    ready =
+        let x = accepted-now .2 .0 in
+        let (who, rest) = and-true (ltb c (p .characters)) (ltb a (p .actions) && (foresightLimit K && nestingLimit e)) (sym here ∙ x .in-range) in
+        let (what, limits) = and-true (ltb a (p .actions)) (foresightLimit K && nestingLimit e) rest in
+        let (foresight, nesting) = and-true (foresightLimit K) (nestingLimit e) limits in
+        let (low, high) = and-true (leb 1 K) (leb K 6) foresight in
+        record {
+          theorized = record { small = small-pack pack (x .thePack) (x .accepted); found = x .found .theory; short = short-pack pack (x .thePack) (x .accepted); marked = marked };
+          read = read;
+          same-characters = x .found .characters;
+          same-fluents = x .found .fluents;
+          who = ltb-true c (p .characters) who;
+          what = ltb-true a (p .actions) what;
+          foreseen = (leb-true 1 K low, leb-true K 6 high);
+          nested = leb-true e 3 nesting;
+          room = leb-true workRoom (length work) (x .enough-there);
+        }
+
+    pub judge-able : Judgeable pack places shape chart n c a K e work
+    judge-able = (theory, (first .table, ready))
+
+    pub judge-done : (now : List ℕ) (v : Bool) → ((th : Theory) (T : List Node) → Judging th T pack places shape chart n c a K e work → Verdict (Explained th K e c a (meaning (p .characters) T 0)) work now v) → Judgement pack chart c a K e work now (judged.Verdict v)
+    unfolding workAfter
+    judge-done now v put =
+        let (ns, g, (x, replies)) = accepted-now in
+        let z = put theory (first .table) ready in
+        let table = fits-table (theory .characters) (theory .domains) (first .table) (chart-fits (record { bytewise = pack-bytes; accepted = x .accepted }) (record { bytewise = chart-bytes; accepted = first .read })) in
+        let same : meaning (p .characters) (first .table) 0 ≡ meaning (theory .characters) (first .table) 0 = ap (λ (k : ℕ). meaning k (first .table) 0) (sym (x .found .characters)) in
+        let iff = explained-table-iff theory (first .table) table K e c a in
+        let is : v ≡ explainedTable theory K e c a (first .table) = decided v (explainedTable theory K e c a (first .table)) (λ h. iff .1 (subst (Explained theory K e c a) same (z .sound h))) (λ h k. z .complete h (subst (Explained theory K e c a) (sym same) (iff .0 k))) in
+        let gave : theReply ≡ gives (explainedTable theory K e c a (first .table)) = replies ∙ ap (λ (l : List (List Node)). gives (explainedTable theory K e c a (firstOf l))) (first .same) in
+        record { answer = ap gives is ∙ sym gave; scratch = z .scratch ∙ sym (ap (λ (y : Reply Bool). workAfter y work) gave) }
+      where
+        decided : (v w : Bool) → (v ≡ true → w ≡ true) → (v ≡ false → w ≡ true → ⊥) → v ≡ w
+        decided true w f g = sym (f refl)
+        decided false true f g = absurd (g refl refl)
+        decided false false f g = refl

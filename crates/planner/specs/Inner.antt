@@ -1,0 +1,2 @@
+-- What the functions inside this layer promise each other; no public promise cites these.
+pub mod Explain

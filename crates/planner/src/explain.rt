@@ -1,0 +1,196 @@
+// Explanations: whether a character has a reason of their own for an action. A state is row `root` of a table; the slots of the work buffer from `slot` on are free.
+use pack::judge::utility;
+use pack::number::wide;
+use pack::table::Table;
+use pack::write::consenter;
+use pack::write::consenters;
+use transition::step::step_slot;
+ghost use mathlib.Core.List.{List};
+ghost use Prim.Native.Nat.{suc, _+_, _*_, _<_, _≤_};
+ghost use Rattle.pack.specs.Syntax.{Node, Theory};
+ghost use Rattle.pack.specs.State.{meaning};
+ghost use Rattle.planner.specs.Ending.{Explained};
+ghost use Rattle.planner.specs.Inner.Explain.{slotTable, Stage, Staged, Free, Told, Other, Above, AboveBy, Agreed};
+
+// The foresight limit K, and the nesting limit E.
+pub struct Foresight(pub usize);
+
+pub struct Nesting(pub usize);
+
+// A pack's counts, and the width of its rows.
+pub struct Shape {
+    pub actions: usize,
+    pub triggers: usize,
+    pub fluents: usize,
+    pub characters: usize,
+}
+
+// Whether character c's action a is explained.
+pub fn explained(
+    pack: &[u8],
+    places: &[usize],
+    p: Shape,
+    work: &mut [u8],
+    t: Table,
+    root: usize,
+    slot: usize,
+    c: usize,
+    a: usize,
+    e: Nesting,
+    k: Foresight,
+) -> bool
+    requires { ⌜ Staged (now pack) (now places) p (now work) t slot × (root < t .nodes) × (c < t .characters) × (a < p .actions) × (0 < k .0) × (k .0 ≤ 6) × Free slot (k .0 * e .0) ⌝ }
+    ensures { λ r. ⌜ ((th : Theory) (T : List Node) → Stage th T (now (pack .entry)) (now (places .entry)) p (now (work .entry)) t slot → Told slot (now (work .entry)) (now (work .exit)) r (Explained th (k .0) (e .0) c a (meaning (t .characters) T root))) ⌝ }
+{
+    if e.0 == 0 {
+        return false;
+    }
+    let q = wide(work[t.rows + root * t.width + t.fluents + c]);
+    let number = step_slot(pack, places, p.triggers, a, work, t, q, slot);
+    if number != 0 {
+        return false;
+    }
+    let base = utility(pack, places[321 + c], work, t, q);
+    extends(
+        pack,
+        places,
+        p,
+        work,
+        slot,
+        c,
+        Nesting(e.0 - 1),
+        k,
+        k.0 - 1,
+        base,
+    )
+}
+
+// Whether some list of at most `left` actions from the state in a slot ends with c's utility above base.
+pub fn extends(
+    pack: &[u8],
+    places: &[usize],
+    p: Shape,
+    work: &mut [u8],
+    slot: usize,
+    c: usize,
+    e: Nesting,
+    k: Foresight,
+    left: usize,
+    base: usize,
+) -> bool
+    requires { ⌜ Staged (now pack) (now places) p (now work) (slotTable p (now work) slot) (slot + 961) × (c < p .characters) × (0 < k .0) × (k .0 ≤ 6) × Free slot (1 + left + k .0 * e .0) ⌝ }
+    ensures { λ r. ⌜ ((th : Theory) (T : List Node) → Stage th T (now (pack .entry)) (now (places .entry)) p (now (work .entry)) (slotTable p (now (work .entry)) slot) (slot + 961) → Told (slot + 961) (now (work .entry)) (now (work .exit)) r (Above th (k .0) (e .0) c base (suc left) (meaning (p .characters) T 0))) ⌝ }
+{
+    let t = Table {
+        rows: slot + 1,
+        nodes: wide(work[slot]),
+        fluents: p.fluents,
+        characters: p.characters,
+        width: p.fluents + p.characters,
+    };
+    if base < utility(pack, places[321 + c], work, t, 0) {
+        return true;
+    }
+    if left == 0 {
+        return false;
+    }
+    let mut x = 0;
+    while x < p.actions {
+        let found = via(pack, places, p, work, slot, c, x, e, k, left - 1, base);
+        if found {
+            return true;
+        }
+        x += 1;
+    }
+    false
+}
+
+// Whether action x, and then some list of at most `left` actions, leads from the state in a slot to c's utility above base.
+pub fn via(
+    pack: &[u8],
+    places: &[usize],
+    p: Shape,
+    work: &mut [u8],
+    slot: usize,
+    c: usize,
+    x: usize,
+    e: Nesting,
+    k: Foresight,
+    left: usize,
+    base: usize,
+) -> bool
+    requires { ⌜ Staged (now pack) (now places) p (now work) (slotTable p (now work) slot) (slot + 961) × (c < p .characters) × (x < p .actions) × (0 < k .0) × (k .0 ≤ 6) × Free slot (2 + left + k .0 * e .0) ⌝ }
+    ensures { λ r. ⌜ ((th : Theory) (T : List Node) → Stage th T (now (pack .entry)) (now (places .entry)) p (now (work .entry)) (slotTable p (now (work .entry)) slot) (slot + 961) → Told (slot + 961) (now (work .entry)) (now (work .exit)) r (AboveBy th (k .0) (e .0) c base (suc left) x (meaning (p .characters) T 0))) ⌝ }
+{
+    let t = Table {
+        rows: slot + 1,
+        nodes: wide(work[slot]),
+        fluents: p.fluents,
+        characters: p.characters,
+        width: p.fluents + p.characters,
+    };
+    let agreed = allowed(pack, places, p, work, t, 0, slot + 961, c, x, e, k);
+    if !agreed {
+        return false;
+    }
+    let number = step_slot(pack, places, p.triggers, x, work, t, 0, slot + 961);
+    if number != 0 {
+        return false;
+    }
+    extends(pack, places, p, work, slot + 961, c, e, k, left, base)
+}
+
+// Whether action x is explained to each of its consenters other than `who`.
+pub fn allowed(
+    pack: &[u8],
+    places: &[usize],
+    p: Shape,
+    work: &mut [u8],
+    t: Table,
+    root: usize,
+    slot: usize,
+    who: usize,
+    x: usize,
+    e: Nesting,
+    k: Foresight,
+) -> bool
+    requires { ⌜ Staged (now pack) (now places) p (now work) t slot × (root < t .nodes) × (x < p .actions) × (0 < k .0) × (k .0 ≤ 6) × Free slot (k .0 * e .0) ⌝ }
+    ensures { λ r. ⌜ ((th : Theory) (T : List Node) → Stage th T (now (pack .entry)) (now (places .entry)) p (now (work .entry)) t slot → Told slot (now (work .entry)) (now (work .exit)) r (Agreed th (k .0) (e .0) who x (meaning (t .characters) T root))) ⌝ }
+{
+    let at = places[9 * x + 2];
+    let count = consenters(pack, at);
+    let mut i = 0;
+    while i < count {
+        let d = consenter(pack, at, i);
+        let content = fine(pack, places, p, work, t, root, slot, who, d, x, e, k);
+        if !content {
+            return false;
+        }
+        i += 1;
+    }
+    true
+}
+
+// Whether d, if it is another than `who`, has action x explained to it.
+pub fn fine(
+    pack: &[u8],
+    places: &[usize],
+    p: Shape,
+    work: &mut [u8],
+    t: Table,
+    root: usize,
+    slot: usize,
+    who: usize,
+    d: usize,
+    x: usize,
+    e: Nesting,
+    k: Foresight,
+) -> bool
+    requires { ⌜ Staged (now pack) (now places) p (now work) t slot × (root < t .nodes) × (d < t .characters) × (x < p .actions) × (0 < k .0) × (k .0 ≤ 6) × Free slot (k .0 * e .0) ⌝ }
+    ensures { λ r. ⌜ ((th : Theory) (T : List Node) → Stage th T (now (pack .entry)) (now (places .entry)) p (now (work .entry)) t slot → Told slot (now (work .entry)) (now (work .exit)) r (Other who d → Explained th (k .0) (e .0) d x (meaning (t .characters) T root))) ⌝ }
+{
+    if d == who {
+        return true;
+    }
+    explained(pack, places, p, work, t, root, slot, d, x, e, k)
+}

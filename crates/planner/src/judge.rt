@@ -1,0 +1,148 @@
+// Explained: the checks, and the verdict on a chart.
+use crate::Judged;
+use crate::explain::Foresight;
+use crate::explain::Nesting;
+use crate::explain::Shape;
+use crate::explain::explained;
+use chart::bytes::clear;
+use chart::call::check_lent;
+use chart::call::check_under;
+use pack::contents::read_pack;
+use pack::copy::copy_table;
+use pack::number::Number;
+use pack::table::Table;
+ghost use mathlib.Core.Path.{_≡_};
+ghost use mathlib.Core.Bool.{_&&_};
+ghost use mathlib.Core.List.{List};
+ghost use lib.Dec.{ltb, leb};
+ghost use Rattle.pack.specs.Syntax.{Node, Theory};
+ghost use Rattle.pack.specs.State.{meaning};
+ghost use Rattle.planner.specs.Ending.{Explained};
+ghost use Rattle.planner.specs.Replies.{foresightLimit, nestingLimit};
+ghost use Rattle.planner.specs.Promises.{Judgement};
+ghost use Rattle.planner.specs.Inner.Explain.{Judging, Judgeable, Verdict};
+
+// Whether a number is from low to high.
+pub fn within(x: usize, low: usize, high: usize) -> bool
+    ensures { λ r. ⌜ r ≡ (leb low x && leb x high) ⌝ }
+{
+    if low <= x { x <= high } else { false }
+}
+
+// Whether the numbers handed to Explained are those of something there.
+pub fn in_range(
+    character: usize,
+    characters: usize,
+    action: usize,
+    actions: usize,
+    foresight: usize,
+    nesting: usize,
+) -> bool
+    ensures { λ r. ⌜ r ≡ (ltb character characters && (ltb action actions && (foresightLimit foresight && nestingLimit nesting))) ⌝ }
+{
+    if character < characters {
+        if action < actions {
+            if within(foresight, 1, 6) {
+                nesting <= 3
+            } else {
+                false
+            }
+        } else {
+            false
+        }
+    } else {
+        false
+    }
+}
+
+// The verdict in a chart of so many nodes. The work buffer is cleared.
+pub fn judge_chart(
+    pack: &[u8],
+    places: &[usize],
+    p: Shape,
+    chart: &[u8],
+    nodes: usize,
+    character: usize,
+    action: usize,
+    foresight: usize,
+    nesting: usize,
+    work: &mut [u8],
+) -> bool
+    requires { ⌜ Judgeable (now pack) (now places) p (now chart) nodes character action foresight nesting (now work) ⌝ }
+    ensures { λ r. ⌜ ((th : Theory) (T : List Node) → Judging th T (now (pack .entry)) (now (places .entry)) p (now (chart .entry)) nodes character action foresight nesting (now (work .entry)) → Verdict (Explained th foresight nesting character action (meaning (p .characters) T 0)) (now (work .entry)) (now (work .exit)) r) ⌝ }
+{
+    copy_table(chart, 1, nodes, work, 0, p.fluents, p.characters);
+    let t = Table {
+        rows: 1,
+        nodes,
+        fluents: p.fluents,
+        characters: p.characters,
+        width: p.fluents + p.characters,
+    };
+    let verdict = explained(
+        pack,
+        places,
+        p,
+        work,
+        t,
+        0,
+        961,
+        character,
+        action,
+        Nesting(nesting),
+        Foresight(foresight),
+    );
+    clear(work, 0, 49152);
+    verdict
+}
+
+// Explained(pack, chart, character, action, K, e, work): yes or no, or a refusal's number and place.
+pub fn judge(
+    pack: &[u8],
+    chart: &[u8],
+    character: usize,
+    action: usize,
+    foresight: usize,
+    nesting: usize,
+    work: &mut [u8],
+) -> Judged
+    ensures { λ r. ⌜ Judgement (now (pack .entry)) (now (chart .entry)) character action foresight nesting (now (work .entry)) (now (work .exit)) r ⌝ }
+{
+    let mut places = [0usize; 327];
+    let p = read_pack(pack, &mut places);
+    let sizes = p.sizes;
+    let answer = p.answer;
+    let nodes = check_under(answer, p.characters, &sizes[..p.fluents], chart);
+    let there = in_range(
+        character,
+        p.characters,
+        action,
+        p.actions,
+        foresight,
+        nesting,
+    );
+    match check_lent(nodes, 49152 <= work.len(), there) {
+        Number::Refused(k, at) => Judged::Refused(k, at),
+        Number::Is(n, _) => {
+            let shape = Shape {
+                actions: p.actions,
+                triggers: p.triggers,
+                fluents: p.fluents,
+                characters: p.characters,
+            };
+            let verdict = judge_chart(
+                pack,
+                &places,
+                shape,
+                chart,
+                n,
+                character,
+                action,
+                foresight,
+                nesting,
+                work,
+            );
+            Judged::Verdict(verdict)
+        }
+    }
+}
