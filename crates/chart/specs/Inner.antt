@@ -6,6 +6,7 @@ pub mod Classed
 pub mod Level
 pub mod Out
 pub mod Climb
+pub mod Pairs
 pub mod Look
 pub mod Match
 pub mod Start

@@ -18,5 +18,6 @@ pub mod Comparing
 pub mod Answers
 pub mod Replies
 pub mod Descent
+pub mod Breadth
 pub mod Needed
 pub mod NoVerdict

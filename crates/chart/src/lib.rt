@@ -6,6 +6,7 @@ pub mod compare;
 pub mod copy;
 pub mod merge;
 pub mod number;
+pub mod pairs;
 pub mod partition;
 pub mod query;
 pub mod start;
