@@ -1,7 +1,6 @@
 // The chart layer: states of nested belief, written as charts and compared. What it promises stands in specs/; here are the answers that its public calls hand back.
 pub mod bytes;
 pub mod call;
-pub mod climb;
 pub mod compare;
 pub mod copy;
 pub mod merge;
