@@ -10,7 +10,7 @@ use crate::pairs::other_value;
 use crate::pairs::seek;
 use crate::pairs::write_chain;
 use crate::write::put_rows;
-use pack::contents::read_pack;
+use pack::contents::read_contents;
 use pack::node::check_chart;
 use pack::number::Number;
 ghost use Prim.Native.Nat.{_≤_};
@@ -82,8 +82,7 @@ pub fn compare(
 ) -> Matched
     ensures { λ r. ⌜ Comparison (now (pack .entry)) (now (first .entry)) (now (second .entry)) (now (chain .entry)) (now (work .entry)) (now (chain .exit)) (now (work .exit)) r ⌝ }
 {
-    let mut places = [0usize; 327];
-    let p = read_pack(pack, &mut places);
+    let p = read_contents(pack);
     let sizes = p.sizes;
     let answer = p.answer;
     match check_under(answer, p.characters, &sizes[..p.fluents], first) {
