@@ -16,7 +16,8 @@ pub mod Joining
 pub mod Asking
 pub mod Starting
 pub mod Beginning
-pub mod Climbing
-pub mod Descending
+pub mod Pairing
+pub mod Seeking
+pub mod Tracing
 pub mod Matching
 pub mod Comparing

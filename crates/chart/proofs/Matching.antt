@@ -1,37 +1,39 @@
--- Rows compared: where they part, and the verdict on what they mean. Assumes nothing.
+-- Rows compared: the first pair whose values differ, and the verdict on what they mean. Assumes nothing.
 use Prim.Native.Nat.{ℕ, _+_, _*_, _-_, _<_, _≤_}
-use mathlib.Core.Path.{_≡_, refl, sym, ap, _∙_, subst}
-use mathlib.Core.Logic.{_≢_, by-cases}
-use mathlib.Core.List.{List, _++_}
-use native.Mathlib.Decide.{decLt}
-use native.Mathlib.Nat.{mul-le-mul-left, mul-le-mul-right}
+use mathlib.Core.Path.{_≡_, refl, sym, ap, ap₂, _∙_, subst}
+use mathlib.Core.Logic.{by-cases}
+use mathlib.Core.List.{List, _++_, List-discrete}
+use native.Mathlib.Decide.{ℕ-discrete, decLt, decLe}
+use native.Mathlib.Nat.{le-trans, mul-le-mul-left, mul-le-mul-right}
 use native.Mathlib.Omega.{arith}
 use lib.ListN.{length, getD, drop}
 use lib.Seq.{ext-getD}
 use Rattle.pack.specs.Syntax.{Node}
-use Rattle.pack.specs.State.{State, Valid, node, target, meaning}
+use Rattle.pack.specs.State.{State, node, target, meaning, Closed}
 use Rattle.pack.specs.Table.{cells, rowsAt}
 use Rattle.pack.specs.Reading.{gives}
-use Rattle.pack.proofs.Tables.{cells-at}
+use Rattle.pack.specs.Laws.Table.{finds-walk}
+use Rattle.pack.proofs.Tables.{cells-at, rows-length}
 use Rattle.chart.specs.declared.Matched.{Matched}
 use Rattle.chart.specs.declared.Matched.the-variants as matched
 use Rattle.chart.specs.Compare.{Verdict, same, differ, Compared, Differ}
-use Rattle.chart.specs.Earliest.{Earliest}
 use Rattle.chart.specs.Call.{chainRoom, workRoom}
 use Rattle.chart.specs.Promises.{after}
 use Rattle.chart.specs.Laws.Answers.{compare-table-iff}
 use Rattle.chart.specs.Laws.Tables.{IsFull}
 use Rattle.chart.specs.Laws.Bridge.{val, meaning-at}
-use Rattle.chart.specs.Laws.Descent.{Down, down-earliest}
+use Rattle.chart.specs.Laws.Comparing.{differ-valid}
 use Rattle.chart.specs.Laws.Moore as moore
 use Rattle.chart.specs.Inner.Numbers.{Sound}
 use Rattle.chart.specs.Inner.Level.{Agrees, SameByte}
-use Rattle.chart.specs.Inner.Classed.{classAt}
-use Rattle.chart.specs.Inner.Climb.{levelAt, Stack, Climbed, Ladder, Descended}
+use Rattle.chart.specs.Inner.Bytes.{Above}
+use Rattle.chart.specs.Inner.Pairs.{leftAt, rightAt, Paired, PairsIn, FirstMet, FirstOther, Sought, Ways, Writable, LongWay, WayWritten}
 use Rattle.chart.specs.Inner.Look.{NodesRead}
 use Rattle.chart.specs.Inner.Put.{Cleared}
 use Rattle.chart.specs.Inner.Match.{Joinable, Joined, Matchable, Said, RowsMatched, ChartsMatched}
 use Rattle.chart.proofs.Cells.{cells-length, row-in, rows-node, rows-same}
+use Rattle.chart.proofs.Parting.{sound-closed}
+use Rattle.chart.proofs.Pairing.{pairs-first}
 use Rattle.chart.proofs.Charting.{front-back}
 use Rattle.chart.proofs.Looking.{cleared-all}
 use Rattle.chart.proofs.Joining.{read-long, read-closed, read-slim, read-values}
@@ -46,92 +48,131 @@ module _ {work : List ℕ} {n m f c : ℕ} {chain : List ℕ} (p : Matchable wor
   pub rows-room : 1 + (n + m) * w ≤ 1921
   rows-room = let few : n + m ≤ 64 = omega (arith, p .few) in omega (arith, mul-le-mul-left (n + m) (p .slim .0), mul-le-mul-right 30 few)
 
-  pub match-stack : Stack work (n + m) w f c 1 2048 6208
-  match-stack = record { few = omega (arith, p .few); wide = omega arith; source = omega (arith, rows-room); levels = omega arith; leads = omega (arith, p .few, p .room) }
+  pub match-paired : {mid : List ℕ} → length mid ≡ length work → Paired mid (n + m) w f c 1 2048 6144
+  match-paired long = record { few = omega (arith, p .few); wide = omega arith; narrow = omega (arith, p .slim); source = omega (arith, rows-room); marks = omega arith; room = omega (arith, p .room) }
 
-  module _ {now : List ℕ} {k : ℕ} (x : Climbed work now (n + m) w f c 1 2048 6208 0 n k) where
-    kept : rowsAt now w f c 1 (n + m) ≡ T
-    kept = rows-same work now w f c 1 1 (n + m) (omega arith) (λ q h. x .low (1 + q) (omega (arith, rows-room)))
+  -- rows 0 and n are the first pair
+  module _ {mid : List ℕ} (b : FirstMet work mid 2048 6144 0 n) where
+    kept : rowsAt mid w f c 1 (n + m) ≡ T
+    kept = rows-same work mid w f c 1 1 (n + m) (omega arith) (λ q h. b .low (1 + q) (omega (arith, rows-room)))
 
-    still : Sound now (n + m) w f c 1
-    still = record { beliefs = λ i d h l. omega (arith, x .low (1 + i * w + f + d) (omega (arith, row-in (n + m) w i h, rows-room)), p .sound .beliefs i d h l) }
+    pub match-sound : Sound mid (n + m) w f c 1
+    match-sound = record { beliefs = λ i d h l. omega (arith, b .low (1 + i * w + f + d) (omega (arith, row-in (n + m) w i h, rows-room)), p .sound .beliefs i d h l) }
 
-    pub matched-same : k ≡ 0 → RowsMatched work now n m f c chain chain matched.Same
-    matched-same z = record { verdict = same; true = x .same z; said = record { answer = refl; result = refl }; high = λ q h. x .high q (omega (arith, p .few)) }
+    pub match-pairs : PairsIn mid (n + m) w f c 1 2048 6144 1 0 0
+    match-pairs = pairs-first (rowsAt mid w f c 1 (n + m)) (omega (arith, p .few)) (omega (arith, p .some)) (omega (arith, p .some)) b
 
-    module _ (some : 0 < k) where
-      pub match-ladder : length now ≡ length work → Ladder now (n + m) w f c 1 2048 k 0 n
-      match-ladder long = record {
-        few = omega (arith, p .few);
-        wide = omega arith;
-        narrow = omega (arith, p .slim);
-        source = omega (arith, rows-room);
-        room = omega (arith, p .room, long);
-        sound = still;
-        levels = λ j h. subst (λ (t : List Node). moore.Exact c (val c t) (target t) (length t) j (classAt now (levelAt 2048 j))) (sym kept) (x .levels j h);
-        some = some;
-        low = x .few;
-        agree = subst (λ (t : List Node). moore.Same c (val c t) (target t) (k - 1) 0 n) (sym kept) (x .agree some);
-        apart = λ s. x .apart some (subst (λ (t : List Node). moore.Same c (val c t) (target t) k 0 n) kept s);
-        inside = (omega (arith, p .some), omega (arith, p .some));
+    module _ {now : List ℕ} {k : ℕ} (x : Sought mid now (n + m) w f c 1 2048 6144 k) where
+      -- bytes of the rows are as they were
+      low : (q : ℕ) → q < 2048 → getD now q 0 ≡ getD work q 0
+      low q h = x .low q h ∙ b .low q h
+
+      high : Above work now 26624
+      high q h = x .high q (omega arith) ∙ b .high q (omega arith)
+
+      pub matched-same : 4096 ≤ k → RowsMatched work now n m f c chain chain matched.Same
+      matched-same h = record {
+        verdict = same;
+        true = ap₂ (λ (t : List Node) (i : ℕ). meaning c t i) (sym kept) (sym (b .left)) ∙ x .none h ∙ ap₂ (λ (t : List Node) (i : ℕ). meaning c t i) kept (b .right);
+        said = record { answer = refl; result = refl };
+        high = high;
       }
 
-      -- the chain that is written, and the rows that it leads to
-      module _ {chain′ : List ℕ} {u v : ℕ} (y : Descended now chain chain′ (n + m) w f c 1 k 0 n u v) where
-        abbrev found : List ℕ
-        found = cells chain′ 0 (k - 1)
+      module _ (some : k < 4096) (long : length now ≡ length work) where
+        -- the first pair of which the values differ
+        other : FirstOther T 0 n now (n + m) c 2048 6144 k
+        other = subst (λ (t : List Node). FirstOther t 0 n now (n + m) c 2048 6144 k) kept
+            (subst (λ (r : ℕ). FirstOther (rowsAt mid w f c 1 (n + m)) r n now (n + m) c 2048 6144 k) (b .left)
+            (subst (λ (s : ℕ). FirstOther (rowsAt mid w f c 1 (n + m)) (leftAt mid 6144 0) s now (n + m) c 2048 6144 k) (b .right) (x .some some)))
 
-        pub match-inside : (1 + u * w + f ≤ 1921) × (1 + v * w + f ≤ 1921)
-        match-inside = (omega (arith, rows-room, row-in (n + m) w u (y .inside .0)), omega (arith, rows-room, row-in (n + m) w v (y .inside .1)))
+        abbrev way : List ℕ
+        way = other .pairs .met .way k
 
-        left : meaning c T 0 found ≡ node T u .values
-        left = subst (λ (t : List Node). meaning c t 0 found ≡ node t u .values) kept (y .left)
+        abbrev u : ℕ
+        u = leftAt now 6144 k
 
-        right : meaning c T n found ≡ node T v .values
-        right = subst (λ (t : List Node). meaning c t n found ≡ node t v .values) kept (y .right)
+        abbrev v : ℕ
+        v = rightAt now 6144 k
 
-        first : Earliest (λ ch. Valid c ch × (meaning c T 0 ch ≢ meaning c T n ch)) found
-        first =
-            subst (λ (s : State). Earliest (λ ch. Valid c ch × (s ch ≢ meaning c T n ch)) found) (sym (meaning-at c T 0))
-            (subst (λ (s : State). Earliest (λ ch. Valid c ch × (moore.at c (val c T) (target T) 0 ch ≢ s ch)) found) (sym (meaning-at c T n))
-            (down-earliest c (val c T) (target T) (k - 1) 0 n found (x .agree some) (subst (λ (t : List Node). Down c (val c t) (target t) (k - 1) 0 n found) kept (y .down))))
+        inside : (u < n + m) × (v < n + m)
+        inside = other .pairs .inside k (other .there)
+
+        left : meaning c T 0 way ≡ node T u .values
+        left = let (g, e, _) = other .pairs .met .led k (other .there) in finds-walk c T way 0 g ∙ ap (λ (i : ℕ). node T i .values) (sym e)
+
+        right : meaning c T n way ≡ node T v .values
+        right = let (g, _, e) = other .pairs .met .led k (other .there) in finds-walk c T way n g ∙ ap (λ (i : ℕ). node T i .values) (sym e)
+
+        -- chains of at most 62 characters tell apart whatever any chain does
+        short : length way ≤ 62
+        short =
+            by-cases (decLe (length way) 62) (λ h. h)
+            (λ h. absurd (other .first .good .1 (ap (λ (s : State). s way)
+            (meaning-at c T 0 ∙ moore.bound c (val c T) (target T) (length T) closed 0 n (omega (arith, size, p .some)) (omega (arith, size, p .some)) (λ ch l. agree ch (omega (arith, size, p .few)) h) ∙ sym (meaning-at c T n)))))
+          where
+            size : length T ≡ n + m
+            size = rows-length work w f c 1 (n + m)
+
+            closed : Closed c T
+            closed = sound-closed work (n + m) w f c 1 (p .sound)
+
+            agree : (ch : List ℕ) → length ch ≤ 62 → ¬ (length way ≤ 62) → moore.at c (val c T) (target T) 0 ch ≡ moore.at c (val c T) (target T) n ch
+            agree ch l h =
+                ap (λ (s : State). s ch) (sym (meaning-at c T 0))
+                ∙ by-cases (List-discrete ℕ-discrete (meaning c T 0 ch) (meaning c T n ch)) (λ e. e) (λ e. absurd (h (le-trans (other .first .shortest ch (differ-valid c T T ch 0 n e, e)) l)))
+                ∙ ap (λ (s : State). s ch) (meaning-at c T n)
+
+        ways : Ways now 6144 k
+        ways = record { way = other .pairs .met .way; root = other .pairs .met .root; on = λ i h l. other .pairs .met .on i h (omega (arith, other .there)); room = omega (arith, p .room) }
+
+        pub match-writable : Writable now chain 6144 k
+        unfolding ways
+        match-writable = record { ways = ways; room = omega (arith, short, p .chain-room) }
 
         -- a value of a row is a byte
         value : (i q : ℕ) → i < n + m → q < f → getD (node T i .values) q 0 ≡ getD now (1 + i * w + q) 0
         value i q h l =
             ap (λ (x : Node). getD (x .values) q 0) (rows-node work w f c 1 (n + m) i h) ∙ cells-at work (1 + i * w) f q l
-            ∙ sym (x .low (1 + i * w + q) (omega (arith, rows-room, row-in (n + m) w i h)))
+            ∙ sym (low (1 + i * w + q) (omega (arith, rows-room, row-in (n + m) w i h)))
 
         values-long : (i : ℕ) → i < n + m → length (node T i .values) ≡ f
         values-long i h = ap (λ (x : Node). length (x .values)) (rows-node work w f c 1 (n + m) i h) ∙ cells-length work (1 + i * w) f
 
-        module _ {fluent : ℕ} (z : Agrees (SameByte now (1 + u * w) (1 + v * w)) f fluent) where
+        -- the entry, and the values of its rows, lie within the buffer
+        pub match-inside : (6144 + k * 5 + 2 ≤ length now) × (1 + u * w + f ≤ length now) × (1 + v * w + f ≤ length now)
+        match-inside = (omega (arith, p .room), omega (arith, rows-room, row-in (n + m) w u (inside .0), p .room), omega (arith, rows-room, row-in (n + m) w v (inside .1), p .room))
+
+        module _ {chain′ : List ℕ} {size : ℕ} (l : LongWay now 6144 k size) (y : WayWritten now chain chain′ 6144 k size) {fluent : ℕ} (z : Agrees (SameByte now (1 + u * w) (1 + v * w)) f fluent) where
           alike : (q : ℕ) → q < fluent → getD (node T u .values) q 0 ≡ getD (node T v .values) q 0
-          alike q l = value u q (y .inside .0) (omega (arith, z .within)) ∙ z .before q l ∙ sym (value v q (y .inside .1) (omega (arith, z .within)))
+          alike q h = value u q (inside .0) (omega (arith, z .within)) ∙ z .before q h ∙ sym (value v q (inside .1) (omega (arith, z .within)))
 
           -- some value differs
           there : fluent < f
           there =
               by-cases (decLt fluent f) (λ h. h)
-              (λ h. absurd (first .good .1 (left ∙ ext-getD 0 (node T u .values) (node T v .values) (values-long u (y .inside .0) ∙ sym (values-long v (y .inside .1))) (λ q l. alike q (omega (arith, values-long u (y .inside .0)))) ∙ sym right)))
+              (λ h. absurd (other .first .good .1 (left ∙ ext-getD 0 (node T u .values) (node T v .values) (values-long u (inside .0) ∙ sym (values-long v (inside .1))) (λ q l. alike q (omega (arith, values-long u (inside .0)))) ∙ sym right)))
 
-          differs : Differ c (meaning c T 0) (meaning c T n) found fluent
+          differs : Differ c (meaning c T 0) (meaning c T n) way fluent
           differs = record {
-            first = first;
-            here = λ e. z .here there (sym (value u fluent (y .inside .0) there) ∙ ap (λ (l : List ℕ). getD l fluent 0) (sym left) ∙ e ∙ ap (λ (l : List ℕ). getD l fluent 0) right ∙ value v fluent (y .inside .1) there);
+            first = other .first;
+            here = λ e. z .here there (sym (value u fluent (inside .0) there) ∙ ap (λ (l : List ℕ). getD l fluent 0) (sym left) ∙ e ∙ ap (λ (l : List ℕ). getD l fluent 0) right ∙ value v fluent (inside .1) there);
             lowest = λ q l. ap (λ (l : List ℕ). getD l q 0) left ∙ alike q l ∙ ap (λ (l : List ℕ). getD l q 0) (sym right);
           }
 
-          pub matched-differ : length chain′ ≡ length chain → RowsMatched work now n m f c chain chain′ (matched.Differ (k - 1) fluent)
-          matched-differ long = let size = cells-length chain′ 0 (k - 1) in record {
-            verdict = differ found fluent;
-            true = differs;
-            said = record {
-              answer = ap (λ (l : ℕ). gives (after l fluent)) (sym size);
-              result = front-back chain chain′ (k - 1) (omega (arith, x .few, p .chain-room)) long (y .high) ∙ ap (λ (l : ℕ). found ++ drop l chain) (sym size);
-            };
-            high = λ q h. x .high q (omega (arith, p .few));
-          }
+          pub matched-differ : length chain′ ≡ length chain → RowsMatched work now n m f c chain chain′ (matched.Differ size fluent)
+          unfolding ways
+          matched-differ same-long =
+              let e : length way ≡ size = l ways in
+              let g : cells chain′ 0 size ≡ way = y .chain ways e in
+              record {
+                verdict = differ way fluent;
+                true = differs;
+                said = record {
+                  answer = ap (λ (l : ℕ). gives (after l fluent)) (sym e);
+                  result = front-back chain chain′ size (omega (arith, e, short, p .chain-room)) same-long (y .high) ∙ ap₂ (λ (f : List ℕ) (l : ℕ). f ++ drop l chain) g (sym e);
+                };
+                high = high;
+              }
 
 -- the nodes of a chart make a table with a value for each fluent
 read-full : {chart : List ℕ} {n f c : ℕ} {t : List Node} → NodesRead chart n f c t → IsFull c f t

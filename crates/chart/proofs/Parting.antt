@@ -75,12 +75,17 @@ module _ (bytes : List ℕ) (n w f c t : ℕ) where
   pub values-byte : (i j : ℕ) → i < n → j < n → val c tableAt i ≡ val c tableAt j → (q : ℕ) → q < f → SameByte bytes (t + i * w) (t + j * w) q
   values-byte i j hi hj e q h = sym (cells-at bytes (t + i * w) f q h) ∙ ap (λ (v : List ℕ). getD v q 0) (sym (values-at i hi) ∙ e ∙ values-at j hj) ∙ cells-at bytes (t + j * w) f q h
 
+  -- and the same bytes are the same values
+  pub byte-values : (i j : ℕ) → i < n → j < n → ((q : ℕ) → q < f → SameByte bytes (t + i * w) (t + j * w) q) → val c tableAt i ≡ val c tableAt j
+  byte-values i j hi hj x =
+      values-at i hi ∙ ext-getD 0 (cells bytes (t + i * w) f) (cells bytes (t + j * w) f) (cells-length bytes (t + i * w) f ∙ sym (cells-length bytes (t + j * w) f))
+      (λ q h. let g : q < f = omega (arith, cells-length bytes (t + i * w) f) in cells-at bytes (t + i * w) f q g ∙ x q g ∙ sym (cells-at bytes (t + j * w) f q g))
+      ∙ sym (values-at j hj)
+
   pub alike-next : (k i j : ℕ) → i < n → j < n → Alike bytes w f c t k i j ↔ Next c tableAt (classAt bytes k) i j
   alike-next k i j hi hj = (
     λ x. (
-      values-at i hi ∙ ext-getD 0 (cells bytes (t + i * w) f) (cells bytes (t + j * w) f) (cells-length bytes (t + i * w) f ∙ sym (cells-length bytes (t + j * w) f))
-          (λ q h. let g : q < f = omega (arith, cells-length bytes (t + i * w) f) in cells-at bytes (t + i * w) f q g ∙ x .values q g ∙ sym (cells-at bytes (t + j * w) f q g))
-          ∙ sym (values-at j hj),
+      byte-values i j hi hj (x .values),
       λ d h. ap (classAt bytes k) (target-at i d hi h) ∙ x .beliefs d h ∙ ap (classAt bytes k) (sym (target-at j d hj h)),
     ),
     λ y. record {

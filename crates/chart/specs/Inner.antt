@@ -5,7 +5,7 @@ pub mod Numbers
 pub mod Classed
 pub mod Level
 pub mod Out
-pub mod Climb
+pub mod Pairs
 pub mod Look
 pub mod Match
 pub mod Start

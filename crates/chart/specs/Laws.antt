@@ -17,6 +17,6 @@ pub mod Tables
 pub mod Comparing
 pub mod Answers
 pub mod Replies
-pub mod Descent
+pub mod Breadth
 pub mod Needed
 pub mod NoVerdict

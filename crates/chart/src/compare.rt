@@ -1,15 +1,16 @@
 // Compare: whether two charts mean the same, or the chain to where they differ. In the work buffer stand, from place 1 on, the first chart's rows and behind them the second's,
-// its beliefs counted on from there; then the levels of the partition, and its leading rows.
+// its beliefs counted on from there; then a mark for each pair of rows, and the pairs that were met.
 use crate::Matched;
 use crate::bytes::clear;
 use crate::call::both_fit;
 use crate::call::check_lent;
 use crate::call::check_under;
-use crate::climb::climb;
-use crate::climb::descend;
-use crate::partition::first_other;
+use crate::pairs::meet_first;
+use crate::pairs::other_value;
+use crate::pairs::seek;
+use crate::pairs::write_chain;
 use crate::write::put_rows;
-use pack::contents::read_pack;
+use pack::contents::read_contents;
 use pack::node::check_chart;
 use pack::number::Number;
 ghost use Prim.Native.Nat.{_≤_};
@@ -41,13 +42,14 @@ pub fn match_rows(
     ensures { λ r. ⌜ RowsMatched (now (work .entry)) (now (work .exit)) n m f c (now (chain .entry)) (now (chain .exit)) r ⌝ }
 {
     let w = f + c;
-    let k = climb(work, n + m, w, f, c, 1, 2048, 6208, 0, n);
-    if k == 0 {
+    meet_first(work, 2048, 6144, 0, n);
+    let k = seek(work, n + m, w, f, c, 1, 2048, 6144);
+    if 4096 <= k {
         return Matched::Same;
     }
-    let at = descend(work, n + m, w, f, c, 1, 2048, k, 0, n, chain);
-    let fluent = first_other(work, 1 + at.x * w, 1 + at.y * w, f);
-    Matched::Differ(k - 1, fluent)
+    let length = write_chain(work, 6144, k, chain);
+    let fluent = other_value(work, w, f, 1, 6144 + k * 5);
+    Matched::Differ(length, fluent)
 }
 
 // Compares two charts, of n and m nodes. The work buffer is cleared.
@@ -80,8 +82,7 @@ pub fn compare(
 ) -> Matched
     ensures { λ r. ⌜ Comparison (now (pack .entry)) (now (first .entry)) (now (second .entry)) (now (chain .entry)) (now (work .entry)) (now (chain .exit)) (now (work .exit)) r ⌝ }
 {
-    let mut places = [0usize; 327];
-    let p = read_pack(pack, &mut places);
+    let p = read_contents(pack);
     let sizes = p.sizes;
     let answer = p.answer;
     match check_under(answer, p.characters, &sizes[..p.fluents], first) {

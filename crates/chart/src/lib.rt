@@ -1,11 +1,11 @@
 // The chart layer: states of nested belief, written as charts and compared. What it promises stands in specs/; here are the answers that its public calls hand back.
 pub mod bytes;
 pub mod call;
-pub mod climb;
 pub mod compare;
 pub mod copy;
 pub mod merge;
 pub mod number;
+pub mod pairs;
 pub mod partition;
 pub mod query;
 pub mod start;

@@ -5,7 +5,7 @@ use crate::bytes::wide;
 use crate::call::chain_there;
 use crate::call::check_lent;
 use crate::call::check_under;
-use pack::contents::read_pack;
+use pack::contents::read_contents;
 use pack::copy::copy_table;
 use pack::number::Number;
 use pack::table::Table;
@@ -46,8 +46,7 @@ pub fn look(
 pub fn query(pack: &[u8], chart: &[u8], chain: &[u8], fluent: usize, work: &mut [u8]) -> Queried
     ensures { λ r. ⌜ Asked (now (pack .entry)) (now (chart .entry)) (now (chain .entry)) fluent (now (work .entry)) (now (work .exit)) r ⌝ }
 {
-    let mut places = [0usize; 327];
-    let p = read_pack(pack, &mut places);
+    let p = read_contents(pack);
     let sizes = p.sizes;
     let answer = p.answer;
     let nodes = check_under(answer, p.characters, &sizes[..p.fluents], chart);

@@ -8,7 +8,7 @@ use crate::call::unless_refused;
 use crate::merge::write_merged;
 use crate::partition::partition;
 use crate::write::write_chart;
-use pack::contents::read_pack;
+use pack::contents::read_contents;
 use pack::copy::copy_table;
 use pack::number::Number;
 ghost use Rattle.chart.specs.Promises.{Started};
@@ -56,8 +56,7 @@ pub fn put_start(
 pub fn start(pack: &[u8], chart: &mut [u8], work: &mut [u8]) -> Charted
     ensures { λ r. ⌜ Started (now (pack .entry)) (now (chart .entry)) (now (work .entry)) (now (chart .exit)) (now (work .exit)) r ⌝ }
 {
-    let mut places = [0usize; 327];
-    let p = read_pack(pack, &mut places);
+    let p = read_contents(pack);
     let answer = p.answer;
     let nodes = unless_refused(answer, p.nodes, 0);
     let enough = both_fit(chart.len(), 961, work.len(), 49152);

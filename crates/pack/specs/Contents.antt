@@ -94,3 +94,8 @@ pub record PackRead (s places : List ℕ) (r : Contents) : Type 0 where
   pub found : (p : Pack) → packOf s ≡ gives p → PackFound s places p r
   pub few : r .fluents ≤ 24
   pub long : length (r .sizes) ≡ 24
+
+-- what a pack holds is read, and of its parts' places nothing is said
+pub record ContentsRead (s : List ℕ) (r : Contents) : Type 0 where
+  pub places : List ℕ
+  pub read : PackRead s places r

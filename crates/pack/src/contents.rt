@@ -11,7 +11,7 @@ ghost use Prim.Native.Nat.{_≤_};
 ghost use lib.ListN.{length, take};
 ghost use mathlib.Core.Path.{_≡_};
 ghost use Rattle.pack.specs.Answer.{dims};
-ghost use Rattle.pack.specs.Contents.{TheoryRead, BodyRead, PartsRead, PackRead, Refusal};
+ghost use Rattle.pack.specs.Contents.{TheoryRead, BodyRead, PartsRead, PackRead, ContentsRead, Refusal};
 
 // How many actions and triggers there are.
 pub struct Counts {
@@ -147,4 +147,12 @@ pub fn read_pack(s: &[u8], places: &mut [usize]) -> Contents
         Checked::Refused(_, _) => r,
         Checked::Passed(n) => { if n == s.len() { r } else { refusal(7, n) } }
     }
+}
+
+// A pack, for calls that need no places: accepted, with what it holds, or refused.
+pub fn read_contents(s: &[u8]) -> Contents
+    ensures { λ r. ⌜ ContentsRead (now (s .entry)) r ⌝ }
+{
+    let mut places = [0usize; 327];
+    read_pack(s, &mut places)
 }

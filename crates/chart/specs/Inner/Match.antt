@@ -51,7 +51,7 @@ pub record RowsMatched (was now : List ℕ) (n m f c : ℕ) (chain chain′ : Li
   pub verdict : Verdict
   pub true : let T = rowsAt was (f + c) f c 1 (n + m) in Compared c (meaning c T 0) (meaning c T n) verdict
   pub said : Said verdict chain chain′ r
-  pub high : Above was now 6272
+  pub high : Above was now 26624
 
 -- of two charts
 pub record ChartsMatched (first : List ℕ) (n : ℕ) (second : List ℕ) (m f c : ℕ) (chain chain′ work work′ : List ℕ) (r : Matched) : Type 0 where

@@ -23,7 +23,7 @@ use Rattle.chart.specs.Laws.Seek.{seek}
 use Rattle.chart.specs.Laws.Tables.{Full}
 
 -- a chain that finds a difference is of characters that are there
-differ-valid : (C : ℕ) (t u : List Node) (chain : List ℕ) (n m : ℕ) → meaning C t n chain ≢ meaning C u m chain → Valid C chain
+pub differ-valid : (C : ℕ) (t u : List Node) (chain : List ℕ) (n m : ℕ) → meaning C t n chain ≢ meaning C u m chain → Valid C chain
 unfolding Valid
 differ-valid C t u [] n m h = tt
 differ-valid C t u (c ∷ chain) n m h =

@@ -21,7 +21,7 @@ module _ (C : ℕ) (t : List Node) where
   Reached i = (chain : List ℕ) × Valid C chain × (walk t 0 chain ≡ i)
 
   -- a chain, and one character more
-  further : (c : ℕ) → c < C → (chain : List ℕ) (n : ℕ) → Valid C chain → Valid C (chain ++ (c ∷ [])) × (walk t n (chain ++ (c ∷ [])) ≡ target t (walk t n chain) c)
+  pub further : (c : ℕ) → c < C → (chain : List ℕ) (n : ℕ) → Valid C chain → Valid C (chain ++ (c ∷ [])) × (walk t n (chain ++ (c ∷ [])) ≡ target t (walk t n chain) c)
   unfolding Valid walk
   further c h [] n v = ((h, tt), refl)
   further c h (d ∷ chain) n v = let r = further c h chain (target t n d) (v .1) in ((v .0, r .0), r .1)

@@ -1,5 +1,4 @@
 -- A row alike to a leading row gets its class; else it leads the next. Assumes nothing.
-use native.Mathlib.Omega.{arith}
 use borrow.Author.Needs.{needs}
 use Rattle.chart.proofs.Leveling.{row-old, row-new}
 use Rattle.chart.proofs.partition.class_row.Statement.{statement}

@@ -8,30 +8,30 @@ use Rattle.chart.proofs.query.query.Statement.{statement}
 use Rattle.chart.proofs.query.query.Tie as tie
 
 array-share-prefix-sizes : tie.Need-array-share-prefix-sizes
-array-share-prefix-sizes c = let r = c .before .before .read-pack .ensures in omega (arith, r .few, r .long)
+array-share-prefix-sizes c = let r = c .before .read-contents .ensures .read in omega (arith, r .few, r .long)
 
 slice-aggregate-check-under : tie.Need-slice-aggregate-check-under
-slice-aggregate-check-under c = let p = c .before .before .before .read-pack in sym (length-take-le (p .result .fluents) (p .result .sizes) (omega (arith, p .ensures .few, p .ensures .long)))
+slice-aggregate-check-under c = let p = c .before .before .read-contents in sym (length-take-le (p .result .fluents) (p .result .sizes) (omega (arith, p .ensures .read .few, p .ensures .read .long)))
 
 look-requires : tie.Need-look-requires
 look-requires c κs =
-    let a = c .before .before .before .before .before .before .before .before .before .before .before .before .before .before .before .before .args in
-    ask-look (a .chart .now) (a .chain .now) (a .fluent) (a .work .now) (c .before .before .before .before .before .before .before .before .before .before .read-pack .ensures) (c .before .before .before .before .before .before .check-under .result) (c .before .before .before .before .before .before .check-under .ensures) (c .before .before .before .before .before .chain-there .result) (c .before .before .before .before .before .chain-there .ensures)
+    let a = c .before .before .before .before .before .before .before .before .before .before .before .before .before .before .args in
+    ask-look (a .chart .now) (a .chain .now) (a .fluent) (a .work .now) (c .before .before .before .before .before .before .before .before .before .read-contents .ensures .read) (c .before .before .before .before .before .before .check-under .result) (c .before .before .before .before .before .before .check-under .ensures) (c .before .before .before .before .before .chain-there .result) (c .before .before .before .before .before .chain-there .ensures)
     (c .before .before .before .before .check-lent .result) (c .before .before .before .before .check-lent .ensures) _ _ (c .before .before .n .given .1)
 
 returns : tie.Need-returns
 returns c =
-    let a = c .before .before .before .before .before .before .before .before .before .before .before .before .before .before .before .args in
-    ask-refused (a .chart .now) (a .chain .now) (a .fluent) (a .work .now) (c .before .before .before .before .before .before .before .before .before .read-pack .ensures) (c .before .before .before .before .before .check-under .result) (c .before .before .before .before .before .check-under .ensures) (c .before .before .before .before .chain-there .result) (c .before .before .before .before .chain-there .ensures)
+    let a = c .before .before .before .before .before .before .before .before .before .before .before .before .before .args in
+    ask-refused (a .chart .now) (a .chain .now) (a .fluent) (a .work .now) (c .before .before .before .before .before .before .before .before .read-contents .ensures .read) (c .before .before .before .before .before .check-under .result) (c .before .before .before .before .before .check-under .ensures) (c .before .before .before .before .chain-there .result) (c .before .before .before .before .chain-there .ensures)
     (c .before .before .before .check-lent .result) (c .before .before .before .check-lent .ensures) _ _ (c .before .k .given .1)
 
 returns-2 : tie.Need-returns-2
 returns-2 c =
-    let a = c .before .before .before .before .before .before .before .before .before .before .before .before .before .before .before .before .before .before .before .args in
-    ask-value (a .chart .now) (a .chain .now) (a .fluent) (a .work .now) (c .before .before .before .before .before .before .before .before .before .before .before .before .before .read-pack .ensures) (c .before .before .before .before .before .before .before .before .before .check-under .result) (c .before .before .before .before .before .before .before .before .before .check-under .ensures) (c .before .before .before .before .before .before .before .before .chain-there .result) (c .before .before .before .before .before .before .before .before .chain-there .ensures)
+    let a = c .before .before .before .before .before .before .before .before .before .before .before .before .before .before .before .before .before .args in
+    ask-value (a .chart .now) (a .chain .now) (a .fluent) (a .work .now) (c .before .before .before .before .before .before .before .before .before .before .before .before .read-contents .ensures .read) (c .before .before .before .before .before .before .before .before .before .check-under .result) (c .before .before .before .before .before .before .before .before .before .check-under .ensures) (c .before .before .before .before .before .before .before .before .chain-there .result) (c .before .before .before .before .before .before .before .before .chain-there .ensures)
     (c .before .before .before .before .before .before .before .check-lent .result) (c .before .before .before .before .before .before .before .check-lent .ensures) _ _ (c .before .before .before .before .before .n .given .1) _ _ (c .before .before .look .ensures)
 
 pub query-spec : {M : Type 1} → statement M
 query-spec =
     tie.close
-    (tie.spec (λ c. search needs) (λ c κs. search needs) array-share-prefix-sizes slice-aggregate-check-under (λ c κs. search needs) (λ c κs. search needs) (λ c κs. search needs) (λ c. search needs) (λ c. search needs) look-requires returns (λ c. search needs) returns-2)
+    (tie.spec (λ c κs. search needs) array-share-prefix-sizes slice-aggregate-check-under (λ c κs. search needs) (λ c κs. search needs) (λ c κs. search needs) (λ c. search needs) (λ c. search needs) look-requires returns (λ c. search needs) returns-2)
