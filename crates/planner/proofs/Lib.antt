@@ -1,3 +1,4 @@
 -- The modules of `proofs/` that belong to no one function.
 pub mod Telling
 pub mod Judging
+pub mod Completing
