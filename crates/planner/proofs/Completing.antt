@@ -40,8 +40,8 @@ module _ (th : Theory) (K e base : ℕ) (s : State) where
   best-end was {at} {slot} work {r} f g = record {
     none = λ z. (refl, λ list v l q. not-one z list v l q);
     some = λ l.
-    let above : base < U = omega (arith, by-cases′ l) in
-    ([], record { long = refl; good = (s, refl, (sym (f above), omega (arith, f above))); earliest = λ other v l q b. short other l b }, record { put = λ i l. absurd (omega arith); low = λ q l. refl; high = λ q l. refl });
+        let above : base < U = omega (arith, by-cases′ l) in
+        ([], record { long = refl; good = (s, refl, (sym (f above), omega (arith, f above))); earliest = λ other v l q b. short other l b }, record { put = λ i l. absurd (omega arith); low = λ q l. refl; high = λ q l. refl });
     low = λ q l. refl;
     high = λ q l. refl;
   }
@@ -90,10 +90,10 @@ module _ (th : Theory) (K e base : ℕ) (s : State) where
     same {list} {v} (rest, q, (u, p, z, m)) = (rest, q, subst (λ (u : State). Ends th K e base u rest v) (plays-one p plays) m)
 
     module _ (agreed : Agreeing th All (Explained th K e) s x (actionOf th x .consenters)) {n : ℕ} {was now : List ℕ} {at slot slot′ : ℕ} {work mid work′ : List ℕ} {r : ℕ} (le : slot ≤ slot′) (low : Below work mid slot) (high : Above work mid 43470) (b : Best (Ends th K e base t) n was now (at + 1) slot′ mid work′ r) where
-      pub best-by-none : r ≡ 0 → Best (EndsBy th K e base x s) (suc n) was now at slot work work′ 0
+      pub best-by-none : r ≡ 0 → Best (EndsBy th K e base x s) (suc n) was now at slot work work′ r
       best-by-none e = record {
         none = λ q. (b .none e .0, λ list v l q. let (rest, is, m) = same q in b .none e .1 rest v (omega (arith, l, ap length is)) m);
-        some = λ l. absurd (omega arith);
+        some = λ l. absurd (omega (arith, e, l));
         low = λ q l. b .low q (omega arith) ∙ low q l;
         high = λ q l. b .high q l ∙ high q l;
       }
@@ -103,12 +103,15 @@ module _ (th : Theory) (K e base : ℕ) (s : State) where
       best-by l {then} here else = record {
         none = λ q. absurd (omega arith);
         some = λ l.
-        let (list, c, p) = b .some l in
-        (x ∷ list, record { long = omega (arith, c .long); good = (list, refl, (t, plays, agreed, c .good)); earliest = λ other v l q. earlier list c other v l q }, record {
-          put = stand list p;
-          low = λ q l. else q (λ z. omega arith) ∙ p .low q (omega arith);
-          high = λ q l. else q (λ z. omega arith) ∙ p .high q (omega arith);
-        });
+            let (list, c, p) = b .some l in (
+              x ∷ list,
+              record { long = omega (arith, c .long); good = (list, refl, (t, plays, agreed, c .good)); earliest = λ other v l q. earlier list c other v l q },
+              record {
+                put = stand list p;
+                low = λ q l. else q (λ z. omega arith) ∙ p .low q (omega arith);
+                high = λ q l. else q (λ z. omega arith) ∙ p .high q (omega arith);
+              },
+            );
         low = λ q l. b .low q (omega arith) ∙ low q l;
         high = λ q l. b .high q l ∙ high q l;
       }
