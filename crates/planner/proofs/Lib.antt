@@ -2,3 +2,4 @@
 pub mod Telling
 pub mod Judging
 pub mod Completing
+pub mod Seeking

@@ -11,6 +11,6 @@ pub enum Judged {
 
 // What Search hands back: the length of the list and the author's utility ("worth") at the start and at the list's end; 13 is a refusal's number, "no ending".
 pub enum Found {
-    Ending(usize, u32, u32),
+    Ending(usize, usize, usize),
     Refused(u8, usize),
 }

@@ -3,11 +3,23 @@ use Prim.Native.Nat.{ℕ, suc, _+_, _<_, _≤_}
 use mathlib.Core.Path.{_≡_}
 use mathlib.Core.List.{List, _∷_}
 use lib.ListN.{length, getD}
-use Rattle.pack.specs.Syntax.{Theory}
+use Rattle.pack.specs.Syntax.{Node, Theory}
 use Rattle.pack.specs.State.{State}
+use Rattle.pack.specs.Reading.{done, many, told}
+use Rattle.pack.specs.Answer.{dims}
+use Rattle.pack.specs.Grammar.{nodeAt}
+use Rattle.pack.specs.Copy.{Shaped}
 use Rattle.pack.specs.Table.{Below, Above}
+use Rattle.chart.specs.Call.{listRoom, workRoom, cleared, resultAfter}
 use Rattle.chart.specs.Earliest.{Before}
+use Rattle.transition.specs.Inner.Play.{Theorized}
+use Rattle.planner.specs.declared.Found.{Found}
+use Rattle.planner.specs.declared.explain.Shape.{Shape}
+use Rattle.planner.specs.declared.search.Ended.{Ended}
 use Rattle.planner.specs.Ending.{Explained, authorUtility}
+use Rattle.planner.specs.Search.{Answer, Searched}
+use Rattle.planner.specs.Replies.{answerReply}
+use Rattle.planner.specs.Promises.{searchSaid, summary}
 use Rattle.planner.specs.Laws.Explaining as explaining
 
 -- everybody is asked
@@ -41,3 +53,39 @@ pub record Best (Good : List ℕ → ℕ → Type 0) (n : ℕ) (was now : List �
   pub some : 0 < r → (list : List ℕ) × Chosen Good n list r × Put was now done list
   pub low : Below work work′ slot
   pub high : Above work work′ 43470
+
+-- the shortest of the good lists of 1 to T actions, and of those the earliest, is put down; or its length is 0, there is none, and nothing is put down
+pub record Shortest (Good : List ℕ → ℕ → Type 0) (story : ℕ) (was now work work′ : List ℕ) (r : Ended) : Type 0 where
+  pub none : r .length ≡ 0 → (now ≡ was) × ((list : List ℕ) (v : ℕ) → 0 < length list → length list ≤ story → ¬ Good list v)
+  pub some : 0 < r .length → (list : List ℕ) × Chosen Good (r .length) list (r .after) × Put was now 0 list
+  pub within : r .length ≤ story
+  pub shortest : (other : List ℕ) (v : ℕ) → 0 < length other → length other < r .length → ¬ Good other v
+  pub low : Below work work′ 961
+  pub high : Above work work′ 43470
+
+-- what the search from a pack's nodes is lent: a theory, found in the pack, its nodes, and room
+pub record Seeking (th : Theory) (T : List Node) (pack places : List ℕ) (h : Shape) (first nodes story nesting foresight : ℕ) (list work : List ℕ) : Type 0 where
+  pub theorized : Theorized th pack places (h .actions) (h .triggers)
+  pub shaped : Shaped (dims (h .characters) (th .domains)) (h .fluents) (h .characters)
+  pub end : ℕ
+  pub reads : many (nodeAt (dims (h .characters) (th .domains)) nodes) nodes pack first ≡ done T end
+  pub few : nodes ≤ 32
+  pub some : 0 < nodes
+  pub same-characters : th .characters ≡ h .characters
+  pub same-fluents : length (th .domains) ≡ h .fluents
+  pub storied : story ≤ 8
+  pub foreseen : (0 < foresight) × (foresight ≤ 6)
+  pub nested : nesting ≤ 3
+  pub list-room : listRoom ≤ length list
+  pub room : workRoom ≤ length work
+
+abbrev pub Seekable : (pack places : List ℕ) (h : Shape) (first nodes story nesting foresight : ℕ) (list work : List ℕ) → Type 0
+Seekable pack places h first nodes story nesting foresight list work = (th : Theory) × ((T : List Node) × Seeking th T pack places h first nodes story nesting foresight list work)
+
+-- the answer that is true of the state is given, its list put down, and the work buffer cleared
+pub record SearchPut (th : Theory) (foresight story nesting : ℕ) (s : State) (list list′ work work′ : List ℕ) (r : Found) : Type 0 where
+  pub answer : Answer
+  pub is-so : Searched th foresight story nesting s answer
+  pub said : searchSaid r ≡ told summary (answerReply answer)
+  pub result : list′ ≡ resultAfter (told (λ p. p .list) (answerReply answer)) list
+  pub scratch : work′ ≡ cleared work

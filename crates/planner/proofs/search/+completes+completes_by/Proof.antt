@@ -200,9 +200,14 @@ completes-loop-again t c =
     let (long, same, low, high, none) = c .before .before .before .before .before .before .before .before .before .before .loop .inv in
     let zero : v .result ≡ 0 = omega (arith, c .if3 .left) in
     let (th, (T, y)) = P .0 in
-    let b = v .ensures th T (slot-same (a .slot) y low long) in
-    (v .kept .1 .1 .1 .0 ∙ long, b .none zero .0 ∙ same, λ q l. b .low q l ∙ low q l, λ q l. b .high q l ∙ high q l, λ th T y.
-    below-more (λ x. (l : List ℕ) (w : ℕ) → length l ≡ suc (a .left - 1) → ¬ EndsBy th (a .k .0) (a .e .0) (a .base) x (meaning (a .p .characters) T 0) l w) (c .before .before .before .before .before .before .before .before .before .before .loop .x) (none th T y) (v .ensures th T (slot-same (a .slot) y low long) .none zero .1))
+    let b = v .ensures th T (slot-same (a .slot) y low long) in (
+      v .kept .1 .1 .1 .0 ∙ long,
+      b .none zero .0 ∙ same,
+      λ q l. b .low q l ∙ low q l,
+      λ q l. b .high q l ∙ high q l,
+      λ th T y.
+          below-more (λ x. (l : List ℕ) (w : ℕ) → length l ≡ suc (a .left - 1) → ¬ EndsBy th (a .k .0) (a .e .0) (a .base) x (meaning (a .p .characters) T 0) l w) (c .before .before .before .before .before .before .before .before .before .before .loop .x) (none th T y) (v .ensures th T (slot-same (a .slot) y low long) .none zero .1),
+    )
 
 -- src/search.rt:30:1
 completes-same-length-4 : (t : ℕ) → completes-lts.Need-same-length-4 (
