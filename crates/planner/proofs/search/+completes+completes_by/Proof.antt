@@ -1,15 +1,14 @@
-use Prim.Native.Nat.{ℕ, suc, _+_, _*_, _-_, _<_, _≤_}
+-- The author's list search: the earliest list of n actions, action after action. Assumes nothing.
+use Prim.Native.Nat.{ℕ, suc, _+_, _*_, _-_, _<_}
 use mathlib.Core.Path.{_≡_, refl, sym, ap, _∙_, subst}
-use mathlib.Core.Bool.{true, false}
 use mathlib.Core.List.{List}
 use native.Mathlib.Omega.{arith}
-use lib.ListN.{length, getD}
+use lib.ListN.{length}
 use borrow.Author.Needs.{needs}
 use borrow.Author.Tests.{not-true, not-false}
 use Rattle.pack.specs.Syntax.{Node, Theory}
-use Rattle.pack.specs.State.{State, meaning, target}
+use Rattle.pack.specs.State.{meaning}
 use Rattle.pack.specs.Table.{Below, Above}
-use Rattle.planner.specs.Ending.{Explained}
 use Rattle.planner.specs.Inner.Explain.{slotTable, Stage}
 use borrow.Author.Count.{below-more}
 use lib.ListN.{length-set}
