@@ -1,3 +1,5 @@
 -- The modules of `proofs/` that belong to no one function.
 pub mod Telling
 pub mod Judging
+pub mod Completing
+pub mod Seeking

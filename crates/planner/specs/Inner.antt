@@ -1,2 +1,3 @@
 -- What the functions inside this layer promise each other; no public promise cites these.
 pub mod Explain
+pub mod Search

@@ -1,6 +1,7 @@
 // The planner layer: explanations and endings. What it promises stands in specs/; here are the answers that its public calls hand back.
 pub mod explain;
 pub mod judge;
+pub mod search;
 
 // What Explained hands back: yes or no, or a refusal's number and place.
 pub enum Judged {
@@ -10,6 +11,6 @@ pub enum Judged {
 
 // What Search hands back: the length of the list and the author's utility ("worth") at the start and at the list's end; 13 is a refusal's number, "no ending".
 pub enum Found {
-    Ending(usize, u32, u32),
+    Ending(usize, usize, usize),
     Refused(u8, usize),
 }

@@ -1,0 +1,152 @@
+-- The author's list search: the earliest list of n actions, by the first action and what follows it. Assumes nothing.
+use Prim.Native.Nat.{ℕ, zero, suc, _+_, _*_, _<_, _≤_}
+use mathlib.Core.Path.{_≡_, refl, sym, ap, _∙_, subst}
+use mathlib.Core.Logic.{_≢_, ⊎-elim, by-cases}
+use mathlib.Core.List.{List, [], _∷_}
+use native.Mathlib.Decide.{decLe}
+use native.Mathlib.Omega.{arith}
+use lib.ListN.{length, getD}
+use Rattle.pack.specs.Syntax.{Node, Theory, Rule}
+use Rattle.pack.specs.State.{State, meaning}
+use Rattle.pack.specs.Reading.{done}
+use Rattle.pack.specs.Answer.{dims}
+use Rattle.pack.specs.Grammar.{Dimensions, rulesAt}
+use Rattle.pack.specs.Condition as condition
+use Rattle.pack.specs.Judge.{Over, Judged}
+use Rattle.pack.specs.Table.{stateOf, Below, Above}
+use Rattle.pack.specs.declared.table.Table.{Table}
+use Rattle.chart.specs.Earliest.{Before}
+use Rattle.chart.specs.Laws.Lists.{place}
+use Rattle.transition.specs.Happening.{nothing, Plays, actionOf}
+use Rattle.transition.specs.Laws.Settled.{plays-one}
+use Rattle.planner.specs.declared.explain.Shape.{Shape}
+use Rattle.planner.specs.Ending.{Leads, Explained, authorUtility}
+use Rattle.planner.specs.Inner.Explain.{Stage, Agreed}
+use Rattle.planner.specs.Inner.Search.{All, Ends, EndsBy, Put, Chosen, Best}
+use Rattle.planner.specs.Laws.Explaining.{Agreeing}
+use Rattle.planner.proofs.Telling.{consenter-below}
+
+-- none found
+pub best-none : {Good : List ℕ → ℕ → Type 0} {n : ℕ} (was : List ℕ) {done slot : ℕ} {work work′ : List ℕ} → Below work work′ slot → Above work work′ 43470 → ((list : List ℕ) (v : ℕ) → length list ≡ n → ¬ Good list v) → Best Good n was was done slot work work′ 0
+best-none was low high f = record { none = λ e. (refl, f); some = λ l. absurd (omega arith); low = low; high = high }
+
+module _ (th : Theory) (K e base : ℕ) (s : State) where
+  abbrev U : ℕ
+  U = authorUtility th s
+
+  -- no action is left
+  pub best-end : (was : List ℕ) {at slot : ℕ} (work : List ℕ) {r : ℕ} → (base < U → r ≡ U) → (U ≤ base → r ≡ 0) → Best (Ends th K e base s) 0 was was at slot work work r
+  unfolding Leads Before
+  best-end was {at} {slot} work {r} f g = record {
+    none = λ z. (refl, λ list v l q. not-one z list v l q);
+    some = λ l.
+        let above : base < U = omega (arith, by-cases′ l) in
+        ([], record { long = refl; good = (s, refl, (sym (f above), omega (arith, f above))); earliest = λ other v l q b. short other l b }, record { put = λ i l. absurd (omega arith); low = λ q l. refl; high = λ q l. refl });
+    low = λ q l. refl;
+    high = λ q l. refl;
+  }
+    where
+      not-one : r ≡ 0 → (list : List ℕ) (v : ℕ) → length list ≡ 0 → Ends th K e base s list v → ⊥
+      not-one z [] v l (s′, q, (w, b)) = let is : authorUtility th s ≡ authorUtility th s′ = ap (authorUtility th) q in let above : base < U = omega (arith, is, w, b) in omega (arith, f above, z)
+      not-one z (x ∷ list) v l q = absurd (omega (arith, l))
+
+      by-cases′ : 0 < r → base < U
+      by-cases′ l = by-cases (decLe U base) (λ h. absurd (omega (arith, g h, l))) (λ h. omega (arith, h))
+
+      short : (other : List ℕ) → length other ≡ 0 → Before other [] → ⊥
+      short other l b = b
+
+  -- action x, of none before which a list can begin
+  pub best-first : {n x : ℕ} {was now : List ℕ} {at slot : ℕ} {work mid work′ : List ℕ} {r : ℕ} → Below work mid slot → Above work mid 43470 → ((y : ℕ) → y < x → (list : List ℕ) (v : ℕ) → length list ≡ suc n → ¬ EndsBy th K e base y s list v)
+      → 0 < r → Best (EndsBy th K e base x s) (suc n) was now at slot mid work′ r → Best (Ends th K e base s) (suc n) was now at slot work work′ r
+  unfolding Leads Before
+  best-first {n} {x} {was} {now} {at} {slot} {work} {mid} {work′} {r} low high f l b = record {
+    none = λ z. absurd (omega arith);
+    some = λ h. let (list, c, put) = b .some h in (list, record { long = c .long; good = whole (c .good); earliest = λ other v l q. earlier list c other v l q }, put);
+    low = λ q l. b .low q l ∙ low q l;
+    high = λ q l. b .high q l ∙ high q l;
+  }
+    where
+      whole : {list : List ℕ} {v : ℕ} → EndsBy th K e base x s list v → Ends th K e base s list v
+      whole {list} {v} (rest, q, (t, plays, agreed, (s′, leads, w))) = subst (λ (list : List ℕ). Ends th K e base s list v) (sym q) (s′, (t, plays, agreed, leads), w)
+
+      earlier : (list : List ℕ) → Chosen (EndsBy th K e base x s) (suc n) list r → (other : List ℕ) (v : ℕ) → length other ≡ suc n → Ends th K e base s other v → Before other list → ⊥
+      earlier list c [] v l q b = absurd (omega (arith, l))
+      earlier list c (y ∷ other) v l (s′, (t, plays, agreed, leads), w) b =
+          let (rest, is, more) = c .good in
+          ⊎-elim (λ (h : y < x). f y h (y ∷ other) v l (other, refl, (t, plays, agreed, (s′, leads, w))))
+          (λ (h : (y ≡ x) × Before other rest). c .earliest (y ∷ other) v l (subst (λ (x : ℕ). EndsBy th K e base x s (y ∷ other) v) (h .0) (other, refl, (t, plays, agreed, (s′, leads, w)))) b)
+          (subst (Before (y ∷ other)) is b)
+
+  -- and none at all
+  pub best-no : {n : ℕ} → ((y : ℕ) → y < length (th .actions) → (list : List ℕ) (v : ℕ) → length list ≡ suc n → ¬ EndsBy th K e base y s list v) → (list : List ℕ) (v : ℕ) → length list ≡ suc n → ¬ Ends th K e base s list v
+  unfolding Leads
+  best-no f [] v l q = absurd (omega (arith, l))
+  best-no f (y ∷ list) v l (s′, (t, plays, agreed, leads), w) = f y (plays .there) (y ∷ list) v l (list, refl, (t, plays, agreed, (s′, leads, w)))
+
+  -- an action that is played
+  module _ (x : ℕ) {t : State} (plays : Plays th s x t) where
+    same : {list : List ℕ} {v : ℕ} → EndsBy th K e base x s list v → (rest : List ℕ) × (list ≡ x ∷ rest) × Ends th K e base t rest v
+    same {list} {v} (rest, q, (u, p, z, m)) = (rest, q, subst (λ (u : State). Ends th K e base u rest v) (plays-one p plays) m)
+
+    module _ (agreed : Agreeing th All (Explained th K e) s x (actionOf th x .consenters)) {n : ℕ} {was now : List ℕ} {at slot slot′ : ℕ} {work mid work′ : List ℕ} {r : ℕ} (le : slot ≤ slot′) (low : Below work mid slot) (high : Above work mid 43470) (b : Best (Ends th K e base t) n was now (at + 1) slot′ mid work′ r) where
+      pub best-by-none : r ≡ 0 → Best (EndsBy th K e base x s) (suc n) was now at slot work work′ r
+      best-by-none e = record {
+        none = λ q. (b .none e .0, λ list v l q. let (rest, is, m) = same q in b .none e .1 rest v (omega (arith, l, ap length is)) m);
+        some = λ l. absurd (omega (arith, e, l));
+        low = λ q l. b .low q (omega arith) ∙ low q l;
+        high = λ q l. b .high q l ∙ high q l;
+      }
+
+      pub best-by : 0 < r → {then : List ℕ} → getD then at 0 ≡ x → ((q : ℕ) → q ≢ at → getD then q 0 ≡ getD now q 0) → Best (EndsBy th K e base x s) (suc n) was then at slot work work′ r
+      unfolding Before
+      best-by l {then} here else = record {
+        none = λ q. absurd (omega arith);
+        some = λ l.
+            let (list, c, p) = b .some l in (
+              x ∷ list,
+              record { long = omega (arith, c .long); good = (list, refl, (t, plays, agreed, c .good)); earliest = λ other v l q. earlier list c other v l q },
+              record {
+                put = stand list p;
+                low = λ q l. else q (λ z. omega arith) ∙ p .low q (omega arith);
+                high = λ q l. else q (λ z. omega arith) ∙ p .high q (omega arith);
+              },
+            );
+        low = λ q l. b .low q (omega arith) ∙ low q l;
+        high = λ q l. b .high q l ∙ high q l;
+      }
+        where
+          stand : (list : List ℕ) → Put was now (at + 1) list → (i : ℕ) → i < length (x ∷ list) → getD then (at + i) 0 ≡ getD (x ∷ list) i 0
+          stand list p zero l = let z : at + 0 ≡ at = omega arith in ap (λ (q : ℕ). getD then q 0) z ∙ here
+          stand list p (suc i) l = let z : at + suc i ≡ at + 1 + i = omega arith in ap (λ (q : ℕ). getD then q 0) z ∙ else (at + 1 + i) (λ w. omega arith) ∙ p .put i (omega arith)
+
+          earlier : (list : List ℕ) → Chosen (Ends th K e base t) n list r → (other : List ℕ) (v : ℕ) → length other ≡ suc n → EndsBy th K e base x s other v → Before other (x ∷ list) → ⊥
+          earlier list c other v l q b =
+              let (rest, is, m) = same q in
+              ⊎-elim (λ (h : x < x). omega (arith, h)) (λ (h : (x ≡ x) × Before rest list). c .earliest rest v (omega (arith, l, ap length is)) m (h .1)) (subst (λ (other : List ℕ). Before other (x ∷ list)) is b)
+
+module _ {th : Theory} {T : List Node} {pack places : List ℕ} {h : Shape} {was : List ℕ} {t : Table} {slot : ℕ} (x : Stage th T pack places h was t slot) where
+  -- where the author's rules are found
+  pub author-rules : (root : ℕ) → root < t .nodes → (Judged rulesAt pack (getD places 320 0) t was root) × (320 < length places)
+  author-rules root i =
+      let g = x .theorized .found .rules 0 (omega arith) in (
+        record { table = x .tabled .fits; there = i; dimensions = dims (th .characters) (th .domains); over = x .tabled .over; value = getD (th .utilities) 0 []; end = g .end; reads = g .reads },
+        omega (arith, x .theorized .marked),
+      )
+
+  pub author-utility : {r : ℕ} (root : ℕ) → ((d : Dimensions) → Over d t → (rules : List Rule) (n : ℕ) → rulesAt d pack (getD places 320 0) ≡ done rules n → r ≡ condition.utility (stateOf t was root) rules) → r ≡ authorUtility th (meaning (t .characters) T root)
+  author-utility root f =
+      let g = x .theorized .found .rules 0 (omega arith) in
+      f (dims (th .characters) (th .domains)) (x .tabled .over) (getD (th .utilities) 0 []) (g .end) (g .reads) ∙ ap (λ (U : List Node). condition.utility (meaning (t .characters) U root) (getD (th .utilities) 0 [])) (x .tabled .same)
+
+  -- no consenter has the number of characters for its own: all are asked
+  module _ (K e a : ℕ) (l : a < h .actions) (s : State) where
+    pub agreed-from : Agreed th K e (h .characters) a s → Agreeing th All (Explained th K e) s a (actionOf th a .consenters)
+    agreed-from f d m q =
+        let (i, li, g) = place (actionOf th a .consenters) 0 d m in
+        let z = x .theorized .found .action a l nothing .consenters in
+        let low = consenter-below (dims (th .characters) (th .domains)) pack (getD places (9 * a + 2) 0) (actionOf th a .consenters) (z .end) (z .reads) i li in
+        f d m (λ w. omega (arith, low, g, w, x .tabled .over .characters, x .same-characters))
+
+    pub agreed-to : Agreeing th All (Explained th K e) s a (actionOf th a .consenters) → Agreed th K e (h .characters) a s
+    agreed-to f d m q = f d m tt

@@ -1,0 +1,270 @@
+-- Search: length after length; what the checks leave, as the search asks it, and what it gives. Assumes nothing.
+use Prim.Native.Nat.{ℕ, _+_, _*_, _<_, _≤_}
+use mathlib.Core.Path.{_≡_, refl, sym, ap, ap₂, _∙_, subst}
+use mathlib.Core.Logic.{by-cases}
+use mathlib.Core.Bool.{Bool, _&&_}
+use mathlib.Core.List.{List, [], _++_}
+use native.Mathlib.Decide.{ℕ-discrete, decLe}
+use native.Mathlib.Nat.{mul-le-mul-left, mul-le-mul-right}
+use native.Mathlib.Omega.{arith}
+use lib.ListN.{length, drop}
+use lib.Dec.{leb}
+use borrow.Author.Tests.{leb-true}
+use lib.Seq.{ext-getD}
+use Rattle.pack.specs.Syntax.{Node, Theory, Pack}
+use Rattle.pack.specs.State.{State, meaning}
+use Rattle.pack.specs.Reading.{done, many, Reply, gives, with, told}
+use Rattle.pack.specs.Grammar.{nodeAt}
+use Rattle.pack.specs.Layout.{ChartFits}
+use Rattle.pack.specs.Judge.{Small}
+use Rattle.pack.specs.Contents.{PackRead, replied, repliedCount}
+use Rattle.pack.specs.Laws.Exact.{Bytes}
+use Rattle.pack.specs.Laws.PackExact.{pack-exactly}
+use Rattle.pack.specs.declared.contents.Contents.{Contents}
+use Rattle.pack.specs.declared.number.Number.{Number}
+use Rattle.pack.specs.declared.number.Number.the-variants as numbers
+use Rattle.pack.specs.Answer.{dims}
+use Rattle.pack.specs.Copy.{TableCopyable, TableCopied}
+use Rattle.pack.specs.Table.{Below, Above, cells}
+use Rattle.pack.specs.declared.table.Table.{Table}
+use Rattle.pack.proofs.Ready.{copied-fits, small-pack}
+use Rattle.pack.proofs.Tables.{cells-at}
+use Rattle.chart.specs.Call.{fits, listRoom, workRoom, cleared, resultAfter, workAfter}
+use Rattle.chart.specs.Laws.Answers.{fits-table}
+use Rattle.chart.specs.Inner.Put.{Cleared}
+use Rattle.chart.proofs.Calling.{and-true}
+use Rattle.chart.proofs.Cells.{cells-length}
+use Rattle.chart.proofs.Charting.{front-back}
+use Rattle.chart.proofs.Checking.{lent, checks, Accepted, refused-by, accepted-by, left-alone, check-none}
+use Rattle.chart.proofs.Looking.{cleared-all}
+use Rattle.transition.proofs.Stepped.{short-pack}
+use Rattle.planner.specs.declared.Found.{Found}
+use Rattle.planner.specs.declared.Found.the-variants as found
+use Rattle.planner.specs.declared.explain.Shape.{Shape}
+use Rattle.planner.specs.declared.search.Ended.{Ended}
+use Rattle.planner.specs.Ending.{Ending, authorUtility}
+use Rattle.planner.specs.Search.{Answer, ending, none, Sought, Searched}
+use Rattle.planner.specs.Answers.{searchTable}
+use Rattle.planner.specs.Replies.{storyLimit, foresightLimit, nestingLimit, Plan, answerReply, searchReply}
+use Rattle.planner.specs.Promises.{summary, Searching}
+use Rattle.planner.specs.Laws.Answers.{search-table-iff}
+use Rattle.planner.specs.Inner.Explain.{slotTable, Stage}
+use Rattle.planner.specs.Inner.Search.{Ends, Chosen, Best, Shortest, Seeking, Seekable, SearchPut}
+
+module _ {Good : List ℕ → ℕ → Type 0} where
+  -- no list of fewer than n actions, and none of n
+  pub shorter : {n : ℕ} → ((l : List ℕ) (v : ℕ) → 0 < length l → length l < n → ¬ Good l v) → ((l : List ℕ) (v : ℕ) → length l ≡ n → ¬ Good l v) → (l : List ℕ) (v : ℕ) → 0 < length l → length l < n + 1 → ¬ Good l v
+  shorter {n} f g l v h k = by-cases (ℕ-discrete (length l) n) (λ e. g l v e) (λ e. f l v h (omega (arith, e)))
+
+  module _ {story : ℕ} {was work mid : List ℕ} (low : Below work mid 961) (high : Above work mid 43470) where
+    pub shortest-found : {n : ℕ} {work′ now : List ℕ} {r : ℕ} → 0 < n → n ≤ story → ((l : List ℕ) (v : ℕ) → 0 < length l → length l < n → ¬ Good l v) → 0 < r → Best Good n was now 0 961 mid work′ r → Shortest Good story was now work work′ (record { length = n; after = r })
+    shortest-found {n} pos le f l b = record {
+      none = λ e. absurd (omega (arith, e));
+      some = λ h. b .some l;
+      within = le;
+      shortest = f;
+      low = λ q l. b .low q l ∙ low q l;
+      high = λ q l. b .high q l ∙ high q l;
+    }
+
+    pub shortest-none : {n : ℕ} {now : List ℕ} → story < n → now ≡ was → ((l : List ℕ) (v : ℕ) → 0 < length l → length l < n → ¬ Good l v) → Shortest Good story was now work mid (record { length = 0; after = 0 })
+    shortest-none le same f = record {
+      none = λ e. (same, λ l v h k. f l v h (omega (arith, k, le)));
+      some = λ h. absurd (omega arith);
+      within = omega arith;
+      shortest = λ l v h k. absurd (omega (arith, k));
+      low = low;
+      high = high;
+    }
+
+-- from the bytes of a pack to the answer
+module _ {th : Theory} {T : List Node} {pack places : List ℕ} {h : Shape} {first nodes story nesting foresight : ℕ} {list work : List ℕ} (x : Seeking th T pack places h first nodes story nesting foresight list work) where
+  abbrev f : ℕ
+  f = h .fluents
+
+  abbrev C : ℕ
+  C = h .characters
+
+  abbrev pub seekFrom : Table
+  seekFrom = record { rows = 1; nodes = nodes; fluents = f; characters = C; width = f + C }
+
+  table-size : 1 + nodes * (f + C) ≤ 961
+  table-size =
+      let s = x .theorized .small in
+      let narrow : f + C ≤ 30 = omega (arith, s .characters, s .fluents, x .same-characters, x .same-fluents) in
+      omega (arith, mul-le-mul-left nodes narrow, mul-le-mul-right 30 (x .few))
+
+  pub seek-copies : TableCopyable pack first nodes work 0 f C
+  seek-copies = record { dimensions = dims C (th .domains); sized = x .shaped; few = x .few; value = T; end = x .end; reads = x .reads; room = omega (arith, table-size, x .room) }
+
+  module _ {mid : List ℕ} (y : TableCopied pack first nodes work mid 0 f C) where
+    pub seek-stage : Stage th T pack places h mid seekFrom 961
+    seek-stage = record {
+      theorized = x .theorized;
+      tabled = record {
+        over = record { small = x .theorized .small; characters = x .same-characters; fluents = x .same-fluents };
+        fits = copied-fits pack first nodes work mid 0 f C y (dims C (th .domains)) (x .shaped) T (x .end) (x .reads) (omega (arith, table-size, x .room));
+        same = y .table (dims C (th .domains)) (x .shaped) T (x .end) (x .reads);
+        few = x .few;
+        some = x .some;
+      };
+      same-fluents = refl;
+      same-characters = refl;
+      behind = omega (arith, table-size);
+      room = omega (arith, y .long, x .room);
+    }
+
+    pub seek-slot : Stage th T pack places h mid (slotTable h mid 0) 961
+    seek-slot = subst (λ (n : ℕ). Stage th T pack places h mid (record { rows = 1; nodes = n; fluents = f; characters = C; width = f + C }) 961) (sym (y .count)) seek-stage
+
+    module _ {base : ℕ} (is : base ≡ authorUtility th (meaning C T 0)) {list′ work′ now : List ℕ} {r : Ended} (z : Shortest (Ends th foresight nesting base (meaning C T 0)) story list list′ mid work′ r) (cl : Cleared work′ now 0 workRoom) (long : length now ≡ length work) (listed : length list′ ≡ length list) where
+      abbrev s : State
+      s = meaning C T 0
+
+      all-clear : now ≡ cleared work
+      all-clear = cleared-all work cl (λ q g. z .high q (omega arith) ∙ y .above q (omega (arith, table-size))) long (x .room)
+
+      -- an ending is such a list
+      ends : {other : List ℕ} → (e : Ending th foresight story nesting s other) → Ends th foresight nesting base s other (authorUtility th (e .end))
+      ends e = (e .end, e .leads, (refl, omega (arith, is, e .better)))
+
+      pub seek-none : r .length ≡ 0 → SearchPut th foresight story nesting s list list′ work now (found.Refused 13 0)
+      unfolding resultAfter
+      seek-none e = record {
+        answer = none;
+        is-so = λ other g. z .none e .1 other _ (g .some) (g .within) (ends g);
+        said = refl;
+        result = z .none e .0;
+        scratch = all-clear;
+      }
+
+      module _ (pos : 0 < r .length) where
+        abbrev chosen : List ℕ
+        chosen = z .some pos .0
+
+        abbrev best : Chosen (Ends th foresight nesting base s) (r .length) chosen (r .after)
+        best = z .some pos .1
+
+        abbrev good : Ending th foresight story nesting s chosen
+        good = let g = best .good in record { some = omega (arith, best .long, pos); within = omega (arith, best .long, z .within); end = g .0; leads = g .1; better = omega (arith, is, g .2) }
+
+        sought : Sought th foresight story nesting s chosen base (r .after)
+        sought = record {
+          first = record {
+            good = good;
+            shortest = λ other g. by-cases (decLe (length chosen) (length other)) (λ h. h) (λ h. absurd (z .shortest other _ (g .some) (omega (arith, h, best .long)) (ends g)));
+            earliest = λ other g l. best .earliest other _ (l ∙ best .long) (ends g);
+          };
+          atStart = sym is;
+          atEnd = best .good .2 .0;
+        }
+
+        put-down : list′ ≡ chosen ++ drop (length chosen) list
+        put-down =
+            let p = z .some pos .2 in
+            let short : r .length ≤ length list = omega (arith, z .within, x .storied, x .list-room) in
+            front-back list list′ (r .length) short listed (λ q l. p .high q (omega (arith, l, best .long)))
+            ∙ ap₂ (λ (l : List ℕ) (k : ℕ). l ++ drop k list) (ext-getD 0 (cells list′ 0 (r .length)) chosen (cells-length list′ 0 (r .length) ∙ sym (best .long)) (λ i l.
+            let z′ : i < r .length = omega (arith, l, cells-length list′ 0 (r .length)) in
+            cells-at list′ 0 (r .length) i z′ ∙ p .put i (omega (arith, z′, best .long)))) (sym (best .long))
+
+        pub seek-found : SearchPut th foresight story nesting s list list′ work now (found.Ending (r .length) base (r .after))
+        unfolding resultAfter
+        seek-found = record {
+          answer = ending chosen base (r .after);
+          is-so = sought;
+          said = ap (λ (k : ℕ). gives (record { length = k; before = base; after = r .after })) (sym (best .long));
+          result = put-down;
+          scratch = all-clear;
+        }
+
+-- the checks
+module _ {pack places : List ℕ} (T K E : ℕ) (list work : List ℕ) {p : Contents} (got : PackRead pack places p) (nodes : Number) (under : repliedCount nodes ≡ with (replied (p .answer)) (λ u. gives (p .nodes)))
+    (enough : Bool) (here : enough ≡ (fits listRoom list && fits workRoom work)) (there : Bool) (within : there ≡ (storyLimit T && (foresightLimit K && nestingLimit E))) (r : Number) (says : repliedCount r ≡ with (repliedCount nodes) (λ v. lent enough there (gives v))) where
+  abbrev room : Bool
+  room = fits listRoom list && fits workRoom work
+
+  abbrev wanted : Theory → Bool
+  wanted p = storyLimit T && (foresightLimit K && nestingLimit E)
+
+  abbrev planOf : Pack → List (List Node) → Reply Plan
+  planOf x tables = answerReply (searchTable (x .theory) K T E (x .nodes))
+
+  abbrev theReply : Reply Plan
+  theReply = searchReply pack T K E list work
+
+  agrees : repliedCount r ≡ told (λ ns. p .nodes) (checks p [] room there)
+  agrees = says ∙ ap (λ (y : Reply ℕ). with y (λ v. lent enough there (gives v))) under ∙ check-none p enough there (p .nodes) ∙ ap (λ (b : Bool). told (λ (ns : List ℕ). p .nodes) (checks p [] b there)) here
+
+  pub search-refused : (k q : ℕ) → r ≡ numbers.Refused k q → Searching pack T K E list work list work (found.Refused k q)
+  unfolding searchReply resultAfter
+  search-refused k q e =
+      let z = refused-by [] got room there wanted (λ x e. within) planOf (λ ns. p .nodes) (repliedCount r) agrees k q (ap repliedCount e) in
+      record {
+        answer = sym (ap (told summary) (z .0));
+        result = sym (ap (λ (y : Reply Plan). resultAfter (told (λ p. p .list) y) list) (z .0));
+        scratch = left-alone theReply work k q z;
+      }
+
+  module _ (bytes : Bytes pack) (marked : 327 ≤ length places) (n m : ℕ) (e : r ≡ numbers.Is n m) where
+    accepted-now : (ns : List ℕ) × (p .nodes ≡ n) × ((x : Accepted pack places [] p ns room there) × (theReply ≡ planOf (x .thePack) (x .tables)))
+    unfolding searchReply
+    accepted-now = accepted-by [] got room there wanted (λ x e. within) planOf (λ ns. p .nodes) (repliedCount r) agrees n (ap repliedCount e)
+
+    abbrev theory : Theory
+    theory = accepted-now .2 .0 .thePack .theory
+
+    abbrev theNodes : List Node
+    theNodes = accepted-now .2 .0 .thePack .nodes
+
+    abbrev pub seekShape : Shape
+    seekShape = record { actions = p .actions; triggers = p .triggers; fluents = p .fluents; characters = p .characters }
+
+    fit : ChartFits (theory .characters) (theory .domains) theNodes
+    fit = let y = accepted-now .2 .0 in pack-exactly pack bytes (y .thePack) .0 (y .accepted) .0 .nodes
+
+    ready : Seeking theory theNodes pack places seekShape (p .first) (p .nodes) T E K list work
+    ready =
+        let y = accepted-now .2 .0 in
+        let x = y .thePack in
+        let g = y .found in
+        let (list-room, work-room) = and-true (fits listRoom list) (fits workRoom work) (y .enough-there) in
+        let (told, rest) = and-true (storyLimit T) (foresightLimit K && nestingLimit E) (sym within ∙ y .in-range) in
+        let (foresight, nesting) = and-true (foresightLimit K) (nestingLimit E) rest in
+        let (least, most) = and-true (leb 1 K) (leb K 6) foresight in
+        record {
+          theorized = record { small = small-pack pack x (y .accepted); found = g .theory; short = short-pack pack x (y .accepted); marked = marked };
+          shaped = record { small = subst (λ (c : ℕ). Small (dims c (x .theory .domains))) (g .characters) (small-pack pack x (y .accepted)); fluents = g .fluents; characters = refl };
+          end = g .rows .end;
+          reads = subst (λ (c : ℕ). many (nodeAt (dims c (x .theory .domains)) (p .nodes)) (p .nodes) pack (p .first) ≡ done (x .nodes) (g .rows .end)) (g .characters) (g .rows .reads);
+          few = omega (arith, fit .1, g .nodes);
+          some = omega (arith, fit .0, g .nodes);
+          same-characters = g .characters;
+          same-fluents = g .fluents;
+          storied = leb-true T 8 (and-true (leb 1 T) (leb T 8) told .1);
+          foreseen = (leb-true 1 K least, leb-true K 6 most);
+          nested = leb-true E 3 nesting;
+          list-room = leb-true listRoom (length list) list-room;
+          room = leb-true workRoom (length work) work-room;
+        }
+
+    pub search-able : Seekable pack places seekShape (p .first) (p .nodes) T E K list work
+    search-able = (theory, (theNodes, ready))
+
+    pub search-done : (list′ work′ : List ℕ) (v : Found) → ((th : Theory) (t : List Node) → Seeking th t pack places seekShape (p .first) (p .nodes) T E K list work → SearchPut th K T E (meaning (p .characters) t 0) list list′ work work′ v) → Searching pack T K E list work list′ work′ v
+    unfolding workAfter resultAfter
+    search-done list′ work′ v put =
+        let (ns, g, (y, replies)) = accepted-now in
+        let z = put theory theNodes ready in
+        let same : meaning (p .characters) theNodes 0 ≡ meaning (theory .characters) theNodes 0 = ap (λ (k : ℕ). meaning k theNodes 0) (sym (y .found .characters)) in
+        let so : searchTable theory K T E theNodes ≡ z .answer = search-table-iff theory theNodes (fits-table (theory .characters) (theory .domains) theNodes fit) K T E (z .answer) .0 (subst (λ (s : State). Searched theory K T E s (z .answer)) same (z .is-so)) in
+        let gave : theReply ≡ answerReply (z .answer) = replies ∙ ap answerReply so in
+        record {
+          answer = z .said ∙ sym (ap (told summary) gave);
+          result = z .result ∙ sym (ap (λ (y : Reply Plan). resultAfter (told (λ p. p .list) y) list) gave);
+          scratch = z .scratch ∙ sym (ap (λ (y : Reply Plan). workAfter y work) gave ∙ after (z .answer));
+        }
+      where
+        after : (a : Answer) → workAfter (answerReply a) work ≡ cleared work
+        after (ending l v w) = refl
+        after none = refl

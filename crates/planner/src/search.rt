@@ -1,0 +1,282 @@
+// Search: the list search of the author, shortest lists first, and the public call. A state is row 0 of the table in a slot of the work buffer; the slots behind it are free.
+use crate::Found;
+use crate::explain::Foresight;
+use crate::explain::Nesting;
+use crate::explain::Shape;
+use crate::explain::allowed;
+use crate::judge::within;
+use chart::bytes::clear;
+use chart::call::both_fit;
+use chart::call::check_lent;
+use chart::call::unless_refused;
+use pack::contents::read_pack;
+use pack::copy::copy_table;
+use pack::judge::utility;
+use pack::number::Number;
+use pack::number::wide;
+use pack::table::Table;
+use transition::step::step_slot;
+ghost use mathlib.Core.Path.{_≡_};
+ghost use mathlib.Core.Bool.{_&&_};
+ghost use mathlib.Core.List.{List};
+ghost use Prim.Native.Nat.{suc, _+_, _*_, _<_, _≤_};
+ghost use lib.ListN.{length};
+ghost use Rattle.pack.specs.Syntax.{Node, Theory};
+ghost use Rattle.pack.specs.State.{meaning};
+ghost use Rattle.planner.specs.Ending.{authorUtility};
+ghost use Rattle.planner.specs.Inner.Explain.{slotTable, Stage, Staged, Free};
+ghost use Rattle.planner.specs.Inner.Search.{Ends, EndsBy, Best, Shortest, Seeking, Seekable, SearchPut};
+ghost use Rattle.planner.specs.Replies.{storyLimit, foresightLimit, nestingLimit};
+ghost use Rattle.planner.specs.Promises.{Searching};
+
+// The story limit T.
+pub struct Story(pub usize);
+
+// The list that was found: its length, and the author's utility at its end; of length 0 where there is none.
+pub struct Ended {
+    pub length: usize,
+    pub after: usize,
+}
+
+// The author's utility at the end of the earliest list of exactly `left` actions from the state in a slot that ends above base, which is put down from `done` on; or 0.
+pub fn completes(
+    pack: &[u8],
+    places: &[usize],
+    p: Shape,
+    work: &mut [u8],
+    slot: usize,
+    list: &mut [u8],
+    done: usize,
+    e: Nesting,
+    k: Foresight,
+    left: usize,
+    base: usize,
+) -> usize
+    requires { ⌜ Staged (now pack) (now places) p (now work) (slotTable p (now work) slot) (slot + 961) × (0 < k .0) × (k .0 ≤ 6) × Free slot (1 + left + k .0 * e .0) × (done + left ≤ length (now list)) ⌝ }
+    ensures { λ r. ⌜ ((th : Theory) (T : List Node) → Stage th T (now (pack .entry)) (now (places .entry)) p (now (work .entry)) (slotTable p (now (work .entry)) slot) (slot + 961) → Best (Ends th (k .0) (e .0) base (meaning (p .characters) T 0)) left (now (list .entry)) (now (list .exit)) done (slot + 961) (now (work .entry)) (now (work .exit)) r) ⌝ }
+{
+    if left == 0 {
+        return ends(pack, places, p, work, slot, base);
+    }
+    let mut x = 0;
+    while x < p.actions {
+        let after = completes_by(
+            pack,
+            places,
+            p,
+            work,
+            slot,
+            list,
+            done,
+            x,
+            e,
+            k,
+            left - 1,
+            base,
+        );
+        if after != 0 {
+            return after;
+        }
+        x += 1;
+    }
+    0
+}
+
+// The author's utility in the state in a slot where it is above base, or 0.
+pub fn ends(pack: &[u8], places: &[usize], p: Shape, work: &[u8], slot: usize, base: usize) -> usize
+    requires { ⌜ Staged (now pack) (now places) p (now work) (slotTable p (now work) slot) (slot + 961) × Free slot 1 ⌝ }
+    ensures { λ r. ⌜ ((th : Theory) (T : List Node) → Stage th T (now (pack .entry)) (now (places .entry)) p (now (work .entry)) (slotTable p (now (work .entry)) slot) (slot + 961) → (base < authorUtility th (meaning (p .characters) T 0) → r ≡ authorUtility th (meaning (p .characters) T 0)) × (authorUtility th (meaning (p .characters) T 0) ≤ base → r ≡ 0)) ⌝ }
+{
+    let t = Table {
+        rows: slot + 1,
+        nodes: wide(work[slot]),
+        fluents: p.fluents,
+        characters: p.characters,
+        width: p.fluents + p.characters,
+    };
+    let worth = utility(pack, places[320], work, t, 0);
+    if base < worth { worth } else { 0 }
+}
+
+// As `completes`, of the lists of one action more that begin with x.
+pub fn completes_by(
+    pack: &[u8],
+    places: &[usize],
+    p: Shape,
+    work: &mut [u8],
+    slot: usize,
+    list: &mut [u8],
+    done: usize,
+    x: usize,
+    e: Nesting,
+    k: Foresight,
+    left: usize,
+    base: usize,
+) -> usize
+    requires { ⌜ Staged (now pack) (now places) p (now work) (slotTable p (now work) slot) (slot + 961) × (x < p .actions) × (0 < k .0) × (k .0 ≤ 6) × Free slot (2 + left + k .0 * e .0) × (done + suc left ≤ length (now list)) ⌝ }
+    ensures { λ r. ⌜ ((th : Theory) (T : List Node) → Stage th T (now (pack .entry)) (now (places .entry)) p (now (work .entry)) (slotTable p (now (work .entry)) slot) (slot + 961) → Best (EndsBy th (k .0) (e .0) base x (meaning (p .characters) T 0)) (suc left) (now (list .entry)) (now (list .exit)) done (slot + 961) (now (work .entry)) (now (work .exit)) r) ⌝ }
+{
+    let t = Table {
+        rows: slot + 1,
+        nodes: wide(work[slot]),
+        fluents: p.fluents,
+        characters: p.characters,
+        width: p.fluents + p.characters,
+    };
+    let agreed = allowed(
+        pack,
+        places,
+        p,
+        work,
+        t,
+        0,
+        slot + 961,
+        p.characters,
+        x,
+        e,
+        k,
+    );
+    if !agreed {
+        return 0;
+    }
+    let number = step_slot(pack, places, p.triggers, x, work, t, 0, slot + 961);
+    if number != 0 {
+        return 0;
+    }
+    let after = completes(
+        pack,
+        places,
+        p,
+        work,
+        slot + 961,
+        list,
+        done + 1,
+        e,
+        k,
+        left,
+        base,
+    );
+    if after != 0 {
+        list[done] = x as u8;
+    }
+    after
+}
+
+// The shortest list of 1 to T actions from the state in the first slot, and of those the earliest.
+pub fn shortest(
+    pack: &[u8],
+    places: &[usize],
+    p: Shape,
+    work: &mut [u8],
+    list: &mut [u8],
+    s: Story,
+    e: Nesting,
+    k: Foresight,
+    base: usize,
+) -> Ended
+    requires { ⌜ Staged (now pack) (now places) p (now work) (slotTable p (now work) 0) 961 × (0 < k .0) × (k .0 ≤ 6) × (e .0 ≤ 3) × (s .0 ≤ 8) × (8 ≤ length (now list)) ⌝ }
+    ensures { λ r. ⌜ ((th : Theory) (T : List Node) → Stage th T (now (pack .entry)) (now (places .entry)) p (now (work .entry)) (slotTable p (now (work .entry)) 0) 961 → Shortest (Ends th (k .0) (e .0) base (meaning (p .characters) T 0)) (s .0) (now (list .entry)) (now (list .exit)) (now (work .entry)) (now (work .exit)) r) ⌝ }
+{
+    let mut n = 1;
+    while n <= s.0 {
+        let after = completes(pack, places, p, work, 0, list, 0, e, k, n, base);
+        if after != 0 {
+            return Ended { length: n, after };
+        }
+        n += 1;
+    }
+    Ended {
+        length: 0,
+        after: 0,
+    }
+}
+
+// Whether T, K and E are within their limits.
+pub fn limits(story: usize, foresight: usize, nesting: usize) -> bool
+    ensures { λ r. ⌜ r ≡ (storyLimit story && (foresightLimit foresight && nestingLimit nesting)) ⌝ }
+{
+    if within(story, 1, 8) {
+        if within(foresight, 1, 6) {
+            nesting <= 3
+        } else {
+            false
+        }
+    } else {
+        false
+    }
+}
+
+// The search from what node 0 means of the nodes that are read from `first` on. The work buffer is cleared.
+pub fn search_nodes(
+    pack: &[u8],
+    places: &[usize],
+    p: Shape,
+    first: usize,
+    nodes: usize,
+    s: Story,
+    e: Nesting,
+    k: Foresight,
+    list: &mut [u8],
+    work: &mut [u8],
+) -> Found
+    requires { ⌜ Seekable (now pack) (now places) p first nodes (s .0) (e .0) (k .0) (now list) (now work) ⌝ }
+    ensures { λ r. ⌜ ((th : Theory) (T : List Node) → Seeking th T (now (pack .entry)) (now (places .entry)) p first nodes (s .0) (e .0) (k .0) (now (list .entry)) (now (work .entry)) → SearchPut th (k .0) (s .0) (e .0) (meaning (p .characters) T 0) (now (list .entry)) (now (list .exit)) (now (work .entry)) (now (work .exit)) r) ⌝ }
+{
+    copy_table(pack, first, nodes, work, 0, p.fluents, p.characters);
+    let t = Table {
+        rows: 1,
+        nodes,
+        fluents: p.fluents,
+        characters: p.characters,
+        width: p.fluents + p.characters,
+    };
+    let base = utility(pack, places[320], work, t, 0);
+    let found = shortest(pack, places, p, work, list, s, e, k, base);
+    clear(work, 0, 49152);
+    if found.length == 0 {
+        return Found::Refused(13, 0);
+    }
+    Found::Ending(found.length, base, found.after)
+}
+
+// Search(pack, T, K, E, list out, work): the length of the list, which is written, and both utilities, or a refusal's number and place.
+pub fn search(
+    pack: &[u8],
+    story: usize,
+    foresight: usize,
+    nesting: usize,
+    list: &mut [u8],
+    work: &mut [u8],
+) -> Found
+    ensures { λ r. ⌜ Searching (now (pack .entry)) story foresight nesting (now (list .entry)) (now (work .entry)) (now (list .exit)) (now (work .exit)) r ⌝ }
+{
+    let mut places = [0usize; 327];
+    let p = read_pack(pack, &mut places);
+    let answer = p.answer;
+    let nodes = unless_refused(answer, p.nodes, 0);
+    let enough = both_fit(list.len(), 8, work.len(), 49152);
+    let there = limits(story, foresight, nesting);
+    match check_lent(nodes, enough, there) {
+        Number::Refused(k, at) => Found::Refused(k, at),
+        Number::Is(_, _) => {
+            let shape = Shape {
+                actions: p.actions,
+                triggers: p.triggers,
+                fluents: p.fluents,
+                characters: p.characters,
+            };
+            search_nodes(
+                pack,
+                &places,
+                shape,
+                p.first,
+                p.nodes,
+                Story(story),
+                Nesting(nesting),
+                Foresight(foresight),
+                list,
+                work,
+            )
+        }
+    }
+}
