@@ -15,29 +15,45 @@ use Rattle.pack.specs.Condition as condition
 use Rattle.pack.specs.Judge.{Over, Judged}
 use Rattle.pack.specs.Table.{stateOf, Below, Above}
 use Rattle.pack.specs.declared.table.Table.{Table}
+use Rattle.chart.specs.Call.{workRoom}
 use Rattle.chart.specs.Earliest.{Before}
 use Rattle.chart.specs.Laws.Lists.{place}
 use Rattle.transition.specs.Happening.{nothing, Plays, actionOf}
 use Rattle.transition.specs.Laws.Settled.{plays-one}
 use Rattle.planner.specs.declared.explain.Shape.{Shape}
 use Rattle.planner.specs.Ending.{Leads, Explained, authorUtility}
-use Rattle.planner.specs.Inner.Explain.{Stage, Agreed}
-use Rattle.planner.specs.Inner.Search.{All, Ends, EndsBy, Put, Chosen, Best}
+use Rattle.planner.specs.Inner.Lists.{Agreed, All, Ends, EndsBy}
+use Rattle.planner.specs.Inner.Memory.{memoryAt, Fact}
+use Rattle.planner.specs.Inner.Explain.{Stage}
+use Rattle.planner.specs.Inner.Search.{Put, Chosen, Best}
 use Rattle.planner.specs.Laws.Explaining.{Agreeing}
 use Rattle.planner.proofs.Telling.{consenter-below}
 
 -- none found
-pub best-none : {Good : List ℕ → ℕ → Type 0} {n : ℕ} (was : List ℕ) {done slot : ℕ} {work work′ : List ℕ} → Below work work′ slot → Above work work′ 43470 → ((list : List ℕ) (v : ℕ) → length list ≡ n → ¬ Good list v) → Best Good n was was done slot work work′ 0
-best-none was low high f = record { none = λ e. (refl, f); some = λ l. absurd (omega arith); low = low; high = high }
+pub best-none : {M : List ℕ → Type 0} {Good : List ℕ → ℕ → Type 0} {n : ℕ} (was : List ℕ) {done slot : ℕ} {work work′ : List ℕ} → Below work work′ slot → Above work work′ workRoom → M work′ → ((list : List ℕ) (v : ℕ) → length list ≡ n → ¬ Good list v) → Best M Good n was was done slot work work′ 0
+best-none was low high m f = record { memory = m; none = λ e. (refl, f); some = λ l. absurd (omega arith); low = low; high = high }
+
+-- more is put into the memory
+pub best-noted : {M : List ℕ → Type 0} {Good : List ℕ → ℕ → Type 0} {n : ℕ} {was now : List ℕ} {at slot : ℕ} {work mid work′ : List ℕ} {r : ℕ} → Best M Good n was now at slot work mid r → slot ≤ memoryAt → Below mid work′ memoryAt → Above mid work′ workRoom → M work′ → Best M Good n was now at slot work work′ r
+best-noted b le low high m = record { none = b .none; some = b .some; low = λ q l. low q (omega arith) ∙ b .low q l; high = λ q l. high q l ∙ b .high q l; memory = m }
+
+-- one action more than the rest
+pub best-same : {M : List ℕ → Type 0} {Good : List ℕ → ℕ → Type 0} {n n′ : ℕ} {was now : List ℕ} {at slot : ℕ} {work work′ : List ℕ} {r : ℕ} → n ≡ n′ → Best M Good n was now at slot work work′ r → Best M Good n′ was now at slot work work′ r
+best-same {M} {Good} {n} {n′} {was} {now} {at} {slot} {work} {work′} {r} e b = subst (λ (n : ℕ). Best M Good n was now at slot work work′ r) e b
 
 module _ (th : Theory) (K e base : ℕ) (s : State) where
+  -- that there is none is a fact
+  pub fact-of-none : {left who : ℕ} → ((list : List ℕ) (v : ℕ) → length list ≡ left → ¬ Ends th K e base s list v) → Fact th K 3 (record { who = who; nesting = e; left = left; base = base }) s
+  fact-of-none f = record { no = λ z. absurd (omega (arith, z)); yes = λ z. absurd (omega (arith, z)); none = λ z. f }
+
   abbrev U : ℕ
   U = authorUtility th s
 
   -- no action is left
-  pub best-end : (was : List ℕ) {at slot : ℕ} (work : List ℕ) {r : ℕ} → (base < U → r ≡ U) → (U ≤ base → r ≡ 0) → Best (Ends th K e base s) 0 was was at slot work work r
+  pub best-end : {M : List ℕ → Type 0} (was : List ℕ) {at slot : ℕ} (work : List ℕ) {r : ℕ} → M work → (base < U → r ≡ U) → (U ≤ base → r ≡ 0) → Best M (Ends th K e base s) 0 was was at slot work work r
   unfolding Leads Before
-  best-end was {at} {slot} work {r} f g = record {
+  best-end was {at} {slot} work {r} m f g = record {
+    memory = m;
     none = λ z. (refl, λ list v l q. not-one z list v l q);
     some = λ l.
         let above : base < U = omega (arith, by-cases′ l) in
@@ -57,10 +73,11 @@ module _ (th : Theory) (K e base : ℕ) (s : State) where
       short other l b = b
 
   -- action x, of none before which a list can begin
-  pub best-first : {n x : ℕ} {was now : List ℕ} {at slot : ℕ} {work mid work′ : List ℕ} {r : ℕ} → Below work mid slot → Above work mid 43470 → ((y : ℕ) → y < x → (list : List ℕ) (v : ℕ) → length list ≡ suc n → ¬ EndsBy th K e base y s list v)
-      → 0 < r → Best (EndsBy th K e base x s) (suc n) was now at slot mid work′ r → Best (Ends th K e base s) (suc n) was now at slot work work′ r
+  pub best-first : {M : List ℕ → Type 0} {n x : ℕ} {was now : List ℕ} {at slot : ℕ} {work mid work′ : List ℕ} {r : ℕ} → Below work mid slot → Above work mid workRoom → ((y : ℕ) → y < x → (list : List ℕ) (v : ℕ) → length list ≡ suc n → ¬ EndsBy th K e base y s list v)
+      → 0 < r → Best M (EndsBy th K e base x s) (suc n) was now at slot mid work′ r → Best M (Ends th K e base s) (suc n) was now at slot work work′ r
   unfolding Leads Before
-  best-first {n} {x} {was} {now} {at} {slot} {work} {mid} {work′} {r} low high f l b = record {
+  best-first {M} {n} {x} {was} {now} {at} {slot} {work} {mid} {work′} {r} low high f l b = record {
+    memory = b .memory;
     none = λ z. absurd (omega arith);
     some = λ h. let (list, c, put) = b .some h in (list, record { long = c .long; good = whole (c .good); earliest = λ other v l q. earlier list c other v l q }, put);
     low = λ q l. b .low q l ∙ low q l;
@@ -89,18 +106,20 @@ module _ (th : Theory) (K e base : ℕ) (s : State) where
     same : {list : List ℕ} {v : ℕ} → EndsBy th K e base x s list v → (rest : List ℕ) × (list ≡ x ∷ rest) × Ends th K e base t rest v
     same {list} {v} (rest, q, (u, p, z, m)) = (rest, q, subst (λ (u : State). Ends th K e base u rest v) (plays-one p plays) m)
 
-    module _ (agreed : Agreeing th All (Explained th K e) s x (actionOf th x .consenters)) {n : ℕ} {was now : List ℕ} {at slot slot′ : ℕ} {work mid work′ : List ℕ} {r : ℕ} (le : slot ≤ slot′) (low : Below work mid slot) (high : Above work mid 43470) (b : Best (Ends th K e base t) n was now (at + 1) slot′ mid work′ r) where
-      pub best-by-none : r ≡ 0 → Best (EndsBy th K e base x s) (suc n) was now at slot work work′ r
+    module _ (agreed : Agreeing th All (Explained th K e) s x (actionOf th x .consenters)) {M : List ℕ → Type 0} {n : ℕ} {was now : List ℕ} {at slot slot′ : ℕ} {work mid work′ : List ℕ} {r : ℕ} (le : slot ≤ slot′) (low : Below work mid slot) (high : Above work mid workRoom) (b : Best M (Ends th K e base t) n was now (at + 1) slot′ mid work′ r) where
+      pub best-by-none : r ≡ 0 → Best M (EndsBy th K e base x s) (suc n) was now at slot work work′ r
       best-by-none e = record {
+        memory = b .memory;
         none = λ q. (b .none e .0, λ list v l q. let (rest, is, m) = same q in b .none e .1 rest v (omega (arith, l, ap length is)) m);
         some = λ l. absurd (omega (arith, e, l));
         low = λ q l. b .low q (omega arith) ∙ low q l;
         high = λ q l. b .high q l ∙ high q l;
       }
 
-      pub best-by : 0 < r → {then : List ℕ} → getD then at 0 ≡ x → ((q : ℕ) → q ≢ at → getD then q 0 ≡ getD now q 0) → Best (EndsBy th K e base x s) (suc n) was then at slot work work′ r
+      pub best-by : 0 < r → {then : List ℕ} → getD then at 0 ≡ x → ((q : ℕ) → q ≢ at → getD then q 0 ≡ getD now q 0) → Best M (EndsBy th K e base x s) (suc n) was then at slot work work′ r
       unfolding Before
       best-by l {then} here else = record {
+        memory = b .memory;
         none = λ q. absurd (omega arith);
         some = λ l.
             let (list, c, p) = b .some l in (

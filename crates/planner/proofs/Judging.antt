@@ -1,5 +1,5 @@
 -- Explained: what the checks leave, as the verdict asks it, and what it gives. Assumes nothing.
-use Prim.Native.Nat.{ℕ, _+_, _*_, _≤_}
+use Prim.Native.Nat.{ℕ, _+_, _*_, _/_, _≤_}
 use mathlib.Core.Path.{_≡_, refl, sym, ap, ap₂, _∙_, subst}
 use mathlib.Core.Bool.{Bool, true, false, _&&_}
 use mathlib.Core.List.{List, [], _∷_, map}
@@ -14,6 +14,7 @@ use Rattle.pack.specs.Reading.{Reply, gives, with, told}
 use Rattle.pack.specs.Grammar.{packOf}
 use Rattle.pack.specs.Copy.{TableCopyable, TableCopied}
 use Rattle.pack.specs.Contents.{PackRead, replied, repliedCount}
+use Rattle.pack.specs.Table.{Above}
 use Rattle.pack.specs.Laws.Exact.{Bytes}
 use Rattle.pack.specs.declared.contents.Contents.{Contents}
 use Rattle.pack.specs.declared.number.Number.{Number}
@@ -37,6 +38,9 @@ use Rattle.planner.specs.Answers.{explainedTable}
 use Rattle.planner.specs.Replies.{foresightLimit, nestingLimit, explainedReply}
 use Rattle.planner.specs.Promises.{Judgement}
 use Rattle.planner.specs.Laws.Answers.{explained-table-iff}
+use Rattle.planner.specs.Inner.Memory.{memoryAt, Memory}
+use Rattle.planner.proofs.Remembering.{laid-by, memory-clear}
+use Rattle.planner.proofs.Telling.{stage-same}
 use Rattle.planner.specs.Inner.Explain.{Stage, Free, Told, Judging, Judgeable, Verdict}
 
 module _ {th : Theory} {T : List Node} {pack places : List ℕ} {h : Shape} {chart : List ℕ} {nodes c a K e : ℕ} {work : List ℕ} (x : Judging th T pack places h chart nodes c a K e work) where
@@ -76,10 +80,22 @@ module _ {th : Theory} {T : List Node} {pack places : List ℕ} {h : Shape} {cha
       same-characters = refl;
       behind = omega (arith, table-size);
       room = omega (arith, y .long, x .room);
+      laid = x .laid;
     }
 
-    pub judge-verdict : {P : Type 0} {mid′ now : List ℕ} {r : Bool} → Told 961 mid mid′ r P → Cleared mid′ now 0 workRoom → length now ≡ length work → Verdict P work now r
-    judge-verdict told cl long = record { sound = told .sound; complete = told .complete; scratch = cleared-all work cl (λ q g. told .high q (omega arith) ∙ y .above q (omega (arith, table-size))) long (x .room) }
+    -- the memory is empty then
+    module _ {then : List ℕ} (cl : Cleared mid then memoryAt 5682) (long : length then ≡ length mid) where
+      pub judge-ready : Stage th T pack places h then judgeFrom 961
+      judge-ready = stage-same judge-stage (λ q l. cl .low q (omega arith)) long
+
+      pub judge-memory : Memory th K h then
+      judge-memory = memory-clear h th K (x .laid) (omega arith) cl
+
+      pub judge-high : Above mid then workRoom
+      judge-high q l = cl .high q (omega arith)
+
+    pub judge-verdict : {M : List ℕ → Type 0} {P : Type 0} {then mid′ now : List ℕ} {r : Bool} → Above mid then workRoom → Told M 961 then mid′ r P → Cleared mid′ now 0 workRoom → length now ≡ length work → Verdict P work now r
+    judge-verdict high told cl long = record { sound = told .sound; complete = told .complete; scratch = cleared-all work cl (λ q g. told .high q g ∙ high q g ∙ y .above q (omega (arith, table-size))) long (x .room) }
 
 module _ {pack places : List ℕ} (chart : List ℕ) (c a K e : ℕ) (work : List ℕ) {p : Contents} (got : PackRead pack places p) (nodes : Number) (under : repliedCount nodes ≡ with (replied (p .answer)) (λ u. counted p chart))
     (there : Bool) (here : there ≡ (ltb c (p .characters) && (ltb a (p .actions) && (foresightLimit K && nestingLimit e)))) (r : Number) (says : repliedCount r ≡ with (repliedCount nodes) (λ v. lent (fits workRoom work) there (gives v))) where
@@ -104,7 +120,7 @@ module _ {pack places : List ℕ} (chart : List ℕ) (c a K e : ℕ) (work : Lis
       let z = refused-by (chart ∷ []) got (fits workRoom work) there wanted in-range verdictOf (λ ns. getD ns 0 0) (repliedCount r) agrees k q (ap repliedCount z) in
       record { answer = sym (z .0); scratch = left-alone theReply work k q z }
 
-  module _ (pack-bytes : Bytes pack) (chart-bytes : Bytes chart) (marked : 327 ≤ length places) (n m : ℕ) (q : r ≡ numbers.Is n m) where
+  module _ (pack-bytes : Bytes pack) (chart-bytes : Bytes chart) (marked : 327 ≤ length places) (n m : ℕ) (q : r ≡ numbers.Is n m) (entry : ℕ) (sized : (7 ≤ entry) × (entry ≤ 967)) where
     accepted-now : (ns : List ℕ) × (getD ns 0 0 ≡ n) × ((x : Accepted pack places (chart ∷ []) p ns (fits workRoom work) there) × (theReply ≡ verdictOf (x .thePack) (x .tables)))
     unfolding explainedReply
     accepted-now = accepted-by (chart ∷ []) got (fits workRoom work) there wanted in-range verdictOf (λ ns. getD ns 0 0) (repliedCount r) agrees n (ap repliedCount q)
@@ -121,7 +137,7 @@ module _ {pack places : List ℕ} (chart : List ℕ) (c a K e : ℕ) (work : Lis
         nodes-read (x .accepted) (x .found) (first .read) (ap (λ (l : List (List Node)). getD (map length l) 0 0) (sym (first .same)) ∙ ap (λ (l : List ℕ). getD l 0 0) (x .long) ∙ g)
 
     abbrev pub shape : Shape
-    shape = record { actions = p .actions; triggers = p .triggers; fluents = p .fluents; characters = p .characters }
+    shape = record { actions = p .actions; triggers = p .triggers; fluents = p .fluents; characters = p .characters; entries = 5682 / entry; entry = entry }
 
     ready : Judging theory (first .table) pack places shape chart n c a K e work
     ready =
@@ -140,6 +156,7 @@ module _ {pack places : List ℕ} (chart : List ℕ) (c a K e : ℕ) (work : Lis
           foreseen = (leb-true 1 K low, leb-true K 6 high);
           nested = leb-true e 3 nesting;
           room = leb-true workRoom (length work) (x .enough-there);
+          laid = laid-by shape refl sized;
         }
 
     pub judge-able : Judgeable pack places shape chart n c a K e work

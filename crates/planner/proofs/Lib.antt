@@ -1,4 +1,5 @@
 -- The modules of `proofs/` that belong to no one function.
+pub mod Remembering
 pub mod Telling
 pub mod Judging
 pub mod Completing

@@ -1,5 +1,5 @@
 -- Search: length after length; what the checks leave, as the search asks it, and what it gives. Assumes nothing.
-use Prim.Native.Nat.{ℕ, _+_, _*_, _<_, _≤_}
+use Prim.Native.Nat.{ℕ, _+_, _*_, _/_, _<_, _≤_}
 use mathlib.Core.Path.{_≡_, refl, sym, ap, ap₂, _∙_, subst}
 use mathlib.Core.Logic.{by-cases}
 use mathlib.Core.Bool.{Bool, _&&_}
@@ -48,17 +48,21 @@ use Rattle.planner.specs.Answers.{searchTable}
 use Rattle.planner.specs.Replies.{storyLimit, foresightLimit, nestingLimit, Plan, answerReply, searchReply}
 use Rattle.planner.specs.Promises.{summary, Searching}
 use Rattle.planner.specs.Laws.Answers.{search-table-iff}
-use Rattle.planner.specs.Inner.Explain.{slotTable, Stage}
-use Rattle.planner.specs.Inner.Search.{Ends, Chosen, Best, Shortest, Seeking, Seekable, SearchPut}
+use Rattle.planner.specs.Inner.Lists.{slotTable, Ends}
+use Rattle.planner.specs.Inner.Explain.{Stage}
+use Rattle.planner.specs.Inner.Memory.{memoryAt, Memory}
+use Rattle.planner.proofs.Remembering.{laid-by, memory-clear}
+use Rattle.planner.proofs.Telling.{stage-same}
+use Rattle.planner.specs.Inner.Search.{Chosen, Best, Shortest, Seeking, Seekable, SearchPut}
 
 module _ {Good : List ℕ → ℕ → Type 0} where
   -- no list of fewer than n actions, and none of n
   pub shorter : {n : ℕ} → ((l : List ℕ) (v : ℕ) → 0 < length l → length l < n → ¬ Good l v) → ((l : List ℕ) (v : ℕ) → length l ≡ n → ¬ Good l v) → (l : List ℕ) (v : ℕ) → 0 < length l → length l < n + 1 → ¬ Good l v
   shorter {n} f g l v h k = by-cases (ℕ-discrete (length l) n) (λ e. g l v e) (λ e. f l v h (omega (arith, e)))
 
-  module _ {story : ℕ} {was work mid : List ℕ} (low : Below work mid 961) (high : Above work mid 43470) where
-    pub shortest-found : {n : ℕ} {work′ now : List ℕ} {r : ℕ} → 0 < n → n ≤ story → ((l : List ℕ) (v : ℕ) → 0 < length l → length l < n → ¬ Good l v) → 0 < r → Best Good n was now 0 961 mid work′ r → Shortest Good story was now work work′ (record { length = n; after = r })
-    shortest-found {n} pos le f l b = record {
+  module _ {story : ℕ} {was work mid : List ℕ} (low : Below work mid 961) (high : Above work mid workRoom) where
+    pub shortest-found : {M : List ℕ → Type 0} {n : ℕ} {work′ now : List ℕ} {r : ℕ} → 0 < n → n ≤ story → ((l : List ℕ) (v : ℕ) → 0 < length l → length l < n → ¬ Good l v) → 0 < r → Best M Good n was now 0 961 mid work′ r → Shortest Good story was now work work′ (record { length = n; after = r })
+    shortest-found {M} {n} pos le f l b = record {
       none = λ e. absurd (omega (arith, e));
       some = λ h. b .some l;
       within = le;
@@ -112,17 +116,29 @@ module _ {th : Theory} {T : List Node} {pack places : List ℕ} {h : Shape} {fir
       same-characters = refl;
       behind = omega (arith, table-size);
       room = omega (arith, y .long, x .room);
+      laid = x .laid;
     }
 
-    pub seek-slot : Stage th T pack places h mid (slotTable h mid 0) 961
-    seek-slot = subst (λ (n : ℕ). Stage th T pack places h mid (record { rows = 1; nodes = n; fluents = f; characters = C; width = f + C }) 961) (sym (y .count)) seek-stage
+    -- the memory is empty then
+    module _ {then : List ℕ} (cl : Cleared mid then memoryAt 5682) (long : length then ≡ length mid) where
+      pub seek-ready : Stage th T pack places h then seekFrom 961
+      seek-ready = stage-same seek-stage (λ q l. cl .low q (omega arith)) long
 
-    module _ {base : ℕ} (is : base ≡ authorUtility th (meaning C T 0)) {list′ work′ now : List ℕ} {r : Ended} (z : Shortest (Ends th foresight nesting base (meaning C T 0)) story list list′ mid work′ r) (cl : Cleared work′ now 0 workRoom) (long : length now ≡ length work) (listed : length list′ ≡ length list) where
+      pub seek-slot : Stage th T pack places h then (slotTable h then 0) 961
+      seek-slot = subst (λ (n : ℕ). Stage th T pack places h then (record { rows = 1; nodes = n; fluents = f; characters = C; width = f + C }) 961) (sym (cl .low 0 (omega arith) ∙ y .count)) seek-ready
+
+      pub seek-memory : Memory th foresight h then
+      seek-memory = memory-clear h th foresight (x .laid) (omega arith) cl
+
+      pub seek-high : Above mid then workRoom
+      seek-high q l = cl .high q (omega arith)
+
+    module _ {base : ℕ} (is : base ≡ authorUtility th (meaning C T 0)) {then list′ work′ now : List ℕ} {r : Ended} (high : Above mid then workRoom) (z : Shortest (Ends th foresight nesting base (meaning C T 0)) story list list′ then work′ r) (cl : Cleared work′ now 0 workRoom) (long : length now ≡ length work) (listed : length list′ ≡ length list) where
       abbrev s : State
       s = meaning C T 0
 
       all-clear : now ≡ cleared work
-      all-clear = cleared-all work cl (λ q g. z .high q (omega arith) ∙ y .above q (omega (arith, table-size))) long (x .room)
+      all-clear = cleared-all work cl (λ q g. z .high q g ∙ high q g ∙ y .above q (omega (arith, table-size))) long (x .room)
 
       -- an ending is such a list
       ends : {other : List ℕ} → (e : Ending th foresight story nesting s other) → Ends th foresight nesting base s other (authorUtility th (e .end))
@@ -206,7 +222,7 @@ module _ {pack places : List ℕ} (T K E : ℕ) (list work : List ℕ) {p : Cont
         scratch = left-alone theReply work k q z;
       }
 
-  module _ (bytes : Bytes pack) (marked : 327 ≤ length places) (n m : ℕ) (e : r ≡ numbers.Is n m) where
+  module _ (bytes : Bytes pack) (marked : 327 ≤ length places) (n m : ℕ) (e : r ≡ numbers.Is n m) (entry : ℕ) (sized : (7 ≤ entry) × (entry ≤ 967)) where
     accepted-now : (ns : List ℕ) × (p .nodes ≡ n) × ((x : Accepted pack places [] p ns room there) × (theReply ≡ planOf (x .thePack) (x .tables)))
     unfolding searchReply
     accepted-now = accepted-by [] got room there wanted (λ x e. within) planOf (λ ns. p .nodes) (repliedCount r) agrees n (ap repliedCount e)
@@ -218,7 +234,7 @@ module _ {pack places : List ℕ} (T K E : ℕ) (list work : List ℕ) {p : Cont
     theNodes = accepted-now .2 .0 .thePack .nodes
 
     abbrev pub seekShape : Shape
-    seekShape = record { actions = p .actions; triggers = p .triggers; fluents = p .fluents; characters = p .characters }
+    seekShape = record { actions = p .actions; triggers = p .triggers; fluents = p .fluents; characters = p .characters; entries = 5682 / entry; entry = entry }
 
     fit : ChartFits (theory .characters) (theory .domains) theNodes
     fit = let y = accepted-now .2 .0 in pack-exactly pack bytes (y .thePack) .0 (y .accepted) .0 .nodes
@@ -246,6 +262,7 @@ module _ {pack places : List ℕ} (T K E : ℕ) (list work : List ℕ) {p : Cont
           nested = leb-true E 3 nesting;
           list-room = leb-true listRoom (length list) list-room;
           room = leb-true workRoom (length work) work-room;
+          laid = laid-by seekShape refl sized;
         }
 
     pub search-able : Seekable pack places seekShape (p .first) (p .nodes) T E K list work

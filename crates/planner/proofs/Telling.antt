@@ -10,12 +10,12 @@ use native.Mathlib.Omega.{arith}
 use lib.ListN.{length, getD}
 use lib.Dec.{ltb}
 use borrow.Author.Count.{below-more}
-use Rattle.pack.specs.Syntax.{Node, Theory, Rule}
+use Rattle.pack.specs.Syntax.{Node, Theory, Rule, Condition}
 use Rattle.pack.specs.State.{State, belief, meaning, target}
 use Rattle.pack.specs.Reading.{Reader, done, refused, pick, bind, mapped, runs}
 use Rattle.pack.specs.Number.{item, between, risingAt}
 use Rattle.pack.specs.Answer.{dims}
-use Rattle.pack.specs.Grammar.{Dimensions, consentersAt, rulesAt}
+use Rattle.pack.specs.Grammar.{Dimensions, conditionAt, consentersAt, rulesAt}
 use Rattle.pack.specs.Condition as condition
 use Rattle.pack.specs.Contents.{Gives}
 use Rattle.pack.specs.Judge.{Over, Judged, Small, Readable}
@@ -26,6 +26,7 @@ use Rattle.pack.specs.declared.table.Table.{Table}
 use Rattle.pack.proofs.Laws.{between-within}
 use Rattle.pack.proofs.OneByte.{consenter-bytes}
 use Rattle.pack.proofs.Tables.{rows-length}
+use Rattle.chart.specs.Call.{workRoom}
 use Rattle.chart.specs.Chart.{Starts}
 use Rattle.chart.specs.Laws.Lists.{stands, place}
 use Rattle.chart.specs.Laws.Unique.{some}
@@ -34,24 +35,29 @@ use Rattle.transition.specs.Laws.Settled.{plays-one, plays-refuses}
 use Rattle.transition.specs.Inner.Cause.{Tabled}
 use Rattle.transition.specs.Inner.Stage.{StageRoom, SlotOnly}
 use Rattle.transition.specs.Inner.Play.{Setting, Left, PlayedIn}
+use Rattle.transition.proofs.Playing.{play-judged, play-forbidden}
 use Rattle.transition.proofs.Changing.{tabled-same, small, row-inside, belief-is, belief-in as inside-table}
 use Rattle.planner.specs.declared.explain.Shape.{Shape}
+use Rattle.planner.specs.declared.memory.Key.{Key}
 use Rattle.planner.specs.Ending.{Leads, Explained, utilityTo}
-use Rattle.planner.specs.Inner.Explain.{slotTable, Stage, Free, Told, Other, AboveBy, Agreed}
-use Rattle.planner.specs.Inner.Explain as inner
+use Rattle.planner.specs.Inner.Lists.{slotTable, Other, AboveBy, AboveBySome, Agreed}
+use Rattle.planner.specs.Inner.Lists as inner
+use Rattle.planner.specs.Inner.Memory.{Memory, Slotted, Fact}
+use Rattle.planner.specs.Inner.Explain.{Stage, Free, Told}
+use Rattle.planner.proofs.Remembering.{memory-same, fact-same}
 
 -- Told: passed on
-pub told-none : {slot : ℕ} (was : List ℕ) {P : Type 0} → (P → ⊥) → Told slot was was false P
-told-none was f = record { sound = λ e. let z : _≡_ {A = ℕ} 0 1 = ap (λ (b : Bool). pick b 1 0) e in absurd (omega arith); complete = λ e x. f x; low = λ q l. refl; high = λ q l. refl }
+pub told-none : {M : List ℕ → Type 0} {slot : ℕ} (was : List ℕ) {P : Type 0} → M was → (P → ⊥) → Told M slot was was false P
+told-none was m f = record { memory = m; sound = λ e. let z : _≡_ {A = ℕ} 0 1 = ap (λ (b : Bool). pick b 1 0) e in absurd (omega arith); complete = λ e x. f x; low = λ q l. refl; high = λ q l. refl }
 
-pub told-by : {slot slot′ : ℕ} {was mid now : List ℕ} {r : Bool} {P Q : Type 0} → slot ≤ slot′ → Below was mid slot → Above was mid 43470 → Told slot′ mid now r P → (P → Q) → (Q → P) → Told slot was now r Q
-told-by le low high t f g = record { sound = λ e. f (t .sound e); complete = λ e x. t .complete e (g x); low = λ q l. t .low q (omega arith) ∙ low q l; high = λ q l. t .high q l ∙ high q l }
+pub told-by : {M : List ℕ → Type 0} {slot slot′ : ℕ} {was mid now : List ℕ} {r : Bool} {P Q : Type 0} → slot ≤ slot′ → Below was mid slot → Above was mid workRoom → Told M slot′ mid now r P → (P → Q) → (Q → P) → Told M slot was now r Q
+told-by le low high t f g = record { memory = t .memory; sound = λ e. f (t .sound e); complete = λ e x. t .complete e (g x); low = λ q l. t .low q (omega arith) ∙ low q l; high = λ q l. t .high q l ∙ high q l }
 
-pub told-no : {slot : ℕ} {was now : List ℕ} {P : Type 0} → Below was now slot → Above was now 43470 → (P → ⊥) → Told slot was now false P
-told-no low high f = record { sound = λ e. let z : _≡_ {A = ℕ} 0 1 = ap (λ (b : Bool). pick b 1 0) e in absurd (omega arith); complete = λ e x. f x; low = low; high = high }
+pub told-no : {M : List ℕ → Type 0} {slot : ℕ} {was now : List ℕ} {P : Type 0} → Below was now slot → Above was now workRoom → M now → (P → ⊥) → Told M slot was now false P
+told-no low high m f = record { memory = m; sound = λ e. let z : _≡_ {A = ℕ} 0 1 = ap (λ (b : Bool). pick b 1 0) e in absurd (omega arith); complete = λ e x. f x; low = low; high = high }
 
-pub told-yes : {slot : ℕ} {was now : List ℕ} {P : Type 0} → Below was now slot → Above was now 43470 → P → Told slot was now true P
-told-yes low high x = record { sound = λ e. x; complete = λ e y. let z : _≡_ {A = ℕ} 0 1 = ap (λ (b : Bool). pick b 0 1) e in omega arith; low = low; high = high }
+pub told-yes : {M : List ℕ → Type 0} {slot : ℕ} {was now : List ℕ} {P : Type 0} → Below was now slot → Above was now workRoom → M now → P → Told M slot was now true P
+told-yes low high m x = record { memory = m; sound = λ e. x; complete = λ e y. let z : _≡_ {A = ℕ} 0 1 = ap (λ (b : Bool). pick b 0 1) e in omega arith; low = low; high = high }
 
 module _ {th : Theory} {T : List Node} {pack places : List ℕ} {h : Shape} {was : List ℕ} {t : Table} {slot : ℕ} (x : Stage th T pack places h was t slot) where
   abbrev C : ℕ
@@ -65,10 +71,19 @@ module _ {th : Theory} {T : List Node} {pack places : List ℕ} {h : Shape} {was
     same-characters = x .same-characters;
     behind = x .behind;
     room = omega (arith, long, x .room);
+    laid = x .laid;
   }
 
   pub stage-setting : Free slot 1 → Setting th T pack places (h .actions) (h .triggers) was t slot
   stage-setting f = record { theorized = x .theorized; tabled = x .tabled; room = record { source = omega (arith, x .behind, f); slot-room = omega (arith, f); room = x .room } }
+
+  -- an action's condition
+  module _ (f : Free slot 1) (root a : ℕ) (l : a < h .actions) (i : root < t .nodes) where
+    pub stage-condition : Judged conditionAt pack (getD places (9 * a) 0) t was root
+    stage-condition = play-judged (stage-setting f) l root i
+
+    pub stage-forbidden : {b : Bool} → ((d : Dimensions) → Over d t → (c : Condition) (n : ℕ) → conditionAt d pack (getD places (9 * a) 0) ≡ done c n → b ≡ condition.holds (stateOf t was root) c) → b ≡ false → (s : State) → Plays th (meaning C T root) a s → ⊥
+    stage-forbidden judged e s q = plays-refuses q (play-forbidden (stage-setting f) l root i judged e .refuses (λ z. omega (arith, z)))
 
   -- where utility rules are found
   pub stage-rules : (c root : ℕ) → c < C → root < t .nodes → (Judged rulesAt pack (getD places (321 + c) 0) t was root) × (321 + c < length places)
@@ -93,6 +108,12 @@ module _ {th : Theory} {T : List Node} {pack places : List ℕ} {h : Shape} {was
   module _ (root : ℕ) {now : List ℕ} {a r : ℕ} (y : PlayedIn th (meaning C T root) a t was now slot r) (f : Free slot 1) (long : length now ≡ length was) where
     pub step-low : Below was now slot
     step-low = y .only .low
+
+    pub step-high : Above was now workRoom
+    step-high q l = y .only .high q (omega arith)
+
+    pub step-memory : {K : ℕ} → Memory th K h was → Memory th K h now
+    step-memory {K} m = memory-same h th K (λ q l g. y .only .high q l) m
 
     pub step-none : r ≢ 0 → (s : State) → Plays th (meaning C T root) a s → ⊥
     step-none n s q = plays-refuses q (y .refuses n)
@@ -139,6 +160,7 @@ module _ {th : Theory} {T : List Node} {pack places : List ℕ} {h : Shape} {was
         same-characters = refl;
         behind = omega (arith, rows-small);
         room = omega (arith, long, x .room);
+        laid = x .laid;
       }
 
 -- What is explained, and what lists reach, by what is found out of their parts
@@ -289,3 +311,34 @@ pub slot-same : {th : Theory} {T : List Node} {pack places : List ℕ} {h : Shap
 slot-same {th} {T} {pack} {places} {h} {was} {now} slot x low long =
     let same : getD was slot 0 ≡ getD now slot 0 = sym (low slot (omega arith)) in
     subst (λ (n : ℕ). Stage th T pack places h now (record { rows = slot + 1; nodes = n; fluents = h .fluents; characters = h .characters; width = h .fluents + h .characters }) (slot + 961)) same (stage-same x low long)
+
+-- the table in a slot, as the memory has it
+module _ {th : Theory} {T : List Node} {pack places : List ℕ} {h : Shape} {work : List ℕ} (slot : ℕ) (x : Stage th T pack places h work (slotTable h work slot) (slot + 961)) where
+  pub stage-slotted : Free slot 1 → Slotted h work slot
+  stage-slotted f = record { laid = x .laid; narrow = omega (arith, small (x .tabled)); few = x .tabled .few; before = omega (arith, f); room = x .room }
+
+  stage-state : stateOf (slotTable h work slot) work 0 ≡ meaning (h .characters) T 0
+  stage-state = ap (λ (U : List Node). meaning (h .characters) U 0) (x .tabled .same)
+
+  pub known : {K m : ℕ} {k : Key} → Fact th K m k (stateOf (slotTable h work slot) work 0) → Fact th K m k (meaning (h .characters) T 0)
+  known {K} f = fact-same h th K refl refl stage-state f
+
+  pub note : {K m : ℕ} {k : Key} → Fact th K m k (meaning (h .characters) T 0) → Fact th K m k (stateOf (slotTable h work slot) work 0)
+  note {K} f = fact-same h th K refl refl (sym stage-state) f
+
+-- a state that is not above itself, by what follows it
+module _ (th : Theory) (K e c base left : ℕ) (s : State) (some : 0 < left) (here : base < utilityTo th c s → ⊥) {M : List ℕ → Type 0} {slot : ℕ} {was now : List ℕ} {r : Bool} (told : Told M slot was now r (AboveBySome th K e c base (suc (left - 1)) s)) where
+  up : suc (suc (left - 1)) ≡ suc left
+  up = omega arith
+
+  pub extended : Told M slot was now r (inner.Above th K e c base (suc left) s)
+  extended = record {
+    sound = λ z. let (x, by) = told .sound z in subst (λ (n : ℕ). inner.Above th K e c base n s) up (reach-by th K e c base (suc (left - 1)) x s by);
+    complete = λ z g. reach-not th K e c base (suc (left - 1)) s here (λ x l by. told .complete z (x, by)) (subst (λ (n : ℕ). inner.Above th K e c base n s) (sym up) g);
+    low = told .low;
+    high = told .high;
+    memory = told .memory;
+  }
+
+  pub noted : {m : ℕ} → (m ≡ 1 → r ≡ false) × (m ≡ 2 → r ≡ true) × (m < 3) → Fact th K m (record { who = c; nesting = e; left = left; base = base }) s
+  noted (f, g, few) = record { no = λ z. extended .complete (f z); yes = λ z. extended .sound (g z); none = λ z. absurd (omega (arith, z, few)) }

@@ -1,28 +1,39 @@
 // Explanations: whether a character has a reason of their own for an action. A state is row `root` of a table; the slots of the work buffer from `slot` on are free.
+use crate::memory::Key;
+use crate::memory::entry_of;
+use crate::memory::recall;
+use crate::memory::remember;
+use pack::judge::holds;
 use pack::judge::utility;
 use pack::number::wide;
 use pack::table::Table;
 use pack::write::consenter;
 use pack::write::consenters;
 use transition::step::step_slot;
+ghost use mathlib.Core.Path.{_≡_};
+ghost use mathlib.Core.Bool.{true, false};
 ghost use mathlib.Core.List.{List};
 ghost use Prim.Native.Nat.{suc, _+_, _*_, _<_, _≤_};
 ghost use Rattle.pack.specs.Syntax.{Node, Theory};
 ghost use Rattle.pack.specs.State.{meaning};
 ghost use Rattle.planner.specs.Ending.{Explained};
-ghost use Rattle.planner.specs.Inner.Explain.{slotTable, Stage, Staged, Free, Told, Other, Above, AboveBy, Agreed};
+ghost use Rattle.planner.specs.Inner.Lists.{slotTable, Other, Above, AboveBy, AboveBySome, Agreed};
+ghost use Rattle.planner.specs.Inner.Memory.{Memory};
+ghost use Rattle.planner.specs.Inner.Explain.{Stage, Prepared, Free, Told};
 
 // The foresight limit K, and the nesting limit E.
 pub struct Foresight(pub usize);
 
 pub struct Nesting(pub usize);
 
-// A pack's counts, and the width of its rows.
+// A pack's counts; how many entries the memory has, and how many bytes each.
 pub struct Shape {
     pub actions: usize,
     pub triggers: usize,
     pub fluents: usize,
     pub characters: usize,
+    pub entries: usize,
+    pub entry: usize,
 }
 
 // Whether character c's action a is explained.
@@ -39,8 +50,8 @@ pub fn explained(
     e: Nesting,
     k: Foresight,
 ) -> bool
-    requires { ⌜ Staged (now pack) (now places) p (now work) t slot × (root < t .nodes) × (c < t .characters) × (a < p .actions) × (0 < k .0) × (k .0 ≤ 6) × Free slot (k .0 * e .0) ⌝ }
-    ensures { λ r. ⌜ ((th : Theory) (T : List Node) → Stage th T (now (pack .entry)) (now (places .entry)) p (now (work .entry)) t slot → Told slot (now (work .entry)) (now (work .exit)) r (Explained th (k .0) (e .0) c a (meaning (t .characters) T root))) ⌝ }
+    requires { ⌜ Prepared (k .0) (now pack) (now places) p (now work) t slot × (root < t .nodes) × (c < t .characters) × (a < p .actions) × (0 < k .0) × (k .0 ≤ 6) × Free slot (k .0 * e .0) ⌝ }
+    ensures { λ r. ⌜ ((th : Theory) (T : List Node) → Stage th T (now (pack .entry)) (now (places .entry)) p (now (work .entry)) t slot → Memory th (k .0) p (now (work .entry)) → Told (Memory th (k .0) p) slot (now (work .entry)) (now (work .exit)) r (Explained th (k .0) (e .0) c a (meaning (t .characters) T root))) ⌝ }
 {
     if e.0 == 0 {
         return false;
@@ -78,8 +89,8 @@ pub fn extends(
     left: usize,
     base: usize,
 ) -> bool
-    requires { ⌜ Staged (now pack) (now places) p (now work) (slotTable p (now work) slot) (slot + 961) × (c < p .characters) × (0 < k .0) × (k .0 ≤ 6) × Free slot (1 + left + k .0 * e .0) ⌝ }
-    ensures { λ r. ⌜ ((th : Theory) (T : List Node) → Stage th T (now (pack .entry)) (now (places .entry)) p (now (work .entry)) (slotTable p (now (work .entry)) slot) (slot + 961) → Told (slot + 961) (now (work .entry)) (now (work .exit)) r (Above th (k .0) (e .0) c base (suc left) (meaning (p .characters) T 0))) ⌝ }
+    requires { ⌜ Prepared (k .0) (now pack) (now places) p (now work) (slotTable p (now work) slot) (slot + 961) × (c < p .characters) × (0 < k .0) × (k .0 ≤ 6) × Free slot (1 + left + k .0 * e .0) ⌝ }
+    ensures { λ r. ⌜ ((th : Theory) (T : List Node) → Stage th T (now (pack .entry)) (now (places .entry)) p (now (work .entry)) (slotTable p (now (work .entry)) slot) (slot + 961) → Memory th (k .0) p (now (work .entry)) → Told (Memory th (k .0) p) (slot + 961) (now (work .entry)) (now (work .exit)) r (Above th (k .0) (e .0) c base (suc left) (meaning (p .characters) T 0))) ⌝ }
 {
     let t = Table {
         rows: slot + 1,
@@ -94,9 +105,51 @@ pub fn extends(
     if left == 0 {
         return false;
     }
+    let key = Key {
+        who: c,
+        nesting: e.0,
+        left,
+        base,
+    };
+    let at = entry_of(work, p, slot, key);
+    let known = recall(work, p, slot, at, key);
+    if known == 1 {
+        return false;
+    }
+    if known == 2 {
+        return true;
+    }
+    let found = extends_by(pack, places, p, work, slot, c, e, k, left - 1, base);
+    remember(work, p, slot, at, mark(found), key);
+    found
+}
+
+// How the memory marks whether there is a list.
+pub fn mark(found: bool) -> u8
+    ensures { λ r. ⌜ (r ≡ 1 → found ≡ false) × (r ≡ 2 → found ≡ true) × (r < 3) ⌝ }
+{
+    if found { 2 } else { 1 }
+}
+
+// Whether some action, and then some list of at most `left` actions, leads from the state in a slot to c's utility above base.
+pub fn extends_by(
+    pack: &[u8],
+    places: &[usize],
+    p: Shape,
+    work: &mut [u8],
+    slot: usize,
+    c: usize,
+    e: Nesting,
+    k: Foresight,
+    left: usize,
+    base: usize,
+) -> bool
+    requires { ⌜ Prepared (k .0) (now pack) (now places) p (now work) (slotTable p (now work) slot) (slot + 961) × (c < p .characters) × (0 < k .0) × (k .0 ≤ 6) × Free slot (2 + left + k .0 * e .0) ⌝ }
+    ensures { λ r. ⌜ ((th : Theory) (T : List Node) → Stage th T (now (pack .entry)) (now (places .entry)) p (now (work .entry)) (slotTable p (now (work .entry)) slot) (slot + 961) → Memory th (k .0) p (now (work .entry)) → Told (Memory th (k .0) p) (slot + 961) (now (work .entry)) (now (work .exit)) r (AboveBySome th (k .0) (e .0) c base (suc left) (meaning (p .characters) T 0))) ⌝ }
+{
     let mut x = 0;
     while x < p.actions {
-        let found = via(pack, places, p, work, slot, c, x, e, k, left - 1, base);
+        let found = via(pack, places, p, work, slot, c, x, e, k, left, base);
         if found {
             return true;
         }
@@ -119,8 +172,8 @@ pub fn via(
     left: usize,
     base: usize,
 ) -> bool
-    requires { ⌜ Staged (now pack) (now places) p (now work) (slotTable p (now work) slot) (slot + 961) × (c < p .characters) × (x < p .actions) × (0 < k .0) × (k .0 ≤ 6) × Free slot (2 + left + k .0 * e .0) ⌝ }
-    ensures { λ r. ⌜ ((th : Theory) (T : List Node) → Stage th T (now (pack .entry)) (now (places .entry)) p (now (work .entry)) (slotTable p (now (work .entry)) slot) (slot + 961) → Told (slot + 961) (now (work .entry)) (now (work .exit)) r (AboveBy th (k .0) (e .0) c base (suc left) x (meaning (p .characters) T 0))) ⌝ }
+    requires { ⌜ Prepared (k .0) (now pack) (now places) p (now work) (slotTable p (now work) slot) (slot + 961) × (c < p .characters) × (x < p .actions) × (0 < k .0) × (k .0 ≤ 6) × Free slot (2 + left + k .0 * e .0) ⌝ }
+    ensures { λ r. ⌜ ((th : Theory) (T : List Node) → Stage th T (now (pack .entry)) (now (places .entry)) p (now (work .entry)) (slotTable p (now (work .entry)) slot) (slot + 961) → Memory th (k .0) p (now (work .entry)) → Told (Memory th (k .0) p) (slot + 961) (now (work .entry)) (now (work .exit)) r (AboveBy th (k .0) (e .0) c base (suc left) x (meaning (p .characters) T 0))) ⌝ }
 {
     let t = Table {
         rows: slot + 1,
@@ -129,6 +182,10 @@ pub fn via(
         characters: p.characters,
         width: p.fluents + p.characters,
     };
+    let may = holds(pack, places[9 * x], work, t, 0);
+    if !may {
+        return false;
+    }
     let agreed = allowed(pack, places, p, work, t, 0, slot + 961, c, x, e, k);
     if !agreed {
         return false;
@@ -154,8 +211,8 @@ pub fn allowed(
     e: Nesting,
     k: Foresight,
 ) -> bool
-    requires { ⌜ Staged (now pack) (now places) p (now work) t slot × (root < t .nodes) × (x < p .actions) × (0 < k .0) × (k .0 ≤ 6) × Free slot (k .0 * e .0) ⌝ }
-    ensures { λ r. ⌜ ((th : Theory) (T : List Node) → Stage th T (now (pack .entry)) (now (places .entry)) p (now (work .entry)) t slot → Told slot (now (work .entry)) (now (work .exit)) r (Agreed th (k .0) (e .0) who x (meaning (t .characters) T root))) ⌝ }
+    requires { ⌜ Prepared (k .0) (now pack) (now places) p (now work) t slot × (root < t .nodes) × (x < p .actions) × (0 < k .0) × (k .0 ≤ 6) × Free slot (k .0 * e .0) ⌝ }
+    ensures { λ r. ⌜ ((th : Theory) (T : List Node) → Stage th T (now (pack .entry)) (now (places .entry)) p (now (work .entry)) t slot → Memory th (k .0) p (now (work .entry)) → Told (Memory th (k .0) p) slot (now (work .entry)) (now (work .exit)) r (Agreed th (k .0) (e .0) who x (meaning (t .characters) T root))) ⌝ }
 {
     let at = places[9 * x + 2];
     let count = consenters(pack, at);
@@ -186,8 +243,8 @@ pub fn fine(
     e: Nesting,
     k: Foresight,
 ) -> bool
-    requires { ⌜ Staged (now pack) (now places) p (now work) t slot × (root < t .nodes) × (d < t .characters) × (x < p .actions) × (0 < k .0) × (k .0 ≤ 6) × Free slot (k .0 * e .0) ⌝ }
-    ensures { λ r. ⌜ ((th : Theory) (T : List Node) → Stage th T (now (pack .entry)) (now (places .entry)) p (now (work .entry)) t slot → Told slot (now (work .entry)) (now (work .exit)) r (Other who d → Explained th (k .0) (e .0) d x (meaning (t .characters) T root))) ⌝ }
+    requires { ⌜ Prepared (k .0) (now pack) (now places) p (now work) t slot × (root < t .nodes) × (d < t .characters) × (x < p .actions) × (0 < k .0) × (k .0 ≤ 6) × Free slot (k .0 * e .0) ⌝ }
+    ensures { λ r. ⌜ ((th : Theory) (T : List Node) → Stage th T (now (pack .entry)) (now (places .entry)) p (now (work .entry)) t slot → Memory th (k .0) p (now (work .entry)) → Told (Memory th (k .0) p) slot (now (work .entry)) (now (work .exit)) r (Other who d → Explained th (k .0) (e .0) d x (meaning (t .characters) T root))) ⌝ }
 {
     if d == who {
         return true;

@@ -4,6 +4,7 @@ use crate::explain::Foresight;
 use crate::explain::Nesting;
 use crate::explain::Shape;
 use crate::explain::explained;
+use crate::memory::entry_size;
 use chart::bytes::clear;
 use chart::call::check_lent;
 use chart::call::check_under;
@@ -79,6 +80,7 @@ pub fn judge_chart(
         characters: p.characters,
         width: p.fluents + p.characters,
     };
+    clear(work, 43470, 5682);
     let verdict = explained(
         pack,
         places,
@@ -124,11 +126,14 @@ pub fn judge(
     match check_lent(nodes, 49152 <= work.len(), there) {
         Number::Refused(k, at) => Judged::Refused(k, at),
         Number::Is(n, _) => {
+            let entry = entry_size(n, p.fluents, p.characters);
             let shape = Shape {
                 actions: p.actions,
                 triggers: p.triggers,
                 fluents: p.fluents,
                 characters: p.characters,
+                entries: 5682 / entry,
+                entry,
             };
             let verdict = judge_chart(
                 pack,

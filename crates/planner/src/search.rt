@@ -5,12 +5,18 @@ use crate::explain::Nesting;
 use crate::explain::Shape;
 use crate::explain::allowed;
 use crate::judge::within;
+use crate::memory::Key;
+use crate::memory::entry_of;
+use crate::memory::entry_size;
+use crate::memory::recall;
+use crate::memory::remember;
 use chart::bytes::clear;
 use chart::call::both_fit;
 use chart::call::check_lent;
 use chart::call::unless_refused;
 use pack::contents::read_pack;
 use pack::copy::copy_table;
+use pack::judge::holds;
 use pack::judge::utility;
 use pack::number::Number;
 use pack::number::wide;
@@ -24,8 +30,10 @@ ghost use lib.ListN.{length};
 ghost use Rattle.pack.specs.Syntax.{Node, Theory};
 ghost use Rattle.pack.specs.State.{meaning};
 ghost use Rattle.planner.specs.Ending.{authorUtility};
-ghost use Rattle.planner.specs.Inner.Explain.{slotTable, Stage, Staged, Free};
-ghost use Rattle.planner.specs.Inner.Search.{Ends, EndsBy, Best, Shortest, Seeking, Seekable, SearchPut};
+ghost use Rattle.planner.specs.Inner.Lists.{slotTable, Ends, EndsBy};
+ghost use Rattle.planner.specs.Inner.Memory.{Memory};
+ghost use Rattle.planner.specs.Inner.Explain.{Stage, Staged, Prepared, Free};
+ghost use Rattle.planner.specs.Inner.Search.{Best, Shortest, Seeking, Seekable, SearchPut};
 ghost use Rattle.planner.specs.Replies.{storyLimit, foresightLimit, nestingLimit};
 ghost use Rattle.planner.specs.Promises.{Searching};
 
@@ -52,28 +60,61 @@ pub fn completes(
     left: usize,
     base: usize,
 ) -> usize
-    requires { ⌜ Staged (now pack) (now places) p (now work) (slotTable p (now work) slot) (slot + 961) × (0 < k .0) × (k .0 ≤ 6) × Free slot (1 + left + k .0 * e .0) × (done + left ≤ length (now list)) ⌝ }
-    ensures { λ r. ⌜ ((th : Theory) (T : List Node) → Stage th T (now (pack .entry)) (now (places .entry)) p (now (work .entry)) (slotTable p (now (work .entry)) slot) (slot + 961) → Best (Ends th (k .0) (e .0) base (meaning (p .characters) T 0)) left (now (list .entry)) (now (list .exit)) done (slot + 961) (now (work .entry)) (now (work .exit)) r) ⌝ }
+    requires { ⌜ Prepared (k .0) (now pack) (now places) p (now work) (slotTable p (now work) slot) (slot + 961) × (0 < k .0) × (k .0 ≤ 6) × Free slot (1 + left + k .0 * e .0) × (done + left ≤ length (now list)) ⌝ }
+    ensures { λ r. ⌜ ((th : Theory) (T : List Node) → Stage th T (now (pack .entry)) (now (places .entry)) p (now (work .entry)) (slotTable p (now (work .entry)) slot) (slot + 961) → Memory th (k .0) p (now (work .entry)) → Best (Memory th (k .0) p) (Ends th (k .0) (e .0) base (meaning (p .characters) T 0)) left (now (list .entry)) (now (list .exit)) done (slot + 961) (now (work .entry)) (now (work .exit)) r) ⌝ }
 {
     if left == 0 {
         return ends(pack, places, p, work, slot, base);
     }
+    let key = Key {
+        who: 7,
+        nesting: e.0,
+        left,
+        base,
+    };
+    let at = entry_of(work, p, slot, key);
+    if recall(work, p, slot, at, key) == 3 {
+        return 0;
+    }
+    let after = completes_after(
+        pack,
+        places,
+        p,
+        work,
+        slot,
+        list,
+        done,
+        e,
+        k,
+        left - 1,
+        base,
+    );
+    if after == 0 {
+        remember(work, p, slot, at, 3, key);
+    }
+    after
+}
+
+// As `completes`, of the lists of one action more.
+pub fn completes_after(
+    pack: &[u8],
+    places: &[usize],
+    p: Shape,
+    work: &mut [u8],
+    slot: usize,
+    list: &mut [u8],
+    done: usize,
+    e: Nesting,
+    k: Foresight,
+    left: usize,
+    base: usize,
+) -> usize
+    requires { ⌜ Prepared (k .0) (now pack) (now places) p (now work) (slotTable p (now work) slot) (slot + 961) × (0 < k .0) × (k .0 ≤ 6) × Free slot (2 + left + k .0 * e .0) × (done + suc left ≤ length (now list)) ⌝ }
+    ensures { λ r. ⌜ ((th : Theory) (T : List Node) → Stage th T (now (pack .entry)) (now (places .entry)) p (now (work .entry)) (slotTable p (now (work .entry)) slot) (slot + 961) → Memory th (k .0) p (now (work .entry)) → Best (Memory th (k .0) p) (Ends th (k .0) (e .0) base (meaning (p .characters) T 0)) (suc left) (now (list .entry)) (now (list .exit)) done (slot + 961) (now (work .entry)) (now (work .exit)) r) ⌝ }
+{
     let mut x = 0;
     while x < p.actions {
-        let after = completes_by(
-            pack,
-            places,
-            p,
-            work,
-            slot,
-            list,
-            done,
-            x,
-            e,
-            k,
-            left - 1,
-            base,
-        );
+        let after = completes_by(pack, places, p, work, slot, list, done, x, e, k, left, base);
         if after != 0 {
             return after;
         }
@@ -113,8 +154,8 @@ pub fn completes_by(
     left: usize,
     base: usize,
 ) -> usize
-    requires { ⌜ Staged (now pack) (now places) p (now work) (slotTable p (now work) slot) (slot + 961) × (x < p .actions) × (0 < k .0) × (k .0 ≤ 6) × Free slot (2 + left + k .0 * e .0) × (done + suc left ≤ length (now list)) ⌝ }
-    ensures { λ r. ⌜ ((th : Theory) (T : List Node) → Stage th T (now (pack .entry)) (now (places .entry)) p (now (work .entry)) (slotTable p (now (work .entry)) slot) (slot + 961) → Best (EndsBy th (k .0) (e .0) base x (meaning (p .characters) T 0)) (suc left) (now (list .entry)) (now (list .exit)) done (slot + 961) (now (work .entry)) (now (work .exit)) r) ⌝ }
+    requires { ⌜ Prepared (k .0) (now pack) (now places) p (now work) (slotTable p (now work) slot) (slot + 961) × (x < p .actions) × (0 < k .0) × (k .0 ≤ 6) × Free slot (2 + left + k .0 * e .0) × (done + suc left ≤ length (now list)) ⌝ }
+    ensures { λ r. ⌜ ((th : Theory) (T : List Node) → Stage th T (now (pack .entry)) (now (places .entry)) p (now (work .entry)) (slotTable p (now (work .entry)) slot) (slot + 961) → Memory th (k .0) p (now (work .entry)) → Best (Memory th (k .0) p) (EndsBy th (k .0) (e .0) base x (meaning (p .characters) T 0)) (suc left) (now (list .entry)) (now (list .exit)) done (slot + 961) (now (work .entry)) (now (work .exit)) r) ⌝ }
 {
     let t = Table {
         rows: slot + 1,
@@ -123,6 +164,10 @@ pub fn completes_by(
         characters: p.characters,
         width: p.fluents + p.characters,
     };
+    let may = holds(pack, places[9 * x], work, t, 0);
+    if !may {
+        return 0;
+    }
     let agreed = allowed(
         pack,
         places,
@@ -174,8 +219,8 @@ pub fn shortest(
     k: Foresight,
     base: usize,
 ) -> Ended
-    requires { ⌜ Staged (now pack) (now places) p (now work) (slotTable p (now work) 0) 961 × (0 < k .0) × (k .0 ≤ 6) × (e .0 ≤ 3) × (s .0 ≤ 8) × (8 ≤ length (now list)) ⌝ }
-    ensures { λ r. ⌜ ((th : Theory) (T : List Node) → Stage th T (now (pack .entry)) (now (places .entry)) p (now (work .entry)) (slotTable p (now (work .entry)) 0) 961 → Shortest (Ends th (k .0) (e .0) base (meaning (p .characters) T 0)) (s .0) (now (list .entry)) (now (list .exit)) (now (work .entry)) (now (work .exit)) r) ⌝ }
+    requires { ⌜ Prepared (k .0) (now pack) (now places) p (now work) (slotTable p (now work) 0) 961 × (0 < k .0) × (k .0 ≤ 6) × (e .0 ≤ 3) × (s .0 ≤ 8) × (8 ≤ length (now list)) ⌝ }
+    ensures { λ r. ⌜ ((th : Theory) (T : List Node) → Stage th T (now (pack .entry)) (now (places .entry)) p (now (work .entry)) (slotTable p (now (work .entry)) 0) 961 → Memory th (k .0) p (now (work .entry)) → Shortest (Ends th (k .0) (e .0) base (meaning (p .characters) T 0)) (s .0) (now (list .entry)) (now (list .exit)) (now (work .entry)) (now (work .exit)) r) ⌝ }
 {
     let mut n = 1;
     while n <= s.0 {
@@ -230,6 +275,7 @@ pub fn search_nodes(
         characters: p.characters,
         width: p.fluents + p.characters,
     };
+    clear(work, 43470, 5682);
     let base = utility(pack, places[320], work, t, 0);
     let found = shortest(pack, places, p, work, list, s, e, k, base);
     clear(work, 0, 49152);
@@ -259,11 +305,14 @@ pub fn search(
     match check_lent(nodes, enough, there) {
         Number::Refused(k, at) => Found::Refused(k, at),
         Number::Is(_, _) => {
+            let entry = entry_size(p.nodes, p.fluents, p.characters);
             let shape = Shape {
                 actions: p.actions,
                 triggers: p.triggers,
                 fluents: p.fluents,
                 characters: p.characters,
+                entries: 5682 / entry,
+                entry,
             };
             search_nodes(
                 pack,

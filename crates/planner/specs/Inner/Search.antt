@@ -1,7 +1,7 @@
 -- The author's list search: what is put down, and what it means. Assumes nothing.
 use Prim.Native.Nat.{ℕ, _+_, _<_, _≤_}
 use mathlib.Core.Path.{_≡_}
-use mathlib.Core.List.{List, _∷_}
+use mathlib.Core.List.{List}
 use lib.ListN.{length, getD}
 use Rattle.pack.specs.Syntax.{Node, Theory}
 use Rattle.pack.specs.State.{State}
@@ -16,23 +16,10 @@ use Rattle.transition.specs.Inner.Play.{Theorized}
 use Rattle.planner.specs.declared.Found.{Found}
 use Rattle.planner.specs.declared.explain.Shape.{Shape}
 use Rattle.planner.specs.declared.search.Ended.{Ended}
-use Rattle.planner.specs.Ending.{Explained, authorUtility}
 use Rattle.planner.specs.Search.{Answer, Searched}
 use Rattle.planner.specs.Replies.{answerReply}
 use Rattle.planner.specs.Promises.{searchSaid, summary}
-use Rattle.planner.specs.Laws.Explaining as explaining
-
--- everybody is asked
-abbrev pub All : ℕ → Type 0
-All d = Unit {0}
-
--- a list from s, explained at e to all its consenters, that ends with the author's utility r, above base
-abbrev pub Ends : (p : Theory) (foresight nesting base : ℕ) → State → List ℕ → ℕ → Type 0
-Ends p K e base s list r = explaining.Led p All (Explained p K e) (λ s′. (authorUtility p s′ ≡ r) × (base < r)) list s
-
--- action x first
-abbrev pub EndsBy : (p : Theory) (foresight nesting base x : ℕ) → State → List ℕ → ℕ → Type 0
-EndsBy p K e base x s list r = (rest : List ℕ) × (list ≡ x ∷ rest) × explaining.Reaches p All (Explained p K e) s x (λ t. Ends p K e base t rest r)
+use Rattle.planner.specs.Inner.Memory.{Laid}
 
 -- a list put down from `done` on
 pub record Put (was now : List ℕ) (done : ℕ) (list : List ℕ) : Type 0 where
@@ -47,12 +34,13 @@ pub record Chosen (Good : List ℕ → ℕ → Type 0) (n : ℕ) (list : List �
   pub earliest : (other : List ℕ) (v : ℕ) → length other ≡ n → Good other v → ¬ Before other list
 
 -- the earliest of the good lists of n actions is put down, and the utility at its end is r; or r is 0, there is none, and nothing is put down. Bytes of the work buffer
--- before the free slots, and behind a step's scratch, are as they were
-pub record Best (Good : List ℕ → ℕ → Type 0) (n : ℕ) (was now : List ℕ) (done : ℕ) (slot : ℕ) (work work′ : List ℕ) (r : ℕ) : Type 0 where
+-- before the free slots, and behind the memory, are as they were, and of what is in the memory M holds
+pub record Best (M : List ℕ → Type 0) (Good : List ℕ → ℕ → Type 0) (n : ℕ) (was now : List ℕ) (done : ℕ) (slot : ℕ) (work work′ : List ℕ) (r : ℕ) : Type 0 where
   pub none : r ≡ 0 → (now ≡ was) × ((list : List ℕ) (v : ℕ) → length list ≡ n → ¬ Good list v)
   pub some : 0 < r → (list : List ℕ) × Chosen Good n list r × Put was now done list
   pub low : Below work work′ slot
-  pub high : Above work work′ 43470
+  pub high : Above work work′ workRoom
+  pub memory : M work′
 
 -- the shortest of the good lists of 1 to T actions, and of those the earliest, is put down; or its length is 0, there is none, and nothing is put down
 pub record Shortest (Good : List ℕ → ℕ → Type 0) (story : ℕ) (was now work work′ : List ℕ) (r : Ended) : Type 0 where
@@ -61,7 +49,7 @@ pub record Shortest (Good : List ℕ → ℕ → Type 0) (story : ℕ) (was now 
   pub within : r .length ≤ story
   pub shortest : (other : List ℕ) (v : ℕ) → 0 < length other → length other < r .length → ¬ Good other v
   pub low : Below work work′ 961
-  pub high : Above work work′ 43470
+  pub high : Above work work′ workRoom
 
 -- what the search from a pack's nodes is lent: a theory, found in the pack, its nodes, and room
 pub record Seeking (th : Theory) (T : List Node) (pack places : List ℕ) (h : Shape) (first nodes story nesting foresight : ℕ) (list work : List ℕ) : Type 0 where
@@ -78,6 +66,7 @@ pub record Seeking (th : Theory) (T : List Node) (pack places : List ℕ) (h : S
   pub nested : nesting ≤ 3
   pub list-room : listRoom ≤ length list
   pub room : workRoom ≤ length work
+  pub laid : Laid h
 
 abbrev pub Seekable : (pack places : List ℕ) (h : Shape) (first nodes story nesting foresight : ℕ) (list work : List ℕ) → Type 0
 Seekable pack places h first nodes story nesting foresight list work = (th : Theory) × ((T : List Node) × Seeking th T pack places h first nodes story nesting foresight list work)

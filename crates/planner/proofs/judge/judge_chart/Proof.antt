@@ -1,25 +1,33 @@
--- The chart laid out as a table, asked, and cleared. Assumes nothing.
+-- The chart laid out as a table, an empty memory, the verdict, and all cleared. Assumes nothing.
 use native.Mathlib.Omega.{arith}
 use borrow.Author.Needs.{needs}
-use Rattle.planner.proofs.Judging.{judge-copies, judge-stage, judge-free, judge-verdict}
+use Rattle.planner.proofs.Judging.{judge-copies, judge-ready, judge-memory, judge-high, judge-free, judge-verdict}
 use Rattle.planner.proofs.judge.judge_chart.Statement.{statement}
 use Rattle.planner.proofs.judge.judge_chart.Tie as tie
 
 copy-table-requires : tie.Need-copy-table-requires
 copy-table-requires c κs = let (th, (T, x)) = c .before .before .before .before .before .pre in judge-copies x
 
-explained-requires : tie.Need-explained-requires
-explained-requires c κs = let (th, (T, x)) = c .before .before .before .before .before .before .before .before .before .before .pre in ((th, (T, judge-stage x (c .before .before .before .before .copy-table .ensures))), x .read .some, x .who, x .what, x .foreseen .0, x .foreseen .1, judge-free x)
-
 clear-requires : tie.Need-clear-requires
-clear-requires c κs = let (th, (T, x)) = c .before .before .before .before .before .before .before .before .before .before .before .before .before .before .pre in omega (arith, x .room, c .before .before .before .explained .kept, c .before .before .before .before .before .before .before .before .copy-table .ensures .long)
+clear-requires c κs = let (th, (T, x)) = c .before .before .before .before .before .before .before .before .before .before .pre in omega (arith, x .room, c .before .before .before .before .copy-table .ensures .long)
+
+explained-requires : tie.Need-explained-requires
+explained-requires c κs =
+    let (th, (T, x)) = c .before .before .before .before .before .before .before .before .before .before .before .before .before .before .pre in
+    let l = c .before .before .before .before .before .before .before .before .copy-table .ensures in
+    let e = c .before .before .before .clear in
+    ((th, (T, (judge-ready x l (e .ensures) (e .kept .0), judge-memory x l (e .ensures) (e .kept .0)))), x .read .some, x .who, x .what, x .foreseen .0, x .foreseen .1, judge-free x)
+
+clear-requires-2 : tie.Need-clear-requires-2
+clear-requires-2 c κs = let (th, (T, x)) = c .before .before .before .before .before .before .before .before .before .before .before .before .before .before .before .before .before .before .pre in omega (arith, x .room, c .before .before .before .explained .kept, c .before .before .before .before .before .before .before .clear .kept, c .before .before .before .before .before .before .before .before .before .before .before .before .copy-table .ensures .long)
 
 returns : tie.Need-returns
 returns c =
-    let l = c .before .before .before .before .before .before .before .before .before .before .before .copy-table .ensures in
-    let e = c .before .before .before .before .before .before .explained in
-    let z = c .before .before .clear in
-    λ th T x. judge-verdict x l (e .ensures th T (judge-stage x l)) (z .ensures) (omega (arith, z .kept, e .kept, l .long))
+    let l = c .before .before .before .before .before .before .before .before .before .before .before .before .before .before .before .copy-table .ensures in
+    let e = c .before .before .before .before .before .before .before .before .before .before .clear in
+    let v = c .before .before .before .before .before .before .explained in
+    let z = c .before .before .clear2 in
+    λ th T x. judge-verdict x l (judge-high x l (e .ensures) (e .kept .0)) (v .ensures th T (judge-ready x l (e .ensures) (e .kept .0)) (judge-memory x l (e .ensures) (e .kept .0))) (z .ensures) (omega (arith, z .kept, v .kept, e .kept, l .long))
 
 pub judge-chart-spec : {M : Type 1} → statement M
-judge-chart-spec = tie.close (tie.spec copy-table-requires (λ c. search needs) explained-requires clear-requires (λ c. search needs) returns)
+judge-chart-spec = tie.close (tie.spec copy-table-requires (λ c. search needs) clear-requires explained-requires clear-requires-2 (λ c. search needs) returns)
