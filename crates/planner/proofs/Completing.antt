@@ -1,9 +1,9 @@
 -- The author's list search: the earliest list of n actions, by the first action and what follows it. Assumes nothing.
-use Prim.Native.Nat.{ℕ, zero, suc, _+_, _*_, _<_, _≤_}
+use Prim.Native.Nat.{ℕ, zero, suc, _+_, _*_, _-_, _<_, _≤_}
 use mathlib.Core.Path.{_≡_, refl, sym, ap, _∙_, subst}
 use mathlib.Core.Logic.{_≢_, ⊎-elim, by-cases}
 use mathlib.Core.List.{List, [], _∷_}
-use native.Mathlib.Decide.{decLe}
+use native.Mathlib.Decide.{decLe, ℕ-discrete}
 use native.Mathlib.Omega.{arith}
 use lib.ListN.{length, getD}
 use Rattle.pack.specs.Syntax.{Node, Theory, Rule}
@@ -22,12 +22,13 @@ use Rattle.transition.specs.Happening.{nothing, Plays, actionOf}
 use Rattle.transition.specs.Laws.Settled.{plays-one}
 use Rattle.planner.specs.declared.explain.Shape.{Shape}
 use Rattle.planner.specs.Ending.{Leads, Explained, authorUtility}
-use Rattle.planner.specs.Inner.Lists.{Agreed, All, Ends, EndsBy}
+use Rattle.planner.specs.Inner.Lists.{slotTable, Agreed, All, Ends, EndsBy}
 use Rattle.planner.specs.Inner.Memory.{memoryAt, Fact}
-use Rattle.planner.specs.Inner.Explain.{Stage}
-use Rattle.planner.specs.Inner.Search.{Put, Chosen, Best}
+use Rattle.planner.specs.Inner.Explain.{Stage, Free}
+use Rattle.planner.specs.Inner.Search.{Dry, Trail, Repeated, Put, Chosen, Best}
 use Rattle.planner.specs.Laws.Explaining.{Agreeing}
-use Rattle.planner.proofs.Telling.{consenter-below}
+use Rattle.planner.proofs.Remembering.{state-moved, extent-most}
+use Rattle.planner.proofs.Telling.{consenter-below, slot-same, stage-slotted, stage-state}
 
 -- none found
 pub best-none : {M : List ℕ → Type 0} {Good : List ℕ → ℕ → Type 0} {n : ℕ} (was : List ℕ) {done slot : ℕ} {work work′ : List ℕ} → Below work work′ slot → Above work work′ workRoom → M work′ → ((list : List ℕ) (v : ℕ) → length list ≡ n → ¬ Good list v) → Best M Good n was was done slot work work′ 0
@@ -45,6 +46,47 @@ module _ (th : Theory) (K e base : ℕ) (s : State) where
   -- that there is none is a fact
   pub fact-of-none : {left who : ℕ} → ((list : List ℕ) (v : ℕ) → length list ≡ left → ¬ Ends th K e base s list v) → Fact th K 3 (record { who = who; nesting = e; left = left; base = base }) s
   fact-of-none f = record { no = λ z. absurd (omega (arith, z)); yes = λ z. absurd (omega (arith, z)); none = λ z. f }
+
+  -- the author's path, one state longer
+  module _ {h : Shape} {was : List ℕ} {n left : ℕ} (trail : Trail th K e base h was n (suc left) s) where
+    trail-next : {now : List ℕ} {slot x : ℕ} {t : State} → slot ≡ n * 961 → Below was now (slot + 961) → 1 + getD now slot 0 * (h .fluents + h .characters) ≤ 961 → stateOf (slotTable h now slot) now 0 ≡ s
+        → Plays th s x t → Agreeing th All (Explained th K e) s x (actionOf th x .consenters) → Trail th K e base h now (n + 1) left t
+    unfolding Leads
+    trail-next {now} {slot} {x} {t} at low few here plays agreed = record {
+      before = λ i l. by-cases (ℕ-discrete i n)
+          (λ z. let same : stateOf (slotTable h now (i * 961)) now 0 ≡ s = ap (λ (q : ℕ). stateOf (slotTable h now q) now 0) (ap (λ (i : ℕ). i * 961) z ∙ sym at) ∙ here in
+          let up : left + (n + 1 - i) ≡ suc left = omega (arith, z) in
+          subst (Dry (Ends th K e base (stateOf (slotTable h now (i * 961)) now 0))) (sym up) (subst (λ (s : State). Dry (Ends th K e base s) (suc left)) (sym same) (trail .here)))
+          (λ z. let less : i < n = omega (arith, l, z) in
+          let up : left + (n + 1 - i) ≡ suc left + (n - i) = omega (arith, less) in
+          let same : stateOf (slotTable h now (i * 961)) now 0 ≡ stateOf (slotTable h was (i * 961)) was 0 = state-moved h was now (i * 961) (i * 961) (λ q g. low (i * 961 + q) (omega (arith, g, trail .small i less, at, less))) in
+          subst (Dry (Ends th K e base (stateOf (slotTable h now (i * 961)) now 0))) (sym up) (subst (λ (s : State). Dry (Ends th K e base s) (suc left + (n - i))) (sym same) (trail .before i less)));
+      here = λ l v g q. trail .here (x ∷ l) v (omega (arith, g)) (q .0, (t, plays, agreed, q .1), q .2);
+      small = λ i l. by-cases (ℕ-discrete i n)
+          (λ z. subst (λ (q : ℕ). 1 + getD now q 0 * (h .fluents + h .characters) ≤ 961) (at ∙ ap (λ (i : ℕ). i * 961) (sym z)) few)
+          (λ z. let less : i < n = omega (arith, l, z) in subst (λ (c : ℕ). 1 + c * (h .fluents + h .characters) ≤ 961) (sym (low (i * 961) (omega (arith, at, less)))) (trail .small i less));
+    }
+
+  -- the path where its bytes stay
+  pub trail-same : {h : Shape} {was now : List ℕ} {n left : ℕ} → Below was now (n * 961) → Trail th K e base h was n left s → Trail th K e base h now n left s
+  trail-same {h} {was} {now} {n} {left} low trail = record {
+    before = λ i l. subst (λ (s : State). Dry (Ends th K e base s) (left + (n - i))) (sym (state-moved h was now (i * 961) (i * 961) (λ q g. low (i * 961 + q) (omega (arith, g, trail .small i l, l))))) (trail .before i l);
+    here = trail .here;
+    small = λ i l. subst (λ (c : ℕ). 1 + c * (h .fluents + h .characters) ≤ 961) (sym (low (i * 961) (omega (arith, l)))) (trail .small i l);
+  }
+
+  -- no path yet
+  pub trail-none : {h : Shape} (work : List ℕ) {n : ℕ} → authorUtility th s ≤ base → ((l : List ℕ) (v : ℕ) → 0 < length l → length l < n → ¬ Ends th K e base s l v) → Trail th K e base h work 0 n s
+  unfolding Leads
+  trail-none work {n} le f = record { before = λ i l. absurd (omega arith); here = none; small = λ i l. absurd (omega arith) }
+    where
+      none : Dry (Ends th K e base s) n
+      none [] v l (s′, q, (is, above)) = let same : authorUtility th s ≡ authorUtility th s′ = ap (authorUtility th) q in omega (arith, same, is, above, le)
+      none (x ∷ l) v g q = f (x ∷ l) v (omega arith) g q
+
+  -- a state that is on the path already
+  pub trail-repeats : {h : Shape} {work : List ℕ} (slot : ℕ) {n left : ℕ} → Trail th K e base h work n left s → stateOf (slotTable h work slot) work 0 ≡ s → Repeated h work slot n → (list : List ℕ) (v : ℕ) → length list ≡ left → ¬ Ends th K e base s list v
+  trail-repeats slot trail here (i, less, same) list v l q = trail .before i less list v (omega (arith, l, less)) (subst (λ (s : State). Ends th K e base s list v) (sym (same ∙ here)) q)
 
   abbrev U : ℕ
   U = authorUtility th s
@@ -169,3 +211,10 @@ module _ {th : Theory} {T : List Node} {pack places : List ℕ} {h : Shape} {was
 
     pub agreed-to : Agreeing th All (Explained th K e) s a (actionOf th a .consenters) → Agreed th K e (h .characters) a s
     agreed-to f d m q = f d m tt
+
+-- the path, and a step from the state in its last slot
+pub trail-step : {th : Theory} {T : List Node} {pack places : List ℕ} {h : Shape} {was : List ℕ} (slot : ℕ) (x : Stage th T pack places h was (slotTable h was slot) (slot + 961)) (K e base : ℕ) {n left : ℕ} → Trail th K e base h was n (suc left) (meaning (h .characters) T 0) → slot ≡ n * 961 → Free slot 1
+    → (now : List ℕ) → Below was now (slot + 961) → length now ≡ length was → {a : ℕ} {t : State} → Plays th (meaning (h .characters) T 0) a t → Agreeing th All (Explained th K e) (meaning (h .characters) T 0) a (actionOf th a .consenters) → Trail th K e base h now (n + 1) left t
+trail-step {th} {T} {h = h} slot x K e base trail at free now low long plays agreed =
+    let y = slot-same slot x low long in
+    trail-next th K e base (meaning (h .characters) T 0) trail at low (extent-most h (stage-slotted slot y free)) (stage-state slot y) plays agreed

@@ -39,7 +39,7 @@ use Rattle.planner.specs.Replies.{foresightLimit, nestingLimit, explaine
 use Rattle.planner.specs.Promises.{Judgement}
 use Rattle.planner.specs.Laws.Answers.{explained-table-iff}
 use Rattle.planner.specs.Inner.Memory.{memoryAt, Memory}
-use Rattle.planner.proofs.Remembering.{laid-by, memory-clear}
+use Rattle.planner.proofs.Remembering.{laid-by, emptied, memory-clear}
 use Rattle.planner.proofs.Telling.{stage-same}
 use Rattle.planner.specs.Inner.Explain.{Stage, Free, Told, Judging, Judgeable, Verdict}
 
@@ -89,7 +89,7 @@ module _ {th : Theory} {T : List Node} {pack places : List ℕ} {h : Shape} {cha
       judge-ready = stage-same judge-stage (λ q l. cl .low q (omega arith)) long
 
       pub judge-memory : Memory th K h then
-      judge-memory = memory-clear h th K (x .laid) (omega arith) cl
+      judge-memory = memory-clear h th K (x .laid) (emptied cl)
 
       pub judge-high : Above mid then workRoom
       judge-high q l = cl .high q (omega arith)

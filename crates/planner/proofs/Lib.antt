@@ -2,5 +2,6 @@
 pub mod Remembering
 pub mod Telling
 pub mod Judging
+pub mod Laying
 pub mod Completing
 pub mod Seeking

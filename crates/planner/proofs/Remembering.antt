@@ -1,5 +1,5 @@
 -- The memory: what is read from it is true, and what is put down leaves it so. Assumes nothing.
-use Prim.Native.Nat.{ℕ, _+_, _*_, _/_, _%_, _<_, _≤_}
+use Prim.Native.Nat.{ℕ, _+_, _*_, _-_, _/_, _%_, _<_, _≤_}
 use mathlib.Core.Path.{_≡_, refl, sym, ap, _∙_, subst}
 use mathlib.Core.Bool.{Bool, true, false}
 use mathlib.Core.Logic.{_≢_, by-cases}
@@ -29,6 +29,10 @@ fact-none th K k s = record { no = λ e. absurd (omega (arith, e)); yes = λ e. 
 -- a flag that is not set
 pub unset : {A : Type 0} → false ≡ true → A
 unset e = let z : _≡_ {A = ℕ} 0 1 = ap (λ (b : Bool). pick b 1 0) e in absurd (omega arith)
+
+-- bytes that are cleared
+pub emptied : {was now : List ℕ} → Cleared was now memoryAt 5682 → (q : ℕ) → memoryAt ≤ q → q < workRoom → getD now q 0 ≡ 0
+emptied {was} {now} x q low high = let y : q ≡ memoryAt + (q - memoryAt) = omega (arith, low) in ap (λ (q : ℕ). getD now q 0) y ∙ x .clear (q - memoryAt) (omega (arith, low, high))
 
 -- keys of the same numbers
 pub key-same : {w w′ n n′ l l′ b b′ : ℕ} → w ≡ w′ → n ≡ n′ → l ≡ l′ → b ≡ b′ → _≡_ {A = Key} (record { who = w; nesting = n; left = l; base = b }) (record { who = w′; nesting = n′; left = l′; base = b′ })
@@ -141,19 +145,16 @@ module _ (h : Shape) where
     }
 
     -- an empty one
-    pub memory-clear : {was now : List ℕ} {n : ℕ} → Laid h → workRoom ≤ memoryAt + n → Cleared was now memoryAt n → Memory th K h now
-    memory-clear {was} {now} {n} laid room x = record {
+    pub memory-clear : {now : List ℕ} → Laid h → ((q : ℕ) → memoryAt ≤ q → q < workRoom → getD now q 0 ≡ 0) → Memory th K h now
+    memory-clear {now} laid x = record {
       laid = laid;
-      entries = λ i l. (
-          let zero : (d : ℕ) → d < 7 → getD now (memoryAt + i * h .entry + d) 0 ≡ 0 = (λ d g.
-          let y : memoryAt + i * h .entry + d ≡ memoryAt + (i * h .entry + d) = omega arith in
-          ap (λ (q : ℕ). getD now q 0) y ∙ x .clear (i * h .entry + d) (omega (arith, row-in (h .entries) (h .entry) i l, laid .inside, laid .whole, room))) in
-          let here : memoryAt + i * h .entry ≡ memoryAt + i * h .entry + 0 = omega arith in
+      entries = λ i l.
+          let a = memoryAt + i * h .entry in
+          let inside = row-in (h .entries) (h .entry) i l in
           record {
-            inside = subst (λ (n : ℕ). 7 + n * w ≤ h .entry) (sym (zero 6 (omega arith))) (omega (arith, laid .whole));
-            fact = subst (λ (m : ℕ). Fact th K m (keyAt now (memoryAt + i * h .entry)) (stateOf (slotTable h now (memoryAt + i * h .entry + 6)) now 0)) (sym (ap (λ (q : ℕ). getD now q 0) here ∙ zero 0 (omega arith))) (fact-none th K _ _);
-          }
-          );
+            inside = subst (λ (n : ℕ). 7 + n * w ≤ h .entry) (sym (x (a + 6) (omega arith) (omega (arith, inside, laid .inside, laid .whole)))) (omega (arith, laid .whole));
+            fact = subst (λ (m : ℕ). Fact th K m (keyAt now a) (stateOf (slotTable h now (a + 6)) now 0)) (sym (x a (omega arith) (omega (arith, inside, laid .inside, laid .whole)))) (fact-none th K _ _);
+          };
     }
 
   module _ {work : List ℕ} {slot : ℕ} (x : Slotted h work slot) where

@@ -7,7 +7,7 @@ use mathlib.Core.List.{List, [], _++_}
 use native.Mathlib.Decide.{ℕ-discrete, decLe}
 use native.Mathlib.Nat.{mul-le-mul-left, mul-le-mul-right}
 use native.Mathlib.Omega.{arith}
-use lib.ListN.{length, drop}
+use lib.ListN.{length, getD, drop}
 use lib.Dec.{leb}
 use borrow.Author.Tests.{leb-true}
 use lib.Seq.{ext-getD}
@@ -24,13 +24,12 @@ use Rattle.pack.specs.declared.contents.Contents.{Contents}
 use Rattle.pack.specs.declared.number.Number.{Number}
 use Rattle.pack.specs.declared.number.Number.the-variants as numbers
 use Rattle.pack.specs.Answer.{dims}
-use Rattle.pack.specs.Copy.{TableCopyable, TableCopied}
-use Rattle.pack.specs.Table.{Below, Above, cells}
-use Rattle.pack.specs.declared.table.Table.{Table}
-use Rattle.pack.proofs.Ready.{copied-fits, small-pack}
-use Rattle.pack.proofs.Tables.{cells-at}
+use Rattle.pack.specs.Table.{tableOf, Below, Above, cells}
+use Rattle.pack.proofs.Ready.{small-pack}
+use Rattle.pack.proofs.Tables.{cells-at, rows-length}
 use Rattle.chart.specs.Call.{fits, listRoom, workRoom, cleared, resultAfter, workAfter}
 use Rattle.chart.specs.Laws.Answers.{fits-table}
+use Rattle.chart.specs.Laws.Unique.{some}
 use Rattle.chart.specs.Inner.Put.{Cleared}
 use Rattle.chart.proofs.Calling.{and-true}
 use Rattle.chart.proofs.Cells.{cells-length}
@@ -50,10 +49,11 @@ use Rattle.planner.specs.Promises.{summary, Searching}
 use Rattle.planner.specs.Laws.Answers.{search-table-iff}
 use Rattle.planner.specs.Inner.Lists.{slotTable, Ends}
 use Rattle.planner.specs.Inner.Explain.{Stage}
-use Rattle.planner.specs.Inner.Memory.{memoryAt, Memory}
+use Rattle.planner.specs.Inner.Memory.{Memory}
 use Rattle.planner.proofs.Remembering.{laid-by, memory-clear}
-use Rattle.planner.proofs.Telling.{stage-same}
-use Rattle.planner.specs.Inner.Search.{Chosen, Best, Shortest, Seeking, Seekable, SearchPut}
+use Rattle.planner.proofs.Laying.{lay-narrow}
+use Rattle.planner.proofs.Telling.{counted, slot-stage}
+use Rattle.planner.specs.Inner.Search.{Laying, LaidStart, Chosen, Best, Shortest, Seeking, Seekable, SearchPut}
 
 module _ {Good : List ℕ → ℕ → Type 0} where
   -- no list of fewer than n actions, and none of n
@@ -89,56 +89,60 @@ module _ {th : Theory} {T : List Node} {pack places : List ℕ} {h : Shape} {fir
   abbrev C : ℕ
   C = h .characters
 
-  abbrev pub seekFrom : Table
-  seekFrom = record { rows = 1; nodes = nodes; fluents = f; characters = C; width = f + C }
+  pub seek-laying : Laying (th .domains) T pack first nodes h work
+  seek-laying = record { shaped = x .shaped; end = x .end; reads = x .reads; few = x .few; some = x .some; room = x .room }
 
-  table-size : 1 + nodes * (f + C) ≤ 961
-  table-size =
-      let s = x .theorized .small in
-      let narrow : f + C ≤ 30 = omega (arith, s .characters, s .fluents, x .same-characters, x .same-fluents) in
-      omega (arith, mul-le-mul-left nodes narrow, mul-le-mul-right 30 (x .few))
+  module _ {then : List ℕ} (y : LaidStart T h work then) (long : length then ≡ length work) where
+    abbrev pub seekTable : List Node
+    seekTable = tableOf (slotTable h then 0) then
 
-  pub seek-copies : TableCopyable pack first nodes work 0 f C
-  seek-copies = record { dimensions = dims C (th .domains); sized = x .shaped; few = x .few; value = T; end = x .end; reads = x .reads; room = omega (arith, table-size, x .room) }
+    rows-small : getD then 0 0 * (f + C) ≤ 960
+    rows-small = omega (arith, mul-le-mul-left (getD then 0 0) (lay-narrow seek-laying), mul-le-mul-right 30 (y .few))
 
-  module _ {mid : List ℕ} (y : TableCopied pack first nodes work mid 0 f C) where
-    pub seek-stage : Stage th T pack places h mid seekFrom 961
-    seek-stage = record {
+    pub seek-slot : Stage th seekTable pack places h then (slotTable h then 0) 961
+    seek-slot = record {
       theorized = x .theorized;
       tabled = record {
         over = record { small = x .theorized .small; characters = x .same-characters; fluents = x .same-fluents };
-        fits = copied-fits pack first nodes work mid 0 f C y (dims C (th .domains)) (x .shaped) T (x .end) (x .reads) (omega (arith, table-size, x .room));
-        same = y .table (dims C (th .domains)) (x .shaped) T (x .end) (x .reads);
-        few = x .few;
-        some = x .some;
+        fits = record { wide = refl; inside = omega (arith, rows-small, long, x .room); closed = y .starts .0 .ordered .closed };
+        same = refl;
+        few = y .few;
+        some = omega (arith, some seekTable (y .starts .0 .ordered .whole), rows-length then (f + C) f C 1 (getD then 0 0));
       };
       same-fluents = refl;
       same-characters = refl;
-      behind = omega (arith, table-size);
-      room = omega (arith, y .long, x .room);
+      behind = omega (arith, rows-small);
+      room = omega (arith, long, x .room);
       laid = x .laid;
     }
 
-    -- the memory is empty then
-    module _ {then : List ℕ} (cl : Cleared mid then memoryAt 5682) (long : length then ≡ length mid) where
-      pub seek-ready : Stage th T pack places h then seekFrom 961
-      seek-ready = stage-same seek-stage (λ q l. cl .low q (omega arith)) long
+    pub seek-memory : Memory th foresight h then
+    seek-memory = memory-clear h th foresight (x .laid) (y .empty)
 
-      pub seek-slot : Stage th T pack places h then (slotTable h then 0) 961
-      seek-slot = subst (λ (n : ℕ). Stage th T pack places h then (record { rows = 1; nodes = n; fluents = f; characters = C; width = f + C }) 961) (sym (cl .low 0 (omega arith) ∙ y .count)) seek-ready
+    seek-means : meaning C seekTable 0 ≡ meaning C T 0
+    seek-means = y .starts .1
 
-      pub seek-memory : Memory th foresight h then
-      seek-memory = memory-clear h th foresight (x .laid) (omega arith) cl
+    -- the author's utility there
+    module _ {n : ℕ} (count : getD then 0 0 ≡ n) where
+      pub seek-ready : Stage th seekTable pack places h then (counted h then 0 count n) 961
+      seek-ready = slot-stage h then 0 count seek-slot
 
-      pub seek-high : Above mid then workRoom
-      seek-high q l = cl .high q (omega arith)
+      module _ {base : ℕ} (is : base ≡ authorUtility th (meaning C seekTable 0)) where
+        pub seek-base : authorUtility th (meaning C seekTable 0) ≤ base
+        seek-base = omega (arith, is)
 
-    module _ {base : ℕ} (is : base ≡ authorUtility th (meaning C T 0)) {then list′ work′ now : List ℕ} {r : Ended} (high : Above mid then workRoom) (z : Shortest (Ends th foresight nesting base (meaning C T 0)) story list list′ then work′ r) (cl : Cleared work′ now 0 workRoom) (long : length now ≡ length work) (listed : length list′ ≡ length list) where
+        pub seek-from : base ≡ authorUtility th (meaning C T 0)
+        seek-from = is ∙ ap (authorUtility th) seek-means
+
+    pub seek-same : {base : ℕ} {list′ work′ : List ℕ} {r : Ended} → Shortest (Ends th foresight nesting base (meaning C seekTable 0)) story list list′ then work′ r → Shortest (Ends th foresight nesting base (meaning C T 0)) story list list′ then work′ r
+    seek-same {base} {list′} {work′} {r} z = subst (λ (s : State). Shortest (Ends th foresight nesting base s) story list list′ then work′ r) seek-means z
+
+    module _ {base : ℕ} (is : base ≡ authorUtility th (meaning C T 0)) {list′ work′ now : List ℕ} {r : Ended} (z : Shortest (Ends th foresight nesting base (meaning C T 0)) story list list′ then work′ r) (cl : Cleared work′ now 0 workRoom) (long′ : length now ≡ length work) (listed : length list′ ≡ length list) where
       abbrev s : State
       s = meaning C T 0
 
       all-clear : now ≡ cleared work
-      all-clear = cleared-all work cl (λ q g. z .high q g ∙ high q g ∙ y .above q (omega (arith, table-size))) long (x .room)
+      all-clear = cleared-all work cl (λ q g. z .high q g ∙ y .high q g) long′ (x .room)
 
       -- an ending is such a list
       ends : {other : List ℕ} → (e : Ending th foresight story nesting s other) → Ends th foresight nesting base s other (authorUtility th (e .end))

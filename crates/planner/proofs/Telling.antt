@@ -317,7 +317,7 @@ module _ {th : Theory} {T : List Node} {pack places : List ℕ} {h : Shape} {wor
   pub stage-slotted : Free slot 1 → Slotted h work slot
   stage-slotted f = record { laid = x .laid; narrow = omega (arith, small (x .tabled)); few = x .tabled .few; before = omega (arith, f); room = x .room }
 
-  stage-state : stateOf (slotTable h work slot) work 0 ≡ meaning (h .characters) T 0
+  pub stage-state : stateOf (slotTable h work slot) work 0 ≡ meaning (h .characters) T 0
   stage-state = ap (λ (U : List Node). meaning (h .characters) U 0) (x .tabled .same)
 
   pub known : {K m : ℕ} {k : Key} → Fact th K m k (stateOf (slotTable h work slot) work 0) → Fact th K m k (meaning (h .characters) T 0)

@@ -8,12 +8,15 @@ use crate::judge::within;
 use crate::memory::Key;
 use crate::memory::entry_of;
 use crate::memory::entry_size;
+use crate::memory::extent;
 use crate::memory::recall;
 use crate::memory::remember;
 use chart::bytes::clear;
 use chart::call::both_fit;
 use chart::call::check_lent;
 use chart::call::unless_refused;
+use chart::partition::first_other;
+use chart::start::merge_table;
 use pack::contents::read_pack;
 use pack::copy::copy_table;
 use pack::judge::holds;
@@ -21,19 +24,20 @@ use pack::judge::utility;
 use pack::number::Number;
 use pack::number::wide;
 use pack::table::Table;
+use transition::stage::copy_down;
 use transition::step::step_slot;
 ghost use mathlib.Core.Path.{_≡_};
-ghost use mathlib.Core.Bool.{_&&_};
+ghost use mathlib.Core.Bool.{true, _&&_};
 ghost use mathlib.Core.List.{List};
-ghost use Prim.Native.Nat.{suc, _+_, _*_, _<_, _≤_};
+ghost use Prim.Native.Nat.{ℕ, suc, _+_, _*_, _<_, _≤_};
 ghost use lib.ListN.{length};
 ghost use Rattle.pack.specs.Syntax.{Node, Theory};
 ghost use Rattle.pack.specs.State.{meaning};
 ghost use Rattle.planner.specs.Ending.{authorUtility};
 ghost use Rattle.planner.specs.Inner.Lists.{slotTable, Ends, EndsBy};
-ghost use Rattle.planner.specs.Inner.Memory.{Memory};
-ghost use Rattle.planner.specs.Inner.Explain.{Stage, Staged, Prepared, Free};
-ghost use Rattle.planner.specs.Inner.Search.{Best, Shortest, Seeking, Seekable, SearchPut};
+ghost use Rattle.planner.specs.Inner.Memory.{Memory, Slotted};
+ghost use Rattle.planner.specs.Inner.Explain.{Stage, Staged, Free};
+ghost use Rattle.planner.specs.Inner.Search.{Best, Trail, Underway, Outset, Repeated, Laying, Layable, LaidStart, Shortest, Seeking, Seekable, SearchPut};
 ghost use Rattle.planner.specs.Replies.{storyLimit, foresightLimit, nestingLimit};
 ghost use Rattle.planner.specs.Promises.{Searching};
 
@@ -60,11 +64,14 @@ pub fn completes(
     left: usize,
     base: usize,
 ) -> usize
-    requires { ⌜ Prepared (k .0) (now pack) (now places) p (now work) (slotTable p (now work) slot) (slot + 961) × (0 < k .0) × (k .0 ≤ 6) × Free slot (1 + left + k .0 * e .0) × (done + left ≤ length (now list)) ⌝ }
-    ensures { λ r. ⌜ ((th : Theory) (T : List Node) → Stage th T (now (pack .entry)) (now (places .entry)) p (now (work .entry)) (slotTable p (now (work .entry)) slot) (slot + 961) → Memory th (k .0) p (now (work .entry)) → Best (Memory th (k .0) p) (Ends th (k .0) (e .0) base (meaning (p .characters) T 0)) left (now (list .entry)) (now (list .exit)) done (slot + 961) (now (work .entry)) (now (work .exit)) r) ⌝ }
+    requires { ⌜ Underway (k .0) (e .0) base (now pack) (now places) p (now work) slot done left × (0 < k .0) × (k .0 ≤ 6) × Free slot (1 + left + k .0 * e .0) × (done + left ≤ length (now list)) × (slot ≡ done * 961) ⌝ }
+    ensures { λ r. ⌜ ((th : Theory) (T : List Node) → Stage th T (now (pack .entry)) (now (places .entry)) p (now (work .entry)) (slotTable p (now (work .entry)) slot) (slot + 961) → Memory th (k .0) p (now (work .entry)) → Trail th (k .0) (e .0) base p (now (work .entry)) done left (meaning (p .characters) T 0) → Best (Memory th (k .0) p) (Ends th (k .0) (e .0) base (meaning (p .characters) T 0)) left (now (list .entry)) (now (list .exit)) done (slot + 961) (now (work .entry)) (now (work .exit)) r) ⌝ }
 {
     if left == 0 {
         return ends(pack, places, p, work, slot, base);
+    }
+    if repeats(work, p, slot, done) {
+        return 0;
     }
     let key = Key {
         who: 7,
@@ -95,6 +102,22 @@ pub fn completes(
     after
 }
 
+// Whether the state in a slot, the last of `done` + 1, is one of those in the slots before it.
+pub fn repeats(work: &[u8], p: Shape, slot: usize, done: usize) -> bool
+    requires { ⌜ Slotted p (now work) slot × (slot ≡ done * 961) ⌝ }
+    ensures { λ r. ⌜ (r ≡ true → Repeated p (now (work .entry)) slot done) ⌝ }
+{
+    let n = extent(work, p, slot);
+    let mut i = 0;
+    while i < done {
+        if n <= first_other(work, slot, i * 961, n) {
+            return true;
+        }
+        i += 1;
+    }
+    false
+}
+
 // As `completes`, of the lists of one action more.
 pub fn completes_after(
     pack: &[u8],
@@ -109,8 +132,8 @@ pub fn completes_after(
     left: usize,
     base: usize,
 ) -> usize
-    requires { ⌜ Prepared (k .0) (now pack) (now places) p (now work) (slotTable p (now work) slot) (slot + 961) × (0 < k .0) × (k .0 ≤ 6) × Free slot (2 + left + k .0 * e .0) × (done + suc left ≤ length (now list)) ⌝ }
-    ensures { λ r. ⌜ ((th : Theory) (T : List Node) → Stage th T (now (pack .entry)) (now (places .entry)) p (now (work .entry)) (slotTable p (now (work .entry)) slot) (slot + 961) → Memory th (k .0) p (now (work .entry)) → Best (Memory th (k .0) p) (Ends th (k .0) (e .0) base (meaning (p .characters) T 0)) (suc left) (now (list .entry)) (now (list .exit)) done (slot + 961) (now (work .entry)) (now (work .exit)) r) ⌝ }
+    requires { ⌜ Underway (k .0) (e .0) base (now pack) (now places) p (now work) slot done (suc left) × (0 < k .0) × (k .0 ≤ 6) × Free slot (2 + left + k .0 * e .0) × (done + suc left ≤ length (now list)) × (slot ≡ done * 961) ⌝ }
+    ensures { λ r. ⌜ ((th : Theory) (T : List Node) → Stage th T (now (pack .entry)) (now (places .entry)) p (now (work .entry)) (slotTable p (now (work .entry)) slot) (slot + 961) → Memory th (k .0) p (now (work .entry)) → Trail th (k .0) (e .0) base p (now (work .entry)) done (suc left) (meaning (p .characters) T 0) → Best (Memory th (k .0) p) (Ends th (k .0) (e .0) base (meaning (p .characters) T 0)) (suc left) (now (list .entry)) (now (list .exit)) done (slot + 961) (now (work .entry)) (now (work .exit)) r) ⌝ }
 {
     let mut x = 0;
     while x < p.actions {
@@ -154,8 +177,8 @@ pub fn completes_by(
     left: usize,
     base: usize,
 ) -> usize
-    requires { ⌜ Prepared (k .0) (now pack) (now places) p (now work) (slotTable p (now work) slot) (slot + 961) × (x < p .actions) × (0 < k .0) × (k .0 ≤ 6) × Free slot (2 + left + k .0 * e .0) × (done + suc left ≤ length (now list)) ⌝ }
-    ensures { λ r. ⌜ ((th : Theory) (T : List Node) → Stage th T (now (pack .entry)) (now (places .entry)) p (now (work .entry)) (slotTable p (now (work .entry)) slot) (slot + 961) → Memory th (k .0) p (now (work .entry)) → Best (Memory th (k .0) p) (EndsBy th (k .0) (e .0) base x (meaning (p .characters) T 0)) (suc left) (now (list .entry)) (now (list .exit)) done (slot + 961) (now (work .entry)) (now (work .exit)) r) ⌝ }
+    requires { ⌜ Underway (k .0) (e .0) base (now pack) (now places) p (now work) slot done (suc left) × (x < p .actions) × (0 < k .0) × (k .0 ≤ 6) × Free slot (2 + left + k .0 * e .0) × (done + suc left ≤ length (now list)) × (slot ≡ done * 961) ⌝ }
+    ensures { λ r. ⌜ ((th : Theory) (T : List Node) → Stage th T (now (pack .entry)) (now (places .entry)) p (now (work .entry)) (slotTable p (now (work .entry)) slot) (slot + 961) → Memory th (k .0) p (now (work .entry)) → Trail th (k .0) (e .0) base p (now (work .entry)) done (suc left) (meaning (p .characters) T 0) → Best (Memory th (k .0) p) (EndsBy th (k .0) (e .0) base x (meaning (p .characters) T 0)) (suc left) (now (list .entry)) (now (list .exit)) done (slot + 961) (now (work .entry)) (now (work .exit)) r) ⌝ }
 {
     let t = Table {
         rows: slot + 1,
@@ -219,8 +242,8 @@ pub fn shortest(
     k: Foresight,
     base: usize,
 ) -> Ended
-    requires { ⌜ Prepared (k .0) (now pack) (now places) p (now work) (slotTable p (now work) 0) 961 × (0 < k .0) × (k .0 ≤ 6) × (e .0 ≤ 3) × (s .0 ≤ 8) × (8 ≤ length (now list)) ⌝ }
-    ensures { λ r. ⌜ ((th : Theory) (T : List Node) → Stage th T (now (pack .entry)) (now (places .entry)) p (now (work .entry)) (slotTable p (now (work .entry)) 0) 961 → Memory th (k .0) p (now (work .entry)) → Shortest (Ends th (k .0) (e .0) base (meaning (p .characters) T 0)) (s .0) (now (list .entry)) (now (list .exit)) (now (work .entry)) (now (work .exit)) r) ⌝ }
+    requires { ⌜ Outset (k .0) base (now pack) (now places) p (now work) × (0 < k .0) × (k .0 ≤ 6) × (e .0 ≤ 3) × (s .0 ≤ 8) × (8 ≤ length (now list)) ⌝ }
+    ensures { λ r. ⌜ ((th : Theory) (T : List Node) → Stage th T (now (pack .entry)) (now (places .entry)) p (now (work .entry)) (slotTable p (now (work .entry)) 0) 961 → Memory th (k .0) p (now (work .entry)) → authorUtility th (meaning (p .characters) T 0) ≤ base → Shortest (Ends th (k .0) (e .0) base (meaning (p .characters) T 0)) (s .0) (now (list .entry)) (now (list .exit)) (now (work .entry)) (now (work .exit)) r) ⌝ }
 {
     let mut n = 1;
     while n <= s.0 {
@@ -251,6 +274,19 @@ pub fn limits(story: usize, foresight: usize, nesting: usize) -> bool
     }
 }
 
+// Lays the nodes that are read from `first` on out in the first slot, merged, and empties the memory.
+pub fn lay_start(pack: &[u8], first: usize, nodes: usize, p: Shape, work: &mut [u8])
+    requires { ⌜ Layable (now pack) first nodes p (now work) ⌝ }
+    ensures { λ _. ⌜ ((domains : List ℕ) (T : List Node) → Laying domains T (now (pack .entry)) first nodes p (now (work .entry)) → LaidStart T p (now (work .entry)) (now (work .exit))) ⌝ }
+{
+    copy_table(pack, first, nodes, work, 0, p.fluents, p.characters);
+    let width = p.fluents + p.characters;
+    let rows = merge_table(work, nodes, width, p.fluents, p.characters);
+    work[0] = rows as u8;
+    copy_down(work, 2400, 1, rows * width);
+    clear(work, 43470, 5682);
+}
+
 // The search from what node 0 means of the nodes that are read from `first` on. The work buffer is cleared.
 pub fn search_nodes(
     pack: &[u8],
@@ -267,15 +303,14 @@ pub fn search_nodes(
     requires { ⌜ Seekable (now pack) (now places) p first nodes (s .0) (e .0) (k .0) (now list) (now work) ⌝ }
     ensures { λ r. ⌜ ((th : Theory) (T : List Node) → Seeking th T (now (pack .entry)) (now (places .entry)) p first nodes (s .0) (e .0) (k .0) (now (list .entry)) (now (work .entry)) → SearchPut th (k .0) (s .0) (e .0) (meaning (p .characters) T 0) (now (list .entry)) (now (list .exit)) (now (work .entry)) (now (work .exit)) r) ⌝ }
 {
-    copy_table(pack, first, nodes, work, 0, p.fluents, p.characters);
+    lay_start(pack, first, nodes, p, work);
     let t = Table {
         rows: 1,
-        nodes,
+        nodes: wide(work[0]),
         fluents: p.fluents,
         characters: p.characters,
         width: p.fluents + p.characters,
     };
-    clear(work, 43470, 5682);
     let base = utility(pack, places[320], work, t, 0);
     let found = shortest(pack, places, p, work, list, s, e, k, base);
     clear(work, 0, 49152);

@@ -1,16 +1,17 @@
 -- The author's list search: what is put down, and what it means. Assumes nothing.
-use Prim.Native.Nat.{ℕ, _+_, _<_, _≤_}
+use Prim.Native.Nat.{ℕ, _+_, _*_, _-_, _<_, _≤_}
 use mathlib.Core.Path.{_≡_}
 use mathlib.Core.List.{List}
 use lib.ListN.{length, getD}
 use Rattle.pack.specs.Syntax.{Node, Theory}
-use Rattle.pack.specs.State.{State}
+use Rattle.pack.specs.State.{State, meaning}
 use Rattle.pack.specs.Reading.{done, many, told}
 use Rattle.pack.specs.Answer.{dims}
 use Rattle.pack.specs.Grammar.{nodeAt}
 use Rattle.pack.specs.Copy.{Shaped}
-use Rattle.pack.specs.Table.{Below, Above}
+use Rattle.pack.specs.Table.{tableOf, stateOf, Below, Above}
 use Rattle.chart.specs.Call.{listRoom, workRoom, cleared, resultAfter}
+use Rattle.chart.specs.Chart.{Starts}
 use Rattle.chart.specs.Earliest.{Before}
 use Rattle.transition.specs.Inner.Play.{Theorized}
 use Rattle.planner.specs.declared.Found.{Found}
@@ -19,7 +20,10 @@ use Rattle.planner.specs.declared.search.Ended.{Ended}
 use Rattle.planner.specs.Search.{Answer, Searched}
 use Rattle.planner.specs.Replies.{answerReply}
 use Rattle.planner.specs.Promises.{searchSaid, summary}
-use Rattle.planner.specs.Inner.Memory.{Laid}
+use Rattle.planner.specs.Inner.Lists.{slotTable, Ends}
+use Rattle.planner.specs.Inner.Memory.{memoryAt, Laid, Memory}
+use Rattle.planner.specs.Inner.Explain.{Stage}
+use Rattle.planner.specs.Ending.{authorUtility}
 
 -- a list put down from `done` on
 pub record Put (was now : List ℕ) (done : ℕ) (list : List ℕ) : Type 0 where
@@ -42,6 +46,29 @@ pub record Best (M : List ℕ → Type 0) (Good : List ℕ → ℕ → Type 0) (
   pub high : Above work work′ workRoom
   pub memory : M work′
 
+-- no list of fewer than n actions is good
+abbrev pub Dry : (Good : List ℕ → ℕ → Type 0) (n : ℕ) → Type 0
+Dry Good n = (list : List ℕ) (v : ℕ) → length list < n → ¬ Good list v
+
+-- the author's path: n states in the slots before s; from each of them, and from s, no list of fewer actions than are left to it is good
+pub record Trail (p : Theory) (foresight nesting base : ℕ) (h : Shape) (work : List ℕ) (n left : ℕ) (s : State) : Type 0 where
+  pub before : (i : ℕ) → i < n → Dry (Ends p foresight nesting base (stateOf (slotTable h work (i * 961)) work 0)) (left + (n - i))
+  pub here : Dry (Ends p foresight nesting base s) left
+  pub small : (i : ℕ) → i < n → 1 + getD work (i * 961) 0 * (h .fluents + h .characters) ≤ 961
+
+-- a stage, a memory and a path
+abbrev pub Underway : (foresight nesting base : ℕ) (pack places : List ℕ) (h : Shape) (work : List ℕ) (slot n left : ℕ) → Type 0
+Underway K e base pack places h work slot n left =
+    (p : Theory) × ((T : List Node) × (Stage p T pack places h work (slotTable h work slot) (slot + 961) × Memory p K h work × Trail p K e base h work n left (meaning (h .characters) T 0)))
+
+-- a stage and a memory, and the author's utility there is at most base
+abbrev pub Outset : (foresight base : ℕ) (pack places : List ℕ) (h : Shape) (work : List ℕ) → Type 0
+Outset K base pack places h work = (p : Theory) × ((T : List Node) × (Stage p T pack places h work (slotTable h work 0) 961 × Memory p K h work × (authorUtility p (meaning (h .characters) T 0) ≤ base)))
+
+-- the state in a slot is one of those before it
+abbrev pub Repeated : (h : Shape) (work : List ℕ) (slot n : ℕ) → Type 0
+Repeated h work slot n = (i : ℕ) × (i < n) × (stateOf (slotTable h work (i * 961)) work 0 ≡ stateOf (slotTable h work slot) work 0)
+
 -- the shortest of the good lists of 1 to T actions, and of those the earliest, is put down; or its length is 0, there is none, and nothing is put down
 pub record Shortest (Good : List ℕ → ℕ → Type 0) (story : ℕ) (was now work work′ : List ℕ) (r : Ended) : Type 0 where
   pub none : r .length ≡ 0 → (now ≡ was) × ((list : List ℕ) (v : ℕ) → 0 < length list → length list ≤ story → ¬ Good list v)
@@ -50,6 +77,25 @@ pub record Shortest (Good : List ℕ → ℕ → Type 0) (story : ℕ) (was now 
   pub shortest : (other : List ℕ) (v : ℕ) → 0 < length other → length other < r .length → ¬ Good other v
   pub low : Below work work′ 961
   pub high : Above work work′ workRoom
+
+-- the nodes that are read from a place on, and room
+pub record Laying (domains : List ℕ) (T : List Node) (pack : List ℕ) (first nodes : ℕ) (h : Shape) (work : List ℕ) : Type 0 where
+  pub shaped : Shaped (dims (h .characters) domains) (h .fluents) (h .characters)
+  pub end : ℕ
+  pub reads : many (nodeAt (dims (h .characters) domains) nodes) nodes pack first ≡ done T end
+  pub few : nodes ≤ 32
+  pub some : 0 < nodes
+  pub room : workRoom ≤ length work
+
+abbrev pub Layable : (pack : List ℕ) (first nodes : ℕ) (h : Shape) (work : List ℕ) → Type 0
+Layable pack first nodes h work = (domains : List ℕ) × ((T : List Node) × Laying domains T pack first nodes h work)
+
+-- in the first slot stands the written chart of what node 0 means, and no entry of the memory is marked
+pub record LaidStart (T : List Node) (h : Shape) (was now : List ℕ) : Type 0 where
+  pub few : getD now 0 0 ≤ 32
+  pub starts : Starts (h .characters) (meaning (h .characters) T 0) (tableOf (slotTable h now 0) now)
+  pub empty : (q : ℕ) → memoryAt ≤ q → q < workRoom → getD now q 0 ≡ 0
+  pub high : Above was now workRoom
 
 -- what the search from a pack's nodes is lent: a theory, found in the pack, its nodes, and room
 pub record Seeking (th : Theory) (T : List Node) (pack places : List ℕ) (h : Shape) (first nodes story nesting foresight : ℕ) (list work : List ℕ) : Type 0 where

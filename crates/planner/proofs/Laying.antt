@@ -1,0 +1,73 @@
+-- A pack's nodes, merged in the first slot. Assumes nothing.
+use Prim.Native.Nat.{ℕ, _+_, _*_, _-_, _<_, _≤_}
+use mathlib.Core.Path.{_≡_, refl, sym, ap, _∙_, subst}
+use mathlib.Core.List.{List}
+use native.Mathlib.Nat.{mul-le-mul-left, mul-le-mul-right}
+use native.Mathlib.Omega.{arith}
+use lib.ListN.{length, getD, set, length-set}
+use lib.Seq.{getD-set-same, getD-set-other}
+use Rattle.pack.specs.Syntax.{Node}
+use Rattle.pack.specs.State.{State, meaning}
+use Rattle.pack.specs.Answer.{dims}
+use Rattle.pack.specs.Copy.{TableCopyable, TableCopied}
+use Rattle.pack.specs.Table.{rowsAt, Above}
+use Rattle.pack.proofs.Ready.{copied, copied-fits}
+use Rattle.pack.proofs.Tables.{belief-in-table}
+use Rattle.chart.specs.Call.{workRoom}
+use Rattle.chart.specs.Chart.{Starts}
+use Rattle.chart.specs.Inner.Put.{Cleared, PartCopied}
+use Rattle.chart.specs.Inner.Start.{Mergeable, Merged}
+use Rattle.chart.proofs.Cells.{rows-same}
+use Rattle.planner.specs.declared.explain.Shape.{Shape}
+use Rattle.planner.specs.Inner.Memory.{memoryAt}
+use Rattle.planner.specs.Inner.Search.{Laying, LaidStart}
+use Rattle.planner.proofs.Remembering.{emptied}
+
+module _ {domains : List ℕ} {T : List Node} {pack : List ℕ} {first nodes : ℕ} {h : Shape} {work : List ℕ} (x : Laying domains T pack first nodes h work) where
+  abbrev f : ℕ
+  f = h .fluents
+
+  abbrev C : ℕ
+  C = h .characters
+
+  abbrev w : ℕ
+  w = f + C
+
+  pub lay-narrow : w ≤ 30
+  lay-narrow = let s = x .shaped in omega (arith, s .small .characters, s .small .fluents, s .fluents)
+
+  table-size : 1 + nodes * w ≤ 961
+  table-size = omega (arith, mul-le-mul-left nodes lay-narrow, mul-le-mul-right 30 (x .few))
+
+  pub lay-copies : TableCopyable pack first nodes work 0 f C
+  lay-copies = record { dimensions = dims C domains; sized = x .shaped; few = x .few; value = T; end = x .end; reads = x .reads; room = omega (arith, table-size, x .room) }
+
+  module _ {mid : List ℕ} (y : TableCopied pack first nodes work mid 0 f C) where
+    pub lay-merges : Mergeable mid nodes w f C
+    lay-merges = record {
+      some = x .some;
+      few = x .few;
+      wide = omega arith;
+      slim = lay-narrow;
+      sound = record { beliefs = λ i k g l. belief-in-table (copied pack first nodes work mid 0 f C y (dims C domains) (x .shaped) T (x .end) (x .reads)) mid (copied-fits pack first nodes work mid 0 f C y (dims C domains) (x .shaped) T (x .end) (x .reads) (omega (arith, table-size, x .room))) i k g l };
+      room = omega (arith, x .room, y .long);
+    }
+
+    module _ {mid′ : List ℕ} {r : ℕ} (z : Merged mid mid′ nodes w f C r) (long : length mid′ ≡ length mid) where
+      pub merged-size : (r < 256) × (r * w ≤ 960)
+      merged-size = (omega (arith, z .few, x .few), omega (arith, mul-le-mul-right w (z .few), table-size))
+
+      pub lay-down : (1 + r * w ≤ 2400) × (2400 + r * w ≤ length (set mid′ 0 r))
+      lay-down = (omega (arith, merged-size), omega (arith, merged-size, length-set mid′ 0 r, long, y .long, x .room))
+
+      pub lay-done : {now then : List ℕ} → PartCopied (set mid′ 0 r) now 2400 1 (r * w) → Cleared now then memoryAt 5682 → LaidStart T h work then
+      lay-done {now} {then} c cl =
+          let count : getD then 0 0 ≡ r = cl .low 0 (omega arith) ∙ c .low 0 (omega arith) ∙ getD-set-same mid′ 0 r 0 (omega (arith, long, y .long, x .room)) in
+          let rows : rowsAt then w f C 1 r ≡ rowsAt mid′ w f C 2400 r = rows-same mid′ then w f C 2400 1 r (omega arith) (λ q l. cl .low (1 + q) (omega (arith, l, merged-size)) ∙ c .part q l ∙ getD-set-other mid′ 0 (2400 + q) r 0 (λ e. omega (arith, e))) in
+          let start : Starts C (meaning C T 0) (rowsAt mid′ w f C 2400 r) = (z .starts .0, z .starts .1 ∙ ap (λ (t : List Node). meaning C t 0) (y .table (dims C domains) (x .shaped) T (x .end) (x .reads))) in
+          record {
+            few = omega (arith, count, z .few, x .few);
+            starts = subst (λ (n : ℕ). Starts C (meaning C T 0) (rowsAt then w f C 1 n)) (sym count) (subst (Starts C (meaning C T 0)) (sym rows) start);
+            empty = emptied cl;
+            high = λ q l. cl .high q (omega arith) ∙ c .high q (omega (arith, l, merged-size)) ∙ getD-set-other mid′ 0 q r 0 (λ e. omega (arith, e, l)) ∙ z .high q (omega (arith, l)) ∙ y .above q (omega (arith, l, table-size));
+          }
