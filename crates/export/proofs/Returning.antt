@@ -14,8 +14,12 @@ use Rattle.chart.specs.Replies.{startReply, queryReply, compareReply}
 use Rattle.chart.specs.Promises.{difference, chartSaid, querySaid, compareSaid, Started, Asked, Comparison}
 use Rattle.transition.specs.Replies.{stepReply}
 use Rattle.transition.specs.Promises.{Stepped}
+use Rattle.planner.specs.declared.Judged.{Judged}
+use Rattle.planner.specs.declared.Found.{Found}
+use Rattle.planner.specs.Replies.{explainedReply, searchReply}
+use Rattle.planner.specs.Promises.{explainedSaid, searchSaid, summary, Judgement, Searching}
 use Rattle.export.specs.Report.{reportRoom, seen, put, numberOf, entries, Returned}
-use Rattle.export.specs.Exports.{one, matchNumbers, StartReturned, QueryReturned, CompareReturned, StepReturned}
+use Rattle.export.specs.Exports.{one, matchNumbers, verdictNumbers, planNumbers, StartReturned, QueryReturned, CompareReturned, StepReturned, ExplainedReturned, SearchReturned}
 
 -- one store is one number put
 pub put-one : (n : ℕ) (report : List ℕ) → set report 0 n ≡ put (n ∷ []) report
@@ -59,9 +63,9 @@ told-after f (gives a) work = refl
 told-after f (refuses k p) work = refl
 
 -- what is told of an answer, where its case is known
-pub charted-told : {x : Charted} (y : Charted) (report : List ℕ) {report′ : List ℕ} {r : ℕ} → x ≡ y → r ≡ numberOf (told one (chartSaid y)) → report′ ≡ put (entries (told one (chartSaid y))) report
-    → (r ≡ numberOf (told one (chartSaid x))) × (report′ ≡ put (entries (told one (chartSaid x))) report)
-charted-told y report {report′} {r} e n t = subst (λ (z : Charted). (r ≡ numberOf (told one (chartSaid z))) × (report′ ≡ put (entries (told one (chartSaid z))) report)) (sym e) (n, t)
+pub answer-told : {X A : Type 0} (said : X → Reply A) (tells : A → List ℕ) {x : X} (y : X) (report : List ℕ) {report′ : List ℕ} {r : ℕ} → x ≡ y → r ≡ numberOf (told tells (said y))
+    → report′ ≡ put (entries (told tells (said y))) report → (r ≡ numberOf (told tells (said x))) × (report′ ≡ put (entries (told tells (said x))) report)
+answer-told {X} said tells y report {report′} {r} e n t = subst (λ (z : X). (r ≡ numberOf (told tells (said z))) × (report′ ≡ put (entries (told tells (said z))) report)) (sym e) (n, t)
 
 -- how much of the work buffer is lent
 abbrev room : (b : Bool) (work : List ℕ) → ℕ
@@ -151,5 +155,28 @@ module _ (report work : List ℕ) (k : ℕ) (lends : k ≡ room (fits reportRoom
         record {
           returned = returned reply (λ v. matchNumbers (difference v)) (told matchNumbers (compareSaid y))
               (sym (told-told matchNumbers difference reply) ∙ ap (told matchNumbers) (sym (p .answer) ∙ ap compareSaid is)) (p .scratch) n t;
+          result = p .result;
+        }
+
+    pub explained-returned : {pack chart : List ℕ} {character action foresight nesting character₁ action₁ foresight₁ nesting₁ : ℕ} {x : Judged}
+        → character ≡ character₁ → action ≡ action₁ → foresight ≡ foresight₁ → nesting ≡ nesting₁ → Judgement pack chart character₁ action₁ foresight₁ nesting₁ (take k work) part x
+        → r ≡ numberOf (told verdictNumbers (explainedSaid x)) → report′ ≡ put (entries (told verdictNumbers (explainedSaid x))) report
+        → ExplainedReturned pack chart character action foresight nesting work report (part ++ drop k work) report′ r
+    explained-returned {pack} {chart} {character} {action} {foresight} {nesting} {x = x} c a f n promise number t =
+        let p = rw (← c, ← a, ← f, ← n, sees) at promise in
+        record {
+          returned = returned (explainedReply pack chart character action foresight nesting (seen report work)) verdictNumbers (told verdictNumbers (explainedSaid x))
+              (ap (told verdictNumbers) (sym (p .answer))) (p .scratch) number t;
+        }
+
+    pub search-returned : {pack : List ℕ} {story foresight nesting story₁ foresight₁ nesting₁ : ℕ} {list list′ : List ℕ} {x : Found}
+        → story ≡ story₁ → foresight ≡ foresight₁ → nesting ≡ nesting₁ → Searching pack story₁ foresight₁ nesting₁ list (take k work) list′ part x
+        → r ≡ numberOf (told planNumbers (searchSaid x)) → report′ ≡ put (entries (told planNumbers (searchSaid x))) report
+        → SearchReturned pack story foresight nesting list work report list′ (part ++ drop k work) report′ r
+    search-returned {pack} {story} {foresight} {nesting} {list = list} {x = x} s f n promise number t =
+        let p = rw (← s, ← f, ← n, sees) at promise in
+        let reply = searchReply pack story foresight nesting list (seen report work) in
+        record {
+          returned = returned reply (λ p. planNumbers (summary p)) (told planNumbers (searchSaid x)) (sym (told-told planNumbers summary reply) ∙ ap (told planNumbers) (sym (p .answer))) (p .scratch) number t;
           result = p .result;
         }

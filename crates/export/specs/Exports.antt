@@ -1,13 +1,16 @@
 -- What each exported call promises, on every input: what is told of its answer, and what it leaves in every lent buffer. A buffer's name with ′ is what it holds at exit.
 use Prim.Native.Nat.{ℕ}
 use mathlib.Core.Path.{_≡_}
+use mathlib.Core.Bool.{Bool}
 use mathlib.Core.List.{List, [], _∷_}
 use lib.ListN.{length}
-use Rattle.pack.specs.Reading.{told}
+use Rattle.pack.specs.Reading.{pick, told}
 use Rattle.chart.specs.Call.{resultAfter}
 use Rattle.chart.specs.Replies.{startReply, queryReply, compareReply, chainOf}
 use Rattle.chart.specs.Promises.{Difference, nowhere, after, difference}
 use Rattle.transition.specs.Replies.{stepReply}
+use Rattle.planner.specs.Replies.{explainedReply, searchReply}
+use Rattle.planner.specs.Promises.{Summary, summary}
 use Rattle.export.specs.Report.{seen, Returned}
 
 -- one number
@@ -37,3 +40,20 @@ pub record CompareReturned (pack first second chain work report chain′ work′
 pub record StepReturned (pack chart : List ℕ) (action : ℕ) (out work report out′ work′ report′ : List ℕ) (r : ℕ) : Type 0 where
   pub returned : Returned (told (λ bytes. one (length bytes)) (stepReply pack chart action out (seen report work))) work report work′ report′ r
   pub result : out′ ≡ resultAfter (stepReply pack chart action out (seen report work)) out
+
+-- 1 for yes, 0 for no
+abbrev pub verdictNumbers : Bool → List ℕ
+verdictNumbers verdict = one (pick verdict 1 0)
+
+-- pirwodd_explained(pack, chart, character, action, K, e, work, report): "is yes if .. otherwise it is no"
+pub record ExplainedReturned (pack chart : List ℕ) (character action foresight nesting : ℕ) (work report work′ report′ : List ℕ) (r : ℕ) : Type 0 where
+  pub returned : Returned (told verdictNumbers (explainedReply pack chart character action foresight nesting (seen report work))) work report work′ report′ r
+
+-- the list's length, and the author's utility at the start and at its end
+abbrev pub planNumbers : Summary → List ℕ
+planNumbers s = s .length ∷ s .before ∷ s .after ∷ []
+
+-- pirwodd_search(pack, T, K, E, list out, work, report): "the length, the actions (8 bytes lent) and both worths"
+pub record SearchReturned (pack : List ℕ) (story foresight nesting : ℕ) (list work report list′ work′ report′ : List ℕ) (r : ℕ) : Type 0 where
+  pub returned : Returned (told (λ p. planNumbers (summary p)) (searchReply pack story foresight nesting list (seen report work))) work report work′ report′ r
+  pub result : list′ ≡ resultAfter (told (λ p. p .list) (searchReply pack story foresight nesting list (seen report work))) list

@@ -6,6 +6,10 @@ use chart::Queried;
 use chart::compare::compare;
 use chart::query::query;
 use chart::start::start;
+use planner::Found;
+use planner::Judged;
+use planner::judge::judge;
+use planner::search::search;
 use transition::step::step;
 ghost use mathlib.Core.Path.{_≡_};
 ghost use mathlib.Core.List.{[], _∷_};
@@ -13,8 +17,9 @@ ghost use lib.ListN.{set};
 ghost use lib.Dec.{leb};
 ghost use Rattle.pack.specs.Reading.{pick, told};
 ghost use Rattle.chart.specs.Promises.{chartSaid};
+ghost use Rattle.planner.specs.Promises.{explainedSaid, searchSaid};
 ghost use Rattle.export.specs.Report.{reportRoom, put, numberOf, entries};
-ghost use Rattle.export.specs.Exports.{one, StartReturned, QueryReturned, CompareReturned, StepReturned};
+ghost use Rattle.export.specs.Exports.{one, verdictNumbers, planNumbers, StartReturned, QueryReturned, CompareReturned, StepReturned, ExplainedReturned, SearchReturned};
 
 fn wide_byte(x: u8) -> usize
     ensures { λ r. ⌜ x ≡ r ⌝ }
@@ -65,13 +70,13 @@ fn tell(number: u8, entry: usize, report: &mut [u64]) -> u32
     wide_number(number)
 }
 
-// Hands 0 back, and puts three entries into the report: 1, and what is said of a difference.
-fn tell_difference(length: usize, fluent: usize, report: &mut [u64]) -> u32
-    ensures { λ r. ⌜ (0 ≡ r) × (now (report .exit) ≡ put (1 ∷ length ∷ fluent ∷ []) (now (report .entry))) ⌝ }
+// Hands 0 back, and puts three entries into the report.
+fn tell_three(first: usize, second: usize, third: usize, report: &mut [u64]) -> u32
+    ensures { λ r. ⌜ (0 ≡ r) × (now (report .exit) ≡ put (first ∷ second ∷ third ∷ []) (now (report .entry))) ⌝ }
 {
-    put_entry(report, 0, 1);
-    put_entry(report, 1, length);
-    put_entry(report, 2, fluent);
+    put_entry(report, 0, first);
+    put_entry(report, 1, second);
+    put_entry(report, 2, third);
     0
 }
 
@@ -82,6 +87,33 @@ fn tell_charted(answer: Charted, report: &mut [u64]) -> u32
     match answer {
         Charted::Refused(k, at) => tell(k, at, report),
         Charted::Chart(length) => tell(0, length, report),
+    }
+}
+
+// 1 for yes, 0 for no.
+fn bit(x: bool) -> usize
+    ensures { λ r. ⌜ r ≡ pick x 1 0 ⌝ }
+{
+    if x { 1 } else { 0 }
+}
+
+// Tells the verdict, or the refusal.
+fn tell_judged(answer: Judged, report: &mut [u64]) -> u32
+    ensures { λ r. ⌜ (r ≡ numberOf (told verdictNumbers (explainedSaid answer))) × (now (report .exit) ≡ put (entries (told verdictNumbers (explainedSaid answer))) (now (report .entry))) ⌝ }
+{
+    match answer {
+        Judged::Refused(k, at) => tell(k, at, report),
+        Judged::Verdict(verdict) => tell(0, bit(verdict), report),
+    }
+}
+
+// Tells the list's length and both utilities, or the refusal.
+fn tell_found(answer: Found, report: &mut [u64]) -> u32
+    ensures { λ r. ⌜ (r ≡ numberOf (told planNumbers (searchSaid answer))) × (now (report .exit) ≡ put (entries (told planNumbers (searchSaid answer))) (now (report .entry))) ⌝ }
+{
+    match answer {
+        Found::Refused(k, at) => tell(k, at, report),
+        Found::Ending(length, before, after) => tell_three(length, before, after, report),
     }
 }
 
@@ -135,7 +167,7 @@ pub extern "C" fn pirwodd_compare(
     match compare(pack, first, second, chain, &mut work[..room]) {
         Matched::Refused(k, at) => tell(k, at, report),
         Matched::Same => tell(0, 0, report),
-        Matched::Differ(length, fluent) => tell_difference(length, fluent, report),
+        Matched::Differ(length, fluent) => tell_three(1, length, fluent, report),
     }
 }
 
@@ -154,4 +186,56 @@ pub extern "C" fn pirwodd_step(
     let room = lent(report.len(), work.len());
     let answer = step(pack, chart, index(action), result, &mut work[..room]);
     tell_charted(answer, report)
+}
+
+// Explained: the report's entry is 1 for yes, 0 for no.
+#[no_mangle]
+pub extern "C" fn pirwodd_explained(
+    pack: &[u8],
+    chart: &[u8],
+    character: u64,
+    action: u64,
+    foresight: u64,
+    nesting: u64,
+    work: &mut [u8],
+    report: &mut [u64],
+) -> u32
+    ensures { λ r. ⌜ ExplainedReturned (now (pack .entry)) (now (chart .entry)) character action foresight nesting (now (work .entry)) (now (report .entry)) (now (work .exit)) (now (report .exit)) r ⌝ }
+{
+    let room = lent(report.len(), work.len());
+    let answer = judge(
+        pack,
+        chart,
+        index(character),
+        index(action),
+        index(foresight),
+        index(nesting),
+        &mut work[..room],
+    );
+    tell_judged(answer, report)
+}
+
+// Search: the report's entries are the list's length, and the author's utility at the start and at the list's end.
+#[no_mangle]
+pub extern "C" fn pirwodd_search(
+    pack: &[u8],
+    story: u64,
+    foresight: u64,
+    nesting: u64,
+    list: &mut [u8],
+    work: &mut [u8],
+    report: &mut [u64],
+) -> u32
+    ensures { λ r. ⌜ SearchReturned (now (pack .entry)) story foresight nesting (now (list .entry)) (now (work .entry)) (now (report .entry)) (now (list .exit)) (now (work .exit)) (now (report .exit)) r ⌝ }
+{
+    let room = lent(report.len(), work.len());
+    let answer = search(
+        pack,
+        index(story),
+        index(foresight),
+        index(nesting),
+        list,
+        &mut work[..room],
+    );
+    tell_found(answer, report)
 }

@@ -19,7 +19,7 @@ returns-2 : tie.Need-returns-2
 returns-2 c = compare-returned _ _ _ (c .before .before .before .before .before .before .before .before .before .before .before .before .before .lent .ensures) _ _ _ (c .before .before .before .before .before .before .before .work .given .0) _ (c .before .before .before .before .before .before .before .before .before .before .compare .ensures) (c .before .before .before .before .enum-told .given .1) (sym (c .before .before .tell2 .ensures .0)) (c .before .before .tell2 .ensures .1)
 
 returns-3 : tie.Need-returns-3
-returns-3 c = compare-returned _ _ _ (c .before .before .before .before .before .before .before .before .before .before .before .before .before .before .lent .ensures) _ _ _ (c .before .before .before .before .before .before .before .before .work .given .0) _ (c .before .before .before .before .before .before .before .before .before .before .before .compare .ensures) (c .before .before .before .before .before .length .given .1) (sym (c .before .before .tell-difference .ensures .0)) (c .before .before .tell-difference .ensures .1)
+returns-3 c = compare-returned _ _ _ (c .before .before .before .before .before .before .before .before .before .before .before .before .before .before .lent .ensures) _ _ _ (c .before .before .before .before .before .before .before .before .work .given .0) _ (c .before .before .before .before .before .before .before .before .before .before .before .compare .ensures) (c .before .before .before .before .before .length .given .1) (sym (c .before .before .tell-three .ensures .0)) (c .before .before .tell-three .ensures .1)
 
 pub pirwodd-compare-spec : {M : Type 1} → statement M
 pirwodd-compare-spec =

@@ -1,15 +1,17 @@
 -- Each case of what was said. Assumes nothing.
 use mathlib.Core.Path.{sym}
 use borrow.Author.Needs.{needs}
-use Rattle.export.proofs.Returning.{charted-told}
+use Rattle.chart.specs.Promises.{chartSaid}
+use Rattle.export.specs.Exports.{one}
+use Rattle.export.proofs.Returning.{answer-told}
 use Rattle.export.proofs.tell_charted.Statement.{statement}
 use Rattle.export.proofs.tell_charted.Tie as tie
 
 returns : tie.Need-returns
-returns c = charted-told _ _ (c .before .before .before .before .before .answer .given .1) (sym (c .before .before .tell .ensures .0)) (c .before .before .tell .ensures .1)
+returns c = answer-told chartSaid one _ _ (c .before .before .before .before .before .answer .given .1) (sym (c .before .before .tell .ensures .0)) (c .before .before .tell .ensures .1)
 
 returns-2 : tie.Need-returns-2
-returns-2 c = charted-told _ _ (c .before .before .before .before .before .answer2 .given .1) (sym (c .before .before .tell2 .ensures .0)) (c .before .before .tell2 .ensures .1)
+returns-2 c = answer-told chartSaid one _ _ (c .before .before .before .before .before .answer2 .given .1) (sym (c .before .before .tell2 .ensures .0)) (c .before .before .tell2 .ensures .1)
 
 pub tell-charted-spec : {M : Type 1} → statement M
 tell-charted-spec =

@@ -10,10 +10,12 @@ use Rattle.pack.specs.State.{meaning}
 use Rattle.pack.specs.Reading.{gives, pick}
 use Rattle.pack.specs.Layout.{chartBytes}
 use Rattle.chart.specs.Answers.{startTable, compareTable}
-use Rattle.chart.specs.Call.{chartRoom, chainRoom, workRoom, fits, call}
+use Rattle.chart.specs.Call.{chartRoom, chainRoom, listRoom, workRoom, fits, call}
 use Rattle.chart.specs.Replies.{firstOf, secondOf, allBelow, startReply, queryReply, compareReply}
 use Rattle.transition.specs.Answers.{stepTable}
 use Rattle.transition.specs.Replies.{outcomeReply, stepReply}
+use Rattle.planner.specs.Answers.{explainedTable, searchTable}
+use Rattle.planner.specs.Replies.{storyLimit, foresightLimit, nestingLimit, explainedReply, answerReply, searchReply}
 use Rattle.export.specs.Report.{reportRoom, seen}
 
 -- the work buffer that is seen is long enough exactly where both it and the report are
@@ -52,4 +54,24 @@ pub step-seen : (pack chart : List ℕ) (action : ℕ) (out work report : List �
 unfolding stepReply
 step-seen pack chart action out work report =
     ap (λ (b : Bool). call pack (chart ∷ []) (fits chartRoom out && b) (λ p. ltb action (length (p .actions))) (λ (p : Pack) (tables : List (List Node)). outcomeReply (stepTable (p .theory) (firstOf tables) action)))
+    (seen-fits report work)
+
+pub explained-seen : (pack chart : List ℕ) (character action foresight nesting : ℕ) (work report : List ℕ) → explainedReply pack chart character action foresight nesting (seen report work)
+    ≡ call pack (chart ∷ []) (fits reportRoom report && fits workRoom work)
+    (λ p. ltb character (p .characters) && (ltb action (length (p .actions)) && (foresightLimit foresight && nestingLimit nesting)))
+    (λ p tables. gives (explainedTable (p .theory) foresight nesting character action (firstOf tables)))
+unfolding explainedReply
+explained-seen pack chart character action foresight nesting work report =
+    ap (λ (b : Bool). call pack (chart ∷ []) b
+    (λ p. ltb character (p .characters) && (ltb action (length (p .actions)) && (foresightLimit foresight && nestingLimit nesting)))
+    (λ (p : Pack) (tables : List (List Node)). gives (explainedTable (p .theory) foresight nesting character action (firstOf tables))))
+    (seen-fits report work)
+
+pub search-seen : (pack : List ℕ) (story foresight nesting : ℕ) (list work report : List ℕ) → searchReply pack story foresight nesting list (seen report work)
+    ≡ call pack [] (fits listRoom list && (fits reportRoom report && fits workRoom work)) (λ p. storyLimit story && (foresightLimit foresight && nestingLimit nesting))
+    (λ p tables. answerReply (searchTable (p .theory) foresight story nesting (p .nodes)))
+unfolding searchReply
+search-seen pack story foresight nesting list work report =
+    ap (λ (b : Bool). call pack [] (fits listRoom list && b) (λ p. storyLimit story && (foresightLimit foresight && nestingLimit nesting))
+    (λ (p : Pack) (tables : List (List Node)). answerReply (searchTable (p .theory) foresight story nesting (p .nodes))))
     (seen-fits report work)

@@ -1,0 +1,19 @@
+-- Each case of what was said. Assumes nothing.
+use mathlib.Core.Path.{sym}
+use borrow.Author.Needs.{needs}
+use Rattle.planner.specs.Promises.{searchSaid}
+use Rattle.export.specs.Exports.{planNumbers}
+use Rattle.export.proofs.Returning.{answer-told}
+use Rattle.export.proofs.tell_found.Statement.{statement}
+use Rattle.export.proofs.tell_found.Tie as tie
+
+returns : tie.Need-returns
+returns c = answer-told searchSaid planNumbers _ _ (c .before .before .before .before .before .answer .given .1) (sym (c .before .before .tell .ensures .0)) (c .before .before .tell .ensures .1)
+
+returns-2 : tie.Need-returns-2
+returns-2 c = answer-told searchSaid planNumbers _ _ (c .before .before .before .before .before .answer2 .given .1) (sym (c .before .before .tell-three .ensures .0)) (c .before .before .tell-three .ensures .1)
+
+pub tell-found-spec : {M : Type 1} → statement M
+tell-found-spec =
+    tie.close
+    (tie.spec (λ c. search needs) (λ c κs. search needs) (λ c. search needs) (λ c κs. search needs) (λ c. search needs) returns (λ c. search needs) returns-2)

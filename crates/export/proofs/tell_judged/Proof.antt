@@ -1,0 +1,22 @@
+-- Each case of what was said; a verdict is told as a number. Assumes nothing.
+use Prim.Native.Nat.{ℕ}
+use mathlib.Core.Path.{sym, ap, _∙_}
+use mathlib.Core.List.{[], _∷_}
+use borrow.Author.Needs.{needs}
+use Rattle.planner.specs.Promises.{explainedSaid}
+use Rattle.export.specs.Report.{put}
+use Rattle.export.specs.Exports.{verdictNumbers}
+use Rattle.export.proofs.Returning.{answer-told}
+use Rattle.export.proofs.tell_judged.Statement.{statement}
+use Rattle.export.proofs.tell_judged.Tie as tie
+
+returns : tie.Need-returns
+returns c = answer-told explainedSaid verdictNumbers _ _ (c .before .before .before .before .before .answer .given .1) (sym (c .before .before .tell .ensures .0)) (c .before .before .tell .ensures .1)
+
+returns-2 : tie.Need-returns-2
+returns-2 c = answer-told explainedSaid verdictNumbers _ _ (c .before .before .before .before .before .before .answer2 .given .1) (sym (c .before .before .tell2 .ensures .0)) (c .before .before .tell2 .ensures .1 ∙ ap (λ (n : ℕ). put (n ∷ []) (c .before .before .before .before .before .before .before .before .before .args .report .now)) (c .before .before .before .before .bit .ensures))
+
+pub tell-judged-spec : {M : Type 1} → statement M
+tell-judged-spec =
+    tie.close
+    (tie.spec (λ c. search needs) (λ c κs. search needs) (λ c. search needs) (λ c κs. search needs) (λ c κs. search needs) (λ c. search needs) returns (λ c. search needs) returns-2)
