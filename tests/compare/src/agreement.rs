@@ -17,10 +17,22 @@ pub fn alike(name: &str, count: u64, draw: fn(&mut Random) -> Call, by: &mut imp
     tally
 }
 
-/// Puts a call to both. Panics where they differ in the answer or in a byte of what they are lent.
+/// Puts a call to it and to the reference. Panics where they differ in the answer or in a byte of what they are lent.
 pub fn both(tally: &mut Tally, by: &mut impl Implementation, call: &Call, noise: &Noise, seed: u64) -> Seen {
+    same(tally, by, &mut Reference, call, noise, seed)
+}
+
+/// The same against any other implementation.
+pub fn same(
+    tally: &mut Tally,
+    by: &mut impl Implementation,
+    other: &mut impl Implementation,
+    call: &Call,
+    noise: &Noise,
+    seed: u64,
+) -> Seen {
     let lent = Lent::new(call, noise, &mut Random::new(seed));
-    let (found, expected) = (lent.to(by, call), lent.to(&mut Reference, call));
+    let (found, expected) = (lent.to(by, call), lent.to(other, call));
     assert_eq!(found.outcome, expected.outcome, "seed {seed}: {call}");
     assert!(found == expected, "seed {seed}: the buffers differ after {call}");
     tally.note(what(&found));

@@ -86,7 +86,7 @@ fn nodes(r: &mut Random, pack: &Pack) -> Vec<Node> {
 
 /// Half of the calls stay as they are. The others have faults of any kind, or one number of the pack or of a chart
 /// damaged.
-fn faulty(r: &mut Random, mut call: Call) -> Call {
+pub fn faulty(r: &mut Random, mut call: Call) -> Call {
     match r.below(8) {
         0..=3 => {}
         4 | 5 => damage::spoil(r, &mut call),

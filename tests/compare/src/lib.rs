@@ -9,12 +9,14 @@
 pub mod agreement;
 pub mod asks;
 pub mod course;
+pub mod effort;
 pub mod expected;
 pub mod inputs;
 pub mod largest;
 pub mod lending;
 pub mod library;
 pub mod numbers;
+pub mod plans;
 pub mod probe;
 pub mod report;
 pub mod tables;

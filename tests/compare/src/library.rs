@@ -27,6 +27,15 @@ extern "C" {
         pack: *const u8, pack_length: usize, chart: *const u8, chart_length: usize, action: u64,
         result: *mut u8, result_length: usize, work: *mut u8, work_length: usize, report: *mut u64, report_length: usize,
     ) -> u32;
+    fn pirwodd_explained(
+        pack: *const u8, pack_length: usize, chart: *const u8, chart_length: usize,
+        character: u64, action: u64, foresight: u64, nesting: u64,
+        work: *mut u8, work_length: usize, report: *mut u64, report_length: usize,
+    ) -> u32;
+    fn pirwodd_search(
+        pack: *const u8, pack_length: usize, story: u64, foresight: u64, nesting: u64,
+        list: *mut u8, list_length: usize, work: *mut u8, work_length: usize, report: *mut u64, report_length: usize,
+    ) -> u32;
 }
 
 /// How many entries a report must have.
@@ -48,9 +57,9 @@ impl Library {
         Library { entries, noise: Random::new(entries as u64) }
     }
 
-    /// Whether the library has the call yet.
+    /// Whether it is a call of the library; `ending` is a program.
     pub fn has(ask: &Ask) -> bool {
-        matches!(ask, Ask::Start | Ask::Query { .. } | Ask::Compare { .. } | Ask::Step { .. })
+        *ask != Ask::Ending
     }
 
     fn report(&mut self) -> Report {
@@ -135,12 +144,56 @@ impl Implementation for Library {
         report.told(number).map(|[length]| length as usize)
     }
 
-    fn explained(&mut self, _: &[u8], _: &[u8], _: u64, _: u64, _: u64, _: u64, _: &mut [u8]) -> Result<bool, Refusal> {
-        unimplemented!("Explained is not exported yet")
+    fn explained(
+        &mut self,
+        pack: &[u8],
+        chart: &[u8],
+        character: u64,
+        action: u64,
+        foresight: u64,
+        nesting: u64,
+        work: &mut [u8],
+    ) -> Result<bool, Refusal> {
+        let mut report = self.report();
+        let lent = report.lent();
+        // SAFETY: as above.
+        #[rustfmt::skip]
+        let number = unsafe {
+            pirwodd_explained(
+                pack.as_ptr(), pack.len(), chart.as_ptr(), chart.len(), character, action, foresight, nesting,
+                work.as_mut_ptr(), work.len(), lent.as_mut_ptr(), lent.len(),
+            )
+        };
+        report.told(number).map(|[verdict]| match verdict {
+            0 | 1 => verdict == 1,
+            _ => panic!("neither yes nor no: {verdict}"),
+        })
     }
 
-    fn search(&mut self, _: &[u8], _: u64, _: u64, _: u64, _: &mut [u8], _: &mut [u8]) -> Result<Found, Refusal> {
-        unimplemented!("Search is not exported yet")
+    fn search(
+        &mut self,
+        pack: &[u8],
+        story: u64,
+        foresight: u64,
+        nesting: u64,
+        result: &mut [u8],
+        work: &mut [u8],
+    ) -> Result<Found, Refusal> {
+        let mut report = self.report();
+        let lent = report.lent();
+        // SAFETY: as above.
+        #[rustfmt::skip]
+        let number = unsafe {
+            pirwodd_search(
+                pack.as_ptr(), pack.len(), story, foresight, nesting,
+                result.as_mut_ptr(), result.len(), work.as_mut_ptr(), work.len(), lent.as_mut_ptr(), lent.len(),
+            )
+        };
+        report.told(number).map(|[length, before, after]| Found {
+            length: length as usize,
+            before: before as usize,
+            after: after as usize,
+        })
     }
 
     fn ending(&mut self, _: &[u8]) -> String {

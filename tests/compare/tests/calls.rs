@@ -3,17 +3,22 @@
 
 use compare::agreement::{alike, both, often, what};
 use compare::asks;
+use compare::effort;
 use compare::inputs::P;
 use compare::lending::{Lent, Noise};
 use compare::library::{Library, ENTRIES};
+use compare::plans;
 use compare::tally::{refused, Tally};
 use reference::call::{Call, Outcome};
-use reference::calls::Differs;
+use reference::calls::{Differs, Found};
 use reference::generate;
 use reference::generate::random::Random;
 use reference::implementation::{Implementation, Reference};
-use reference::refusal::{without_place, Refusal, CONDITION, RANGE, SHORT};
+use reference::refusal::{without_place, Refusal, CONDITION, NO_ENDING, RANGE, SHORT};
+use reference::tuned::Engine;
 
+/// Calls that take more steps without memory are left out.
+const MOST_STEPS: usize = 50_000;
 const IN_A_PACK: [u8; 7] = [1, 2, 3, 4, 5, 6, 7];
 const IN_A_CHART: [u8; 6] = [21, 22, 23, 24, 25, 27];
 
@@ -37,16 +42,18 @@ fn compare() {
     often(&met, 100, &[&["same"], &chains[..]].concat(), &[&IN_A_PACK[..5], &[7, 8], &IN_A_CHART]);
 }
 
-/// The calls of the generator that the library has.
+/// The calls of the generator, but for those of the program `ending` and those that would take too long.
 #[test]
 fn generated() {
     let (mut tally, mut library, noise) = (Tally::default(), Library::new(), Noise::new());
     for (seed, call) in (0..8_000).map(|seed| (seed, generate::call(seed))).filter(|(_, call)| Library::has(&call.ask))
     {
-        both(&mut tally, &mut library, &call, &noise, seed);
+        if effort::within(&call, MOST_STEPS) {
+            both(&mut tally, &mut library, &call, &noise, seed);
+        }
     }
     println!("generated: {tally}");
-    assert!(tally.all() >= 400);
+    assert!(tally.all() >= 7_000);
 }
 
 /// A report of fewer than three entries is 8, at its place among the checks: the reply is that to a call which is lent
@@ -55,10 +62,10 @@ fn generated() {
 fn other_reports() {
     for entries in [0, 1, 2, 4, 5, 8] {
         let (mut tally, mut library, noise) = (Tally::default(), Library::with_report(entries), Noise::new());
-        for seed in 0..2_000 {
+        let mut engine = Engine::new();
+        for seed in 0..3_000 {
             let r = &mut Random::new(6_000_000 + seed);
-            let draw: fn(&mut Random) -> Call = r.pick(&[asks::start, asks::query, asks::compare, asks::step]);
-            let call = draw(r);
+            let call = any(r, &mut engine);
             let short = Call { work: if entries < ENTRIES { 0 } else { call.work }, ..call.clone() };
             let found = Lent::new(&call, &noise, r).to(&mut library, &call);
             let expected = match Lent::new(&short, &noise, r).to(&mut Reference, &short).outcome {
@@ -75,7 +82,24 @@ fn other_reports() {
     }
 }
 
-/// The readings and rows of document 01 that are Start's, Query's, Compare's and Step's.
+/// A call of any kind that doesn't take long.
+fn any(r: &mut Random, engine: &mut Engine) -> Call {
+    loop {
+        let call = match r.below(6) {
+            0 => asks::start(r),
+            1 => asks::query(r),
+            2 => asks::compare(r),
+            3 => asks::step(r),
+            4 => plans::search(r),
+            _ => plans::explanations(r, engine, 1).remove(0),
+        };
+        if effort::within(&call, MOST_STEPS) {
+            return call;
+        }
+    }
+}
+
+/// The readings and rows of document 01 that are the calls'.
 #[test]
 fn examples() {
     let (mut library, mut result, mut work) = (Library::new(), [7; 961], vec![7; 49_152]);
@@ -103,4 +127,23 @@ fn examples() {
     assert_eq!(library.step(&P, &[1, 0, 1, 1], 1, &mut result, &mut work), Err(without_place(RANGE)));
     assert_eq!(library.step(&P, &[1, 0, 1, 1], 1 << 32, &mut result, &mut work), Err(without_place(RANGE)));
     assert_eq!(library.step(&P, &[1, 0, 1, 1], 0, &mut result[1..], &mut work), Err(without_place(SHORT)));
+    let start = [1, 0, 1, 1];
+    assert_eq!(library.explained(&P, &start, 0, 0, 1, 1, &mut work), Ok(true));
+    assert_eq!(library.explained(&P, &start, 1, 0, 1, 1, &mut work), Ok(false));
+    assert_eq!(library.explained(&P, &start, 0, 0, 1, 0, &mut work), Ok(false));
+    for (character, action, foresight, nesting) in
+        [(2, 0, 1, 1), (0, 1, 1, 1), (0, 0, 0, 1), (0, 0, 7, 1), (0, 0, 1, 4)]
+    {
+        let said = library.explained(&P, &start, character, action, foresight, nesting, &mut work);
+        assert_eq!(said, Err(without_place(RANGE)));
+    }
+    let (found, mut list) = (Found { length: 1, before: 0, after: 5 }, [7; 8]);
+    assert_eq!(library.search(&P, 1, 1, 1, &mut list, &mut work), Ok(found));
+    assert_eq!(list, [0, 7, 7, 7, 7, 7, 7, 7]);
+    assert_eq!(library.search(&P, 1, 1, 0, &mut list, &mut work), Err(without_place(NO_ENDING)));
+    assert_eq!(library.search(&P, 1, 1, 1, &mut list[1..], &mut work), Err(without_place(SHORT)));
+    for (story, foresight, nesting) in [(0, 1, 1), (9, 1, 1), (1, 0, 1), (1, 7, 1), (1, 1, 4)] {
+        let said = library.search(&P, story, foresight, nesting, &mut list, &mut work);
+        assert_eq!(said, Err(without_place(RANGE)));
+    }
 }
