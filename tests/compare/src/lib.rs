@@ -2,9 +2,10 @@
 //!
 //! `library` calls the proved library and `probe` its reader of packs and charts, with the numbers they tell in a
 //! `report`; `lending` puts a call with all that it is lent between margins. `expected` asks the reference's readers,
-//! `numbers` finds and damages the numbers of a pack or chart, `inputs` draws packs and charts and `asks` calls, `agreement`
-//! compares calls and `tally` what is read, and counts, `course` tells what a step met, `largest` and `tables` build
-//! what the benchmarks are run on, `timing` measures.
+//! `numbers` finds and damages the numbers of a pack or chart, `inputs` draws packs and charts, `asks` calls and `plans`
+//! searches and explanations, of which `effort` counts the steps; `agreement` compares calls and `tally` what is read, and
+//! counts, `course` tells what a step met, `largest`, `tables` and `sought` build what the benchmarks are run on, `timing`
+//! measures.
 
 pub mod agreement;
 pub mod asks;
@@ -19,6 +20,7 @@ pub mod numbers;
 pub mod plans;
 pub mod probe;
 pub mod report;
+pub mod sought;
 pub mod tables;
 pub mod tally;
 pub mod timing;

@@ -3,8 +3,11 @@
 use std::time::Instant;
 
 pub const ROUNDS: usize = 301;
-/// About how long one measurement takes.
+/// About how long one measurement takes, unless a single run takes longer.
 const NANOSECONDS: f64 = 1_000_000.0;
+/// Where all rounds would take longer than this there are fewer.
+const MOST_NANOSECONDS: f64 = 5_000_000_000.0;
+const LEAST_ROUNDS: usize = 5;
 
 /// One way to do it.
 pub struct Way<'a> {
@@ -17,6 +20,15 @@ impl<'a> Way<'a> {
         Way { name, run: Box::new(run) }
     }
 
+    /// How many runs take about as long as one measurement should.
+    fn repeats(&mut self) -> usize {
+        if self.time(1) > NANOSECONDS {
+            1
+        } else {
+            (NANOSECONDS / self.time(50)) as usize + 1
+        }
+    }
+
     /// Nanoseconds of one run, over so many.
     fn time(&mut self, repeats: usize) -> f64 {
         let start = Instant::now();
@@ -25,8 +37,8 @@ impl<'a> Way<'a> {
     }
 }
 
-struct Time {
-    median: f64,
+pub struct Time {
+    pub median: f64,
     best: f64,
 }
 
@@ -43,11 +55,13 @@ pub fn compare(ways: &mut [Way]) {
     println!();
 }
 
-/// Measures all in turn, so that what else the machine does meets them alike.
-fn in_turn(ways: &mut [Way]) -> Vec<Time> {
-    let repeats: Vec<usize> = ways.iter_mut().map(|way| (NANOSECONDS / way.time(50)) as usize + 1).collect();
+/// Measures all in turn, so that what else the machine does meets them alike: nanoseconds of one run of each.
+pub fn in_turn(ways: &mut [Way]) -> Vec<Time> {
+    let repeats: Vec<usize> = ways.iter_mut().map(Way::repeats).collect();
+    let turn: f64 = ways.iter_mut().zip(&repeats).map(|(way, &repeats)| way.time(repeats) * repeats as f64).sum();
+    let rounds = ((MOST_NANOSECONDS / turn) as usize).clamp(LEAST_ROUNDS, ROUNDS);
     let mut times = vec![Vec::new(); ways.len()];
-    for _ in 0..ROUNDS {
+    for _ in 0..rounds {
         for (i, way) in ways.iter_mut().enumerate() {
             times[i].push(way.time(repeats[i]));
         }
