@@ -13,7 +13,7 @@ unfoldable pub digits : (most n : ℕ) → List ℕ
 digits zero n = []
 digits (suc most) n = pick (ltb n 10) [] (digits most (n / 10)) ++ ((48 + n % 10) ∷ [])
 
--- a number in decimal: those of 64 bits have at most 20 digits
+-- a number in decimal: those of 64 bits have at most 20 digits (`Laws.Decimal` reads them back)
 abbrev pub decimal : ℕ → List ℕ
 decimal n = digits 20 n
 

@@ -8,8 +8,6 @@ use Rattle.ending.specs.Put.{Put}
 use Rattle.ending.proofs.Pieces.{put-next, put-whole, put-nothing}
 use Rattle.ending.proofs.text.put_word.Statement.{statement}
 use Rattle.ending.proofs.text.put_word.Tie as tie
-use Rattle.ending.proofs.text.put_word.Reads as reads
-use Rattle.ending.proofs.text.put_word.Lts as lts
 
 abbrev Inv-loop : tie.InvT-loop
 Inv-loop text₀ at word i₀ text i = (i ≤ length word) × (length text ≡ length text₀) × Put (take i word) text₀ at text (at + i)
