@@ -1,7 +1,7 @@
 -- What Search hands back, as text. Assumes nothing.
 use Prim.Native.Nat.{ℕ, _+_, _≤_}
-use mathlib.Core.Path.{_≡_, refl, sym, ap, _∙_, subst}
-use mathlib.Core.List.{List, [], _∷_, _++_}
+use mathlib.Core.Path.{_≡_, sym, ap, _∙_, subst}
+use mathlib.Core.List.{List, _++_}
 use native.Mathlib.Omega.{arith}
 use lib.ListN.{length, take, drop, length-append}
 use lib.Seq.{take-append-seam}
@@ -12,7 +12,7 @@ use Rattle.planner.specs.declared.Found.{Found}
 use Rattle.planner.specs.declared.Found.the-variants as found
 use Rattle.planner.specs.Replies.{Plan, searchReply}
 use Rattle.planner.specs.Promises.{Summary, summary, searchSaid, Searching}
-use Rattle.ending.specs.Text.{steps, worths, refusal, printed, endingReply}
+use Rattle.ending.specs.Text.{steps, worths, refusal, printed}
 use Rattle.ending.specs.Put.{Put, Listed, answerText, Printed}
 use Rattle.ending.specs.Laws.Lent.{enough-lent}
 use Rattle.ending.proofs.Pieces.{put-length, put-front}

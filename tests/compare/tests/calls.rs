@@ -17,8 +17,6 @@ use reference::implementation::{Implementation, Reference};
 use reference::refusal::{without_place, Refusal, CONDITION, NO_ENDING, RANGE, SHORT};
 use reference::tuned::Engine;
 
-/// Calls that take more steps without memory are left out.
-const MOST_STEPS: usize = 50_000;
 const IN_A_PACK: [u8; 7] = [1, 2, 3, 4, 5, 6, 7];
 const IN_A_CHART: [u8; 6] = [21, 22, 23, 24, 25, 27];
 
@@ -48,7 +46,7 @@ fn generated() {
     let (mut tally, mut library, noise) = (Tally::default(), Library::new(), Noise::new());
     for (seed, call) in (0..8_000).map(|seed| (seed, generate::call(seed))).filter(|(_, call)| Library::has(&call.ask))
     {
-        if effort::within(&call, MOST_STEPS) {
+        if effort::quick(&call) {
             both(&mut tally, &mut library, &call, &noise, seed);
         }
     }
@@ -93,7 +91,7 @@ fn any(r: &mut Random, engine: &mut Engine) -> Call {
             4 => plans::search(r),
             _ => plans::explanations(r, engine, 1).remove(0),
         };
-        if effort::within(&call, MOST_STEPS) {
+        if effort::quick(&call) {
             return call;
         }
     }

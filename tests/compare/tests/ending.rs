@@ -17,8 +17,6 @@ use std::process::{Command, Stdio};
 use std::thread::sleep;
 use std::time::Duration;
 
-/// Searches that take more steps without memory are left out.
-const MOST_STEPS: usize = 50_000;
 const PACKS: u64 = 2_000;
 
 fn repository() -> PathBuf {
@@ -98,7 +96,7 @@ fn drawn() {
     let ask = Ask::Search { story: STORY as u64, foresight: FORESIGHT as u64, nesting: NESTING as u64 };
     for seed in 0..PACKS {
         let pack = plans::search(&mut Random::new(11_000_000 + seed)).pack;
-        if !effort::within(&Call::new(pack.clone(), ask.clone()), MOST_STEPS) {
+        if !effort::quick(&Call::new(pack.clone(), ask.clone())) {
             continue;
         }
         let text = at_once(&pack);

@@ -13,8 +13,6 @@ use reference::implementation::answer_by;
 use reference::plain;
 use reference::tuned::Engine;
 
-/// Calls that take more steps without memory are left out; to be raised as the library remembers more.
-const MOST_STEPS: usize = 50_000;
 const SEARCHES: u64 = 40_000;
 const PACKS: u64 = 24_000;
 /// How many explanations are asked for about one pack.
@@ -43,7 +41,7 @@ impl Comparison {
     }
 
     fn put(&mut self, call: &Call, seed: u64) {
-        if !effort::within(call, MOST_STEPS) {
+        if !effort::quick(call) {
             self.left_out += 1;
             return;
         }
@@ -91,7 +89,7 @@ fn plainly() {
     for seed in 0..PLAIN {
         let r = &mut Random::new(10_000_000 + seed);
         let asked = plans::explanations(r, &mut engine, 1);
-        for call in [plans::search(r)].iter().chain(&asked).filter(|call| effort::within(call, MOST_STEPS)) {
+        for call in [plans::search(r)].iter().chain(&asked).filter(|call| effort::quick(call)) {
             let name = if matches!(call.ask, Ask::Search { .. }) { "search" } else { "explained" };
             match plain::answer(call) {
                 Some(plainly) => {

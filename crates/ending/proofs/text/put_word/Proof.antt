@@ -5,7 +5,7 @@ use native.Mathlib.Omega.{arith}
 use lib.ListN.{length, take, getD, length-set}
 use borrow.Author.Needs.{needs}
 use Rattle.ending.specs.Put.{Put}
-use Rattle.ending.proofs.Pieces.{put-next, put-whole, put-nothing}
+use Rattle.ending.proofs.Pieces.{put-next, put-whole}
 use Rattle.ending.proofs.text.put_word.Statement.{statement}
 use Rattle.ending.proofs.text.put_word.Tie as tie
 
