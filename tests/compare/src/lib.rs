@@ -21,6 +21,7 @@ pub mod plans;
 pub mod probe;
 pub mod report;
 pub mod sought;
+pub mod sources;
 pub mod tables;
 pub mod tally;
 pub mod timing;

@@ -26,11 +26,11 @@ const HEAD: &str = "\
 Searches one after the other on one thread, the three in turn; medians of 301 measurements of a millisecond or of a single
 run, or of as many as five seconds allow. All three are lent the same buffers and set the first 49,152 bytes of the work
 buffer to 0 in every call; nothing is cleared between calls. The tuned engine keeps its memory from call to call and nothing
-else; the readable reference allocates. Steps are those of a search that remembers nothing, and those that the library says
-it made (- where it doesn't).
+else; the readable reference allocates. Steps are those of a search that remembers nothing; the program count_steps has the
+library's own.
 
-| Search | Found | Steps without memory | Library's steps | Library | Tuned | Readable | Library / tuned | Library / readable |
-|---|---|---|---|---|---|---|---|---|";
+| Search | Found | Steps without memory | Library | Tuned | Readable | Library / tuned | Library / readable |
+|---|---|---|---|---|---|---|---|";
 
 fn main() {
     println!("{HEAD}");
@@ -51,11 +51,6 @@ fn main() {
     }
 }
 
-/// How many steps the library made in its last search, once it tells.
-fn library_steps() -> Option<usize> {
-    None
-}
-
 /// A row for one pack, or for several that are searched one after the other; those are left out that take too long.
 fn measure(name: &str, (story, foresight, nesting): (u64, u64, u64), packs: Vec<Vec<u8>>) {
     let name = format!("{name}, T {story} K {foresight} E {nesting}");
@@ -68,16 +63,15 @@ fn measure(name: &str, (story, foresight, nesting): (u64, u64, u64), packs: Vec<
     let (calls, steps): (Vec<Call>, Vec<usize>) =
         calls.filter_map(|call| effort::steps(&call, MOST_STEPS).map(|steps| (call, steps))).unzip();
     if calls.is_empty() {
-        return println!("| {name} | left out: more than {MOST_STEPS} steps | | | | | | | |");
+        return println!("| {name} | left out: more than {MOST_STEPS} steps | | | | | | |");
     }
     let (found, times) = searched(&calls);
     let many =
         if all == 1 { String::new() } else { format!(", {} packs, {} left out", calls.len(), all - calls.len()) };
-    let (steps, told) =
-        (steps.iter().sum::<usize>(), library_steps().map_or("-".to_string(), |steps| steps.to_string()));
+    let steps = steps.iter().sum::<usize>();
     let [library, tuned, readable] = times.map(time);
     let (to_tuned, to_readable) = (times[0] / times[1], times[0] / times[2]);
-    print!("| {name}{many} | {found} | {steps} | {told} ");
+    print!("| {name}{many} | {found} | {steps} ");
     println!("| {library} | {tuned} | {readable} | {to_tuned:.2} | {to_readable:.2} |");
 }
 

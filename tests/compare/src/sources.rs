@@ -1,0 +1,134 @@
+//! The library's own sources as Rust: their contracts left out, each step counted. So the steps of a search can be counted
+//! as the proved code makes them, and what one part of it saves by turning that part off. Nothing is proved by that.
+
+use std::fs;
+use std::io::{Error, Result};
+use std::path::{Path, PathBuf};
+use std::process::Command;
+
+/// The crates, each over those before it.
+const CRATES: [&str; 4] = ["pack", "chart", "transition", "planner"];
+
+/// Something that the search does without, by changed lines: the file, what it says, and what it is to say.
+pub struct Off {
+    pub name: &'static str,
+    pub edits: &'static [(&'static str, &'static str, &'static str)],
+}
+
+pub const NOTHING_OFF: Off = Off { name: "nothing", edits: &[] };
+
+pub const OFF: [Off; 5] = [
+    Off {
+        name: "memory of characters' lists",
+        edits: &[
+            ("planner/explain.rs", "if known == 1 {", "if known == 9 {"),
+            ("planner/explain.rs", "if known == 2 {", "if known == 9 {"),
+        ],
+    },
+    Off {
+        name: "memory of the author's lists",
+        edits: &[("planner/search.rs", "if recall(work, p, slot, at, key) == 3 {", "if false {")],
+    },
+    Off {
+        name: "repeats on the author's path",
+        edits: &[("planner/search.rs", "if repeats(work, p, slot, done) {", "if false {")],
+    },
+    Off {
+        name: "conditions before consenters",
+        edits: &[("planner/explain.rs", "if !may {", "if false {"), ("planner/search.rs", "if !may {", "if false {")],
+    },
+    Off {
+        name: "all of them",
+        edits: &[
+            ("planner/explain.rs", "if known == 1 {", "if known == 9 {"),
+            ("planner/explain.rs", "if known == 2 {", "if known == 9 {"),
+            ("planner/search.rs", "if recall(work, p, slot, at, key) == 3 {", "if false {"),
+            ("planner/search.rs", "if repeats(work, p, slot, done) {", "if false {"),
+            ("planner/explain.rs", "if !may {", "if false {"),
+            ("planner/search.rs", "if !may {", "if false {"),
+        ],
+    },
+];
+
+/// A program that searches packs and prints the steps of each search: a line `T K E FILE` each on its input.
+const PROGRAM: &str = r#"
+fn main() {
+    let (mut work, mut list) = (vec![0u8; 49152], [0u8; 8]);
+    for line in std::io::stdin().lines() {
+        let line = line.unwrap();
+        let words: Vec<&str> = line.splitn(4, ' ').collect();
+        let limit = |i: usize| words[i].parse().unwrap();
+        let pack = std::fs::read(words[3]).unwrap();
+        transition::step::STEPS.store(0, std::sync::atomic::Ordering::Relaxed);
+        planner::search::search(&pack, limit(0), limit(1), limit(2), &mut list, &mut work);
+        println!("{}", transition::step::STEPS.load(std::sync::atomic::Ordering::Relaxed));
+    }
+}
+"#;
+
+const COUNTER: &str = "pub static STEPS: std::sync::atomic::AtomicU64 = std::sync::atomic::AtomicU64::new(0);\n\n";
+const COUNT: &str = "{\n    STEPS.fetch_add(1, std::sync::atomic::Ordering::Relaxed);\n    let may =";
+
+/// Builds the program in a folder with something turned off; its path.
+pub fn build(repository: &Path, folder: &Path, off: &Off) -> Result<PathBuf> {
+    fs::create_dir_all(folder)?;
+    for name in CRATES {
+        translate(&repository.join("crates").join(name).join("src"), &folder.join(name))?;
+    }
+    change(&folder.join("transition/step.rs"), "pub fn step_slot(", &format!("{COUNTER}pub fn step_slot("))?;
+    change(&folder.join("transition/step.rs"), "{\n    let may =", COUNT)?;
+    for (file, old, new) in off.edits {
+        change(&folder.join(file), old, new)?;
+    }
+    fs::write(folder.join("main.rs"), PROGRAM)?;
+    for (i, name) in CRATES.iter().enumerate() {
+        compile(folder, &format!("{name}/lib.rs"), name, &CRATES[..i], true)?;
+    }
+    compile(folder, "main.rs", "steps", &CRATES, false)?;
+    Ok(folder.join("steps"))
+}
+
+/// Each source file, without the lines of its contracts; structs and enums are copied, as Rattle does.
+fn translate(from: &Path, to: &Path) -> Result<()> {
+    fs::create_dir_all(to)?;
+    for entry in fs::read_dir(from)? {
+        let path = entry?.path();
+        let mut text = String::new();
+        for line in fs::read_to_string(&path)?.lines() {
+            let word = line.trim_start();
+            if ["ghost use", "requires ", "ensures "].iter().any(|ghost| word.starts_with(ghost)) {
+                continue;
+            }
+            if ["struct ", "pub struct ", "enum ", "pub enum "].iter().any(|kind| word.starts_with(kind)) {
+                text.push_str("#[derive(Clone, Copy)]\n");
+            }
+            text.push_str(line);
+            text.push('\n');
+        }
+        fs::write(to.join(path.file_stem().expect("a name")).with_extension("rs"), text)?;
+    }
+    Ok(())
+}
+
+fn change(file: &Path, old: &str, new: &str) -> Result<()> {
+    let text = fs::read_to_string(file)?;
+    match text.matches(old).count() {
+        1 => fs::write(file, text.replace(old, new)),
+        n => Err(Error::other(format!("{}: '{old}' stands there {n} times", file.display()))),
+    }
+}
+
+fn compile(folder: &Path, source: &str, name: &str, over: &[&str], library: bool) -> Result<()> {
+    let mut rustc = Command::new("rustc");
+    rustc.args(["--edition=2021", "-O", "-Awarnings", "--crate-name", name, "-L"]).arg(folder).current_dir(folder);
+    if library {
+        rustc.args(["--crate-type", "rlib"]);
+    }
+    for other in over {
+        rustc.arg("--extern").arg(format!("{other}=lib{other}.rlib"));
+    }
+    match rustc.arg(source).status()?.success() {
+        true => Ok(()),
+        false => Err(Error::other(format!("rustc does not take {source}"))),
+    }
+}
