@@ -2,8 +2,7 @@
 use mathlib.Core.Path.{_≡_, refl, sym, _∙_, ap, subst}
 use mathlib.Core.Logic.{_↔_, by-cases}
 use mathlib.Core.List.{List}
-use Prim.Native.Nat.{ℕ, suc, _+_, _*_, _<_, _≤_}
-use native.Mathlib.Numerals.{add-one}
+use Prim.Native.Nat.{ℕ, _+_, _*_, _<_, _≤_}
 use native.Mathlib.Decide.{decLt}
 use native.Mathlib.Omega.{arith}
 use lib.ListN.{getD, length, set, length-set}
@@ -11,35 +10,36 @@ use lib.Seq.{getD-set-same, getD-set-other}
 use Rattle.chart.specs.Inner.Bytes.{Below, Above, Between}
 use Rattle.chart.specs.Inner.Numbers.{Sound}
 use Rattle.chart.specs.Inner.Classed.{classAt}
-use Rattle.chart.specs.Inner.Level.{SameFrom, Alike, RowOk, Against, ClassIs, Levels, Finer, Sorted, RowClassed, Leveled}
+use Rattle.chart.specs.Inner.Level.{Placed, SameValues, Alike, RowOk, Against, Levels, Finer, Sorted, RowClassed, Leveled}
 use Rattle.chart.proofs.Cells.{row-in}
-use Rattle.chart.proofs.Sorting.{Equivalence, finer-above, sorted-none, sorted-as, sorted-old, sorted-new}
+use Rattle.chart.proofs.Sorting.{Equivalence, finer-above, sorted-none, sorted-row}
+use Rattle.chart.proofs.Valuing.{values-equivalence, values-same}
 
 -- of the first `count` classes none below q has a leading row that is alike to row i
 pub record NoneBelow (bytes : List ℕ) (w f c t k r count i q : ℕ) : Type 0 where
   pub none : (p : ℕ) → p < count → p < q → Alike bytes w f c t k (getD bytes (r + p) 0) i → ⊥
 
-module _ {bytes : List ℕ} {w f c t k r count i v : ℕ} where
+module _ {bytes : List ℕ} {w f c t k r count i : ℕ} where
   -- the leading row of class q against row i
-  pub against-row : Against bytes w f c t k r count i v → (q : ℕ) → q < count → (j : ℕ) → j ≡ getD bytes (r + q) 0 → (f + c ≤ w) × (v ≤ f) × RowOk bytes w f c t k j × RowOk bytes w f c t k i
-  against-row a q h j e = (a .wide, a .some, subst (RowOk bytes w f c t k) (sym e) (a .leads q h), a .row)
+  pub against-row : Against bytes w f c t k r count i → (q : ℕ) → q < count → (j : ℕ) → j ≡ getD bytes (r + q) 0 → (f + c ≤ w) × RowOk bytes w f c t k j × RowOk bytes w f c t k i
+  against-row a q h j e = (a .wide, subst (RowOk bytes w f c t k) (sym e) (a .leads q h), a .row)
 
-  pub against-values : Against bytes w f c t k r count i v → (q : ℕ) → q < count → (j : ℕ) → j ≡ getD bytes (r + q) 0 → getD bytes (k + j) 0 ≡ getD bytes (k + i) 0 → SameFrom bytes w f t v j i
-  against-values a q h j e x = subst (λ (j : ℕ). SameFrom bytes w f t v j i) (sym e) (a .values q h (ap (λ (j : ℕ). getD bytes (k + j) 0) (sym e) ∙ x))
+  pub against-values : Against bytes w f c t k r count i → (q : ℕ) → q < count → (j : ℕ) → j ≡ getD bytes (r + q) 0 → getD bytes (k + j) 0 ≡ getD bytes (k + i) 0 → SameValues bytes w f t j i
+  against-values a q h j e x = subst (λ (j : ℕ). SameValues bytes w f t j i) (sym e) (a .values q h (ap (λ (j : ℕ). getD bytes (k + j) 0) (sym e) ∙ x))
 
-  pub against-finer : Against bytes w f c t k r count i v → (q : ℕ) → q < count → (j : ℕ) → j ≡ getD bytes (r + q) 0 → Alike bytes w f c t k j i → getD bytes (k + j) 0 ≡ getD bytes (k + i) 0
+  pub against-finer : Against bytes w f c t k r count i → (q : ℕ) → q < count → (j : ℕ) → j ≡ getD bytes (r + q) 0 → Alike bytes w f c t k j i → getD bytes (k + j) 0 ≡ getD bytes (k + i) 0
   against-finer a q h j e x = ap (λ (j : ℕ). getD bytes (k + j) 0) e ∙ a .finer q h (subst (λ (j : ℕ). Alike bytes w f c t k j i) e x)
 
   -- so it is with those below the old class
-  pub none-since : Against bytes w f c t k r count i v → (q : ℕ) → q ≡ classAt bytes k i → NoneBelow bytes w f c t k r count i q
+  pub none-since : Against bytes w f c t k r count i → (q : ℕ) → q ≡ classAt bytes k i → NoneBelow bytes w f c t k r count i q
   none-since a q e = record { none = λ p h l x. absurd (omega (arith, a .since p h x)) }
 
 module _ {bytes : List ℕ} {w f c t k r count i : ℕ} where
-  pub class-found : (q : ℕ) → q < count → (j : ℕ) → j ≡ getD bytes (r + q) 0 → Alike bytes w f c t k j i → NoneBelow bytes w f c t k r count i q → ClassIs bytes w f c t k r count i q
-  class-found q h j e x z = record { within = omega arith; known = λ _. subst (λ (j : ℕ). Alike bytes w f c t k j i) e x; fresh = λ p l. z .none p (omega arith) l }
+  pub class-found : (q : ℕ) → q < count → (j : ℕ) → j ≡ getD bytes (r + q) 0 → Alike bytes w f c t k j i → NoneBelow bytes w f c t k r count i q → Placed (Alike bytes w f c t k) (λ p. getD bytes (r + p) 0) count i q
+  class-found q h j e x z = record { within = omega arith; known = λ _. subst (λ (j : ℕ). Alike bytes w f c t k j i) e x; fresh = λ l. absurd (omega arith) }
 
-  pub class-none : (q : ℕ) → count ≤ q → NoneBelow bytes w f c t k r count i q → ClassIs bytes w f c t k r count i count
-  class-none q h z = record { within = omega arith; known = λ l. absurd (omega arith); fresh = λ p l. z .none p l (omega arith) }
+  pub class-none : (q : ℕ) → count ≤ q → NoneBelow bytes w f c t k r count i q → Placed (Alike bytes w f c t k) (λ p. getD bytes (r + p) 0) count i count
+  class-none q h z = record { within = omega arith; known = λ l. absurd (omega arith); fresh = λ _ p l. z .none p l (omega arith) }
 
   -- one more that is not alike
   pub none-more : (q j : ℕ) → j ≡ getD bytes (r + q) 0 → (Alike bytes w f c t k j i → ⊥) → NoneBelow bytes w f c t k r count i q → NoneBelow bytes w f c t k r count i (q + 1)
@@ -51,9 +51,9 @@ module _ {bytes : List ℕ} {w f c t k r count i : ℕ} where
 -- `Alike` is an equivalence
 pub alike-equivalence : (bytes : List ℕ) (w f c t k : ℕ) → Equivalence (Alike bytes w f c t k)
 alike-equivalence bytes w f c t k = record {
-  self = λ a. record { values = λ q h. refl; beliefs = λ d h. refl };
-  back = λ x. record { values = λ q h. sym (x .values q h); beliefs = λ d h. sym (x .beliefs d h) };
-  on = λ x y. record { values = λ q h. x .values q h ∙ y .values q h; beliefs = λ d h. x .beliefs d h ∙ y .beliefs d h };
+  self = λ a. record { values = values-equivalence bytes w f t .self a; beliefs = λ d h. refl };
+  back = λ x. record { values = values-equivalence bytes w f t .back (x .values); beliefs = λ d h. sym (x .beliefs d h) };
+  on = λ x y. record { values = values-equivalence bytes w f t .on (x .values) (y .values); beliefs = λ d h. x .beliefs d h ∙ y .beliefs d h };
 }
 
 module _ {was : List ℕ} (now : List ℕ) {n w f c t a k r : ℕ} (l : Levels was n w f c t a k r) (sound : Sound was n w f c t) (low : Below was now a) (mid : Between was now (a + n) r) where
@@ -72,18 +72,25 @@ module _ {was : List ℕ} (now : List ℕ) {n w f c t a k r : ℕ} (l : Levels w
       let e : getD now (t + i * w + f + d) 0 ≡ getD was (t + i * w + f + d) 0 = ap (λ (p : ℕ). getD now p 0) z ∙ row-byte i h (f + d) (omega (arith, l .wide)) ∙ ap (λ (p : ℕ). getD was p 0) (sym z) in
       ap (λ (x : ℕ). classAt now k x) e ∙ class-byte (getD was (t + i * w + f + d) 0) (sound .beliefs i d h g)
 
-  -- so rows are alike where they were
+  -- so rows have the same values where they had
+  same-values : (i j : ℕ) → i < n → j < n → SameValues now w f t i j ↔ SameValues was w f t i j
+  same-values i j hi hj = values-same n (omega (arith, l .wide)) (l .source) low i j hi hj
+
+  -- and are alike where they were
   pub alike-same : (i j : ℕ) → i < n → j < n → Alike now w f c t k i j ↔ Alike was w f c t k i j
   alike-same i j hi hj = (
     λ x. record {
-      values = λ q h. let g : q < w = omega (arith, l .wide) in sym (row-byte i hi q g) ∙ x .values q h ∙ row-byte j hj q g;
+      values = same .0 (x .values);
       beliefs = λ d h. sym (belief-class i hi d h) ∙ x .beliefs d h ∙ belief-class j hj d h;
     },
     λ x. record {
-      values = λ q h. let g : q < w = omega (arith, l .wide) in row-byte i hi q g ∙ x .values q h ∙ sym (row-byte j hj q g);
+      values = same .1 (x .values);
       beliefs = λ d h. belief-class i hi d h ∙ x .beliefs d h ∙ sym (belief-class j hj d h);
     },
   )
+    where
+      same : SameValues now w f t i j ↔ SameValues was w f t i j
+      same = same-values i j hi hj
 
 -- The rows below i are classed
 pub record Leveling (was now : List ℕ) (n w f c t a k r i count : ℕ) : Type 0 where
@@ -97,7 +104,7 @@ pub record Leveling (was now : List ℕ) (n w f c t a k r i count : ℕ) : Type 
 pub leveling-none : (was : List ℕ) (n w f c t a k r : ℕ) → Leveling was was n w f c t a k r 0 0
 leveling-none was n w f c t a k r = record { within = omega arith; fewer = omega arith; sorted = sorted-none _ _ _; low = λ p l. refl; mid = λ p l h. refl; high = λ p l. refl }
 
-module _ {was now : List ℕ} {n w f c t a k r i count v : ℕ} (l : Levels was n w f c t a k r) (sound : Sound was n w f c t) (finer : Finer was n w f c t k v) (long : length now ≡ length was) (g : Leveling was now n w f c t a k r i count) where
+module _ {was now : List ℕ} {n w f c t a k r i count : ℕ} (l : Levels was n w f c t a k r) (sound : Sound was n w f c t) (finer : Finer was n w f c t k) (long : length now ≡ length was) (g : Leveling was now n w f c t a k r i count) where
   row-ok : (j : ℕ) → j < n → RowOk now w f c t k j
   row-ok j h = record {
     inside = omega (arith, row-in n w j h, l .source, l .new, l .old, l .leads, long);
@@ -112,10 +119,9 @@ module _ {was now : List ℕ} {n w f c t a k r i count v : ℕ} (l : Levels was 
   no-lower = finer-above (classAt was k) (classAt now a) i (λ j h. finer .numbered j (omega (arith, g .within))) (g .sorted .numbered)
       (λ x y hx hy e. finer .same x y (omega (arith, g .within)) (omega (arith, g .within)) (g .sorted .same x y hx hy .0 e))
 
-  pub leveling-against : i < n → Against now w f c t k r count i v
+  pub leveling-against : i < n → Against now w f c t k r count i
   leveling-against h = record {
     wide = l .wide;
-    some = finer .some;
     room = omega (arith, g .fewer, l .leads, long);
     row = row-ok i h;
     leads = λ q p. row-ok (getD now (r + q) 0) (omega (arith, g .sorted .led q p .0));
@@ -123,13 +129,10 @@ module _ {was now : List ℕ} {n w f c t a k r i count v : ℕ} (l : Levels was 
         let lj : getD now (r + q) 0 < n = omega (arith, g .sorted .led q p .0) in
         class-byte now l sound (g .low) (g .mid) (getD now (r + q) 0) lj ∙ finer .same (getD now (r + q) 0) i lj h (alike-same now l sound (g .low) (g .mid) (getD now (r + q) 0) i lj h .0 x)
         ∙ sym (class-byte now l sound (g .low) (g .mid) i h);
-    values = λ q p x u hv hu.
+    values = λ q p x.
         let j = getD now (r + q) 0 in
         let lj : j < n = omega (arith, g .sorted .led q p .0) in
-        let hw : u < w = omega (arith, l .wide) in
-        row-byte now l sound (g .low) (g .mid) j lj u hw
-        ∙ finer .values j i lj h (sym (class-byte now l sound (g .low) (g .mid) j lj) ∙ x ∙ class-byte now l sound (g .low) (g .mid) i h) u hv hu
-        ∙ sym (row-byte now l sound (g .low) (g .mid) i h u hw);
+        same-values now l sound (g .low) (g .mid) j i lj h .1 (finer .values j i lj h (sym (class-byte now l sound (g .low) (g .mid) j lj) ∙ x ∙ class-byte now l sound (g .low) (g .mid) i h));
     since = λ q p x.
         let (lj, e) = g .sorted .led q p in
         let z : classAt was k (getD now (r + q) 0) ≡ classAt was k i = finer .same (getD now (r + q) 0) i (omega arith) h (alike-same now l sound (g .low) (g .mid) (getD now (r + q) 0) i (omega arith) h .0 x) in
@@ -137,43 +140,28 @@ module _ {was now : List ℕ} {n w f c t a k r i count v : ℕ} (l : Levels was 
   }
 
   pub leveling-row : i < n → {now′ : List ℕ} {more : ℕ} → RowClassed now now′ w f c t a k r i count more → Leveling was now′ n w f c t a k r (i + 1) more
-  leveling-row h {now′} {more} x = by-cases (decLt (x .class) count) old new
+  leveling-row h {now′} {more} x = record {
+    within = omega arith;
+    fewer = by-cases (decLt (x .class) count) (λ p. omega (arith, x .old p, g .fewer)) (λ p. omega (arith, x .new (omega arith) .0, g .fewer));
+    sorted = sorted-row (alike-equivalence was w f c t k) (classAt now′ a) (λ q. getD now′ (r + q) 0) (g .sorted) (x .classed) (x .led) place (x .here) (x .old) (x .new);
+    low = λ p z. x .low p z ∙ g .low p z;
+    mid = λ p z y. x .mid p (omega arith) y ∙ g .mid p z y;
+    high = λ p z. x .high p (omega (arith, g .fewer)) ∙ g .high p z;
+  }
     where
-      s′ : Sorted (Alike was w f c t k) (classAt now′ a) (λ q. getD now′ (r + q) 0) i count
-      s′ = sorted-as (classAt now′ a) (λ q. getD now′ (r + q) 0) (g .sorted) (x .classed) (x .led)
-
       -- the leading row of class q against i, as the bytes were
-      then : (q : ℕ) → q < count → Alike was w f c t k (getD now′ (r + q) 0) i ↔ Alike now w f c t k (getD now (r + q) 0) i
-      then q p =
-          let e : getD now′ (r + q) 0 ≡ getD now (r + q) 0 = x .led q p in
-          let y = alike-same now l sound (g .low) (g .mid) (getD now (r + q) 0) i (omega (arith, g .sorted .led q p .0)) h in
-          (λ u. y .1 (subst (λ (j : ℕ). Alike was w f c t k j i) e u), λ u. subst (λ (j : ℕ). Alike was w f c t k j i) (sym e) (y .0 u))
+      then : (q : ℕ) → q < count → Alike now w f c t k (getD now (r + q) 0) i ↔ Alike was w f c t k (getD now (r + q) 0) i
+      then q p = alike-same now l sound (g .low) (g .mid) (getD now (r + q) 0) i (omega (arith, g .sorted .led q p .0)) h
 
-      done : (m : ℕ) → more ≡ m → m ≤ i + 1 → Sorted (Alike was w f c t k) (classAt now′ a) (λ q. getD now′ (r + q) 0) (suc i) m → Leveling was now′ n w f c t a k r (i + 1) more
-      done m e few s = record {
-        within = omega arith;
-        fewer = omega arith;
-        sorted = subst (λ (m : ℕ). Sorted (Alike was w f c t k) (classAt now′ a) (λ q. getD now′ (r + q) 0) (i + 1) m) (sym e) (subst (λ (i : ℕ). Sorted (Alike was w f c t k) (classAt now′ a) (λ q. getD now′ (r + q) 0) i m) (sym (add-one i)) s);
-        low = λ p z. x .low p z ∙ g .low p z;
-        mid = λ p z y. x .mid p (omega arith) y ∙ g .mid p z y;
-        high = λ p z. x .high p (omega (arith, g .fewer)) ∙ g .high p z;
-      }
-
-      old : x .class < count → Leveling was now′ n w f c t a k r (i + 1) more
-      old p = done count (x .old p) (omega (arith, g .fewer)) (sorted-old (alike-equivalence was w f c t k) s′ (x .class) p (then (x .class) p .1 (x .is .known p)) (x .here))
-
-      new : ¬ (x .class < count) → Leveling was now′ n w f c t a k r (i + 1) more
-      new p =
-          let z : x .class ≡ count = omega (arith, x .is .within) in
-          let (m, e) = x .new (omega arith) in
-          done (suc count) (m ∙ add-one count) (omega (arith, g .fewer)) (sorted-new (alike-equivalence was w f c t k) s′ (λ q lq u. x .is .fresh q (omega arith) (then q lq .0 u)) (x .here ∙ z) e)
+      place : Placed (Alike was w f c t k) (λ q. getD now (r + q) 0) count i (x .class)
+      place = record { within = x .is .within; known = λ p. then (x .class) p .0 (x .is .known p); fresh = λ z q p u. x .is .fresh z q p (then q p .1 u) }
 
   pub leveling-end : n ≤ i → Leveled was now n w f c t a k r count
   leveling-end h = let e : i ≡ n = omega (arith, g .within) in
       record { sorted = subst (λ (i : ℕ). Sorted (Alike was w f c t k) (classAt now a) (λ q. getD now (r + q) 0) i count) e (g .sorted); fewer = omega (arith, g .fewer); low = g .low; mid = g .mid; high = g .high }
 
 -- What `class_row` stores
-module _ {was : List ℕ} {w f c t a k r i count q : ℕ} (is : ClassIs was w f c t k r count i q) (order : a + i + 1 ≤ r) (room : r + count < length was) where
+module _ {was : List ℕ} {w f c t a k r i count q : ℕ} (is : Placed (Alike was w f c t k) (λ p. getD was (r + p) 0) count i q) (order : a + i + 1 ≤ r) (room : r + count < length was) where
   pub row-old : q < count → RowClassed was (set was (a + i) q) w f c t a k r i count count
   row-old h = record {
     class = q;

@@ -5,6 +5,7 @@ pub mod Passing
 pub mod Copying
 pub mod Merging
 pub mod Sorting
+pub mod Valuing
 pub mod Leveling
 pub mod Parting
 pub mod Outing

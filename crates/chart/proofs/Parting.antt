@@ -1,8 +1,8 @@
--- The partition over the bytes, level by level: each level tells apart what chains one longer do, and where the next has no more classes it is what the rows mean. Assumes nothing.
+-- The partition over the bytes, level by level: each level tells apart what chains one longer do, and where the next has no more classes, or all rows are told apart, it is what the rows mean. Assumes nothing.
 use mathlib.Core.Path.{_≡_, refl, sym, _∙_, ap, subst}
 use mathlib.Core.Logic.{_↔_, Iff·trans}
 use mathlib.Core.List.{List}
-use Prim.Native.Nat.{ℕ, zero, suc, _+_, _*_, _<_, _≤_}
+use Prim.Native.Nat.{ℕ, suc, _+_, _*_, _<_, _≤_}
 use native.Mathlib.Omega.{arith}
 use lib.ListN.{getD, length}
 use lib.Seq.{ext-getD}
@@ -10,15 +10,16 @@ use Rattle.pack.specs.Syntax.{Node}
 use Rattle.pack.specs.State.{target, meaning, Closed}
 use Rattle.chart.specs.States.{AtMost}
 use Rattle.chart.specs.Chart.{Ordered}
-use Rattle.chart.specs.Laws.Merged.{classes, Numbered, grows, first}
+use Rattle.chart.specs.Laws.Merged.{classes, Numbered, no-more, all-apart, grows, first}
 use Rattle.chart.specs.Laws.Bridge.{val, exact, coarse, many}
 use Rattle.chart.specs.Laws.Moore as moore
 use Rattle.pack.specs.Table.{cells, rowsAt}
 use Rattle.chart.specs.Inner.Bytes.{Below, Above}
-use Rattle.chart.specs.Inner.Put.{Cleared, PartCopied}
+use Rattle.chart.specs.Inner.Put.{PartCopied}
 use Rattle.chart.specs.Inner.Numbers.{Sound}
 use Rattle.chart.specs.Inner.Classed.{classAt}
-use Rattle.chart.specs.Inner.Level.{SameByte, Alike, Levels, Finer, Leveled, Parted}
+use Rattle.chart.specs.Inner.Level.{SameValues, Alike, Levels, Finer, Leveled, Parted}
+use Rattle.chart.specs.Inner.Values.{Valued}
 use Rattle.pack.proofs.Tables.{cells-at, rows-length}
 use Rattle.chart.proofs.Cells.{cells-length, row-in, rows-node, rows-same}
 use Rattle.chart.proofs.Sorting.{classes-same}
@@ -35,8 +36,9 @@ module _ (C : ℕ) (T : List Node) where
   Next key i j = (val C T i ≡ val C T j) × ((d : ℕ) → d < C → key (target T i d) ≡ key (target T j d))
 
 module _ (C : ℕ) (T : List Node) (closed : Closed C T) where
-  pub exactly-zero : (key : ℕ → ℕ) → ((i : ℕ) → i < length T → key i ≡ 0) → Exactly C T 0 key
-  exactly-zero key z i j li lj = let e = moore.exact-zero C (val C T) (target T) (length T) i j li lj in (λ x. e .0 refl, λ s. z i li ∙ sym (z j lj))
+  -- classes of equal values are exact for the empty chain
+  pub exactly-values : (key : ℕ → ℕ) → ((i j : ℕ) → i < length T → j < length T → (key i ≡ key j) ↔ (val C T i ≡ val C T j)) → Exactly C T 1 key
+  exactly-values key h = moore.exact-suc C (val C T) (target T) (length T) closed 0 (λ i. 0) key (moore.exact-zero C (val C T) (target T) (length T)) (λ i j li lj. Iff·trans (h i j li lj) (λ x. (x, λ d l. refl), λ x. x .0))
 
   pub exactly-as : (k : ℕ) (key key′ : ℕ → ℕ) → ((i : ℕ) → i < length T → key′ i ≡ key i) → Exactly C T k key → Exactly C T k key′
   exactly-as k key key′ h e i j li lj = (λ x. e i j li lj .0 (sym (h i li) ∙ x ∙ h j lj), λ s. h i li ∙ e i j li lj .1 s ∙ sym (h j lj))
@@ -72,14 +74,14 @@ module _ (bytes : List ℕ) (n w f c t : ℕ) where
   sound-closed s i d h l = let e = rows-length bytes w f c t n in let hi : i < n = omega arith in omega (arith, e, target-at i d hi l, s .beliefs i d hi l)
 
   -- the same values are the same bytes
-  pub values-byte : (i j : ℕ) → i < n → j < n → val c tableAt i ≡ val c tableAt j → (q : ℕ) → q < f → SameByte bytes (t + i * w) (t + j * w) q
-  values-byte i j hi hj e q h = sym (cells-at bytes (t + i * w) f q h) ∙ ap (λ (v : List ℕ). getD v q 0) (sym (values-at i hi) ∙ e ∙ values-at j hj) ∙ cells-at bytes (t + j * w) f q h
+  pub values-byte : (i j : ℕ) → i < n → j < n → val c tableAt i ≡ val c tableAt j → SameValues bytes w f t i j
+  values-byte i j hi hj e = record { byte = λ q h. sym (cells-at bytes (t + i * w) f q h) ∙ ap (λ (v : List ℕ). getD v q 0) (sym (values-at i hi) ∙ e ∙ values-at j hj) ∙ cells-at bytes (t + j * w) f q h }
 
   -- and the same bytes are the same values
-  pub byte-values : (i j : ℕ) → i < n → j < n → ((q : ℕ) → q < f → SameByte bytes (t + i * w) (t + j * w) q) → val c tableAt i ≡ val c tableAt j
+  pub byte-values : (i j : ℕ) → i < n → j < n → SameValues bytes w f t i j → val c tableAt i ≡ val c tableAt j
   byte-values i j hi hj x =
       values-at i hi ∙ ext-getD 0 (cells bytes (t + i * w) f) (cells bytes (t + j * w) f) (cells-length bytes (t + i * w) f ∙ sym (cells-length bytes (t + j * w) f))
-      (λ q h. let g : q < f = omega (arith, cells-length bytes (t + i * w) f) in cells-at bytes (t + i * w) f q g ∙ x q g ∙ sym (cells-at bytes (t + j * w) f q g))
+      (λ q h. let g : q < f = omega (arith, cells-length bytes (t + i * w) f) in cells-at bytes (t + i * w) f q g ∙ x .byte q g ∙ sym (cells-at bytes (t + j * w) f q g))
       ∙ sym (values-at j hj)
 
   pub alike-next : (k i j : ℕ) → i < n → j < n → Alike bytes w f c t k i j ↔ Next c tableAt (classAt bytes k) i j
@@ -94,13 +96,6 @@ module _ (bytes : List ℕ) (n w f c t : ℕ) where
     },
   )
 
--- classes of rows that are all 0
-pub zero-classes : (key : ℕ → ℕ) (n : ℕ) → 0 < n → ((i : ℕ) → i < n → key i ≡ 0) → classes key n ≡ 1
-unfolding classes
-zero-classes key zero h z = absurd (omega arith)
-zero-classes key (suc zero) h z = omega (arith, z 0 (omega arith))
-zero-classes key (suc (suc n)) h z = omega (arith, zero-classes key (suc n) (omega arith) (λ i l. z i (omega arith)), z (suc n) (omega arith))
-
 pub levels-same : {was now : List ℕ} {n w f c t a k r : ℕ} → Levels was n w f c t a k r → length now ≡ length was → Levels now n w f c t a k r
 levels-same l e = record { few = l .few; wide = l .wide; source = l .source; new = l .new; old = l .old; leads = omega (arith, l .leads) }
 
@@ -111,8 +106,8 @@ pub record Parting (was : List ℕ) (n w f c t : ℕ) (now : List ℕ) (a k r li
   pub numbered : Numbered (classAt now k) n
   pub met : classes (classAt now k) n ≡ count
   pub few : count ≤ limit
-  -- one class for all is before the first level
-  pub deep : 1 < count → 0 < depth
+  -- the first level was by values
+  pub deep : 0 < depth
   pub low : Below was now a
   pub high : Above was now (r + n)
 
@@ -137,12 +132,18 @@ module _ {was : List ℕ} {n w f c t a : ℕ} (wide : f + c ≤ w) (source : t +
   alike-at : (k : ℕ) (now : List ℕ) → Below was now a → (i j : ℕ) → i < n → j < n → Alike now w f c t k i j ↔ Next c tableWas (classAt now k) i j
   alike-at k now low i j hi hj = subst (λ (U : List Node). Alike now w f c t k i j ↔ Next c U (classAt now k) i j) (same-rows now low) (alike-next now n w f c t k i j hi hj)
 
+  -- the classes of equal values
+  pub valued-exact : (k : ℕ) {r count : ℕ} {now : List ℕ} → Valued was now n w f t a k r count → Exactly c tableWas 1 (classAt now k)
+  valued-exact k {now = now} x = exactly-values c tableWas table-closed (classAt now k) (λ i j hi hj.
+      let li : i < n = omega (arith, table-long) in
+      let lj : j < n = omega (arith, table-long) in
+      Iff·trans (x .sorted .same i j li lj) (byte-values was n w f c t i j li lj, values-byte was n w f c t i j li lj))
+
   -- what a level asks of the classes before it
-  pub level-finer : (depth k : ℕ) {now : List ℕ} → Exactly c tableWas depth (classAt now k) → Numbered (classAt now k) n → Below was now a → (v : ℕ) → v ≤ f → (v < f → 0 < depth) → Finer now n w f c t k v
-  level-finer depth k {now} e num low v some deep = record {
-    some = some;
-    values = λ i j hi hj x q hv hq. values-byte now n w f c t i j hi hj
-        (subst (λ (U : List Node). val c U i ≡ val c U j) (sym (same-rows now low)) (shallow i j (omega (arith, table-long)) (omega (arith, table-long)) (deep (omega arith)) x)) q hq;
+  pub level-finer : (depth k : ℕ) {now : List ℕ} → Exactly c tableWas depth (classAt now k) → 0 < depth → Numbered (classAt now k) n → Below was now a → Finer now n w f c t k
+  level-finer depth k {now} e deep num low = record {
+    values = λ i j hi hj x. values-byte now n w f c t i j hi hj
+        (subst (λ (U : List Node). val c U i ≡ val c U j) (sym (same-rows now low)) (shallow i j (omega (arith, table-long)) (omega (arith, table-long)) deep x));
     numbered = num;
     same = λ i j hi hj x. next-finer c tableWas table-closed depth (classAt now k) e i j (omega (arith, table-long)) (omega (arith, table-long)) (alike-at k now low i j hi hj .0 x);
   }
@@ -166,24 +167,67 @@ module _ {was : List ℕ} {n w f c t a k r : ℕ} (l : Levels was n w f c t a k 
   long : length T ≡ n
   long = rows-length was w f c t n
 
-  pub parting-start : (limit : ℕ) → 0 < n → 1 ≤ limit → ((i : ℕ) → i < n → classAt was k i ≡ 0) → Parting was n w f c t was a k r limit 1
-  parting-start limit pos h z = record {
-    depth = 0;
-    exactly = exactly-zero c T (o .closed) (classAt was k) (λ i g. z i (omega (arith, long)));
-    numbered = λ i g. omega (arith, z i g);
-    met = zero-classes (classAt was k) n pos z;
-    few = h;
-    deep = λ q. absurd (omega arith);
-    low = λ p g. refl;
-    high = λ p g. refl;
+  -- more classes than `limit` that are exact at a depth
+  too-many : {now : List ℕ} (b depth limit count : ℕ) → Exactly c T depth (classAt now b) → Numbered (classAt now b) n → classes (classAt now b) n ≡ count → limit < count → Below was now a → Above was now (r + n) → Parted was now n w f c t a k r limit count
+  too-many {now} b depth limit count e num met h low high = record {
+    few = λ z. absurd (omega arith);
+    many = λ _ y. many c T o (classAt now b) (λ i p. num i (omega (arith, long))) (coarse c T depth (classAt now b) e) limit
+        (omega (arith, met, ap (classes (classAt now b)) long)) (subst (λ (U : List Node). AtMost limit c (meaning c U 0)) (same-rows (l .wide) (l .source) sound now low) y);
+    low = low;
+    high = high;
   }
 
+  module _ {now : List ℕ} {count : ℕ} (x : Valued was now n w f t a k r count) where
+    pub valued-many : {limit : ℕ} → limit < count → Parted was now n w f c t a k r limit count
+    valued-many {limit} h = too-many k 1 limit count (valued-exact (l .wide) (l .source) sound k x) (x .sorted .numbered) (x .sorted .met) h (x .low) (x .high)
+
+    rows-valued : tableAt now n w f c t ≡ T
+    rows-valued = same-rows (l .wide) (l .source) sound now (x .low)
+
+    pub ordered-valued : Ordered c (rowsAt now w f c t n)
+    ordered-valued = subst (Ordered c) (sym rows-valued) o
+
+    -- from there on the levels begin
+    pub parting-start : {limit : ℕ} → count ≤ limit → Parting now n w f c t now a k r limit count
+    parting-start h = record {
+      depth = 1;
+      exactly = subst (λ (U : List Node). Exactly c U 1 (classAt now k)) (sym rows-valued) (valued-exact (l .wide) (l .source) sound k x);
+      numbered = x .sorted .numbered;
+      met = x .sorted .met;
+      few = h;
+      deep = omega arith;
+      low = λ p q. refl;
+      high = λ p q. refl;
+    }
+
+    -- what they leave was left of the bytes before
+    pub parted-since : {now′ : List ℕ} {limit more : ℕ} → Parted now now′ n w f c t a k r limit more → Parted was now′ n w f c t a k r limit more
+    parted-since p = record { few = p .few; many = p .many; low = λ q h. p .low q h ∙ x .low q h; high = λ q h. p .high q h ∙ x .high q h }
+
   module _ {now : List ℕ} {limit count : ℕ} (g : Parting was n w f c t now a k r limit count) where
-    pub parting-finer : (v : ℕ) → (v ≤ f) × (v < f → 1 < count) → Finer now n w f c t k v
-    parting-finer v h = level-finer (l .wide) (l .source) sound (g .depth) k (g .exactly) (g .numbered) (g .low) v (h .0) (λ q. g .deep (h .1 q))
+    pub parting-finer : Finer now n w f c t k
+    parting-finer = level-finer (l .wide) (l .source) sound (g .depth) k (g .exactly) (g .deep) (g .numbered) (g .low)
 
     pub parting-sound : Sound now n w f c t
     parting-sound = still-sound (l .wide) (l .source) sound now (g .low)
+
+    -- all rows are told apart: what they mean is too
+    pub parting-apart : n ≤ count → Parted was now n w f c t a k r limit count
+    parting-apart h = record {
+      few = λ _. (record { ordered = subst (Ordered c) (sym rows) o; exact = λ i j hi hj. (λ e. ap (meaning c (tableAt now n w f c t)) (sym (own i hi) ∙ e ∙ own j hj), apart i j hi hj); numbered = g .numbered }, g .met);
+      many = λ z. absurd (omega (arith, g .few));
+      low = g .low;
+      high = g .high;
+    }
+      where
+        rows : tableAt now n w f c t ≡ T
+        rows = same-rows (l .wide) (l .source) sound now (g .low)
+
+        own : (i : ℕ) → i < n → classAt now k i ≡ i
+        own = all-apart (classAt now k) n (g .numbered) (omega (arith, g .met, no-more (classAt now k) n (g .numbered)))
+
+        apart : (i j : ℕ) → i < n → j < n → meaning c (tableAt now n w f c t) i ≡ meaning c (tableAt now n w f c t) j → classAt now k i ≡ classAt now k j
+        apart i j hi hj e = coarse c T (g .depth) (classAt now k) (g .exactly) i j (omega (arith, long)) (omega (arith, long)) (subst (λ (U : List Node). meaning c U i ≡ meaning c U j) rows e)
 
     module _ {now′ : List ℕ} {next : ℕ} (x : Leveled now now′ n w f c t a k r next) where
       low′ : Below was now′ a
@@ -204,13 +248,7 @@ module _ {was : List ℕ} {n w f c t a k r : ℕ} (l : Levels was n w f c t a k 
       old-classes i h = x .mid (k + i) (omega (arith, l .new)) (omega (arith, l .old))
 
       pub parting-many : limit < next → Parted was now′ n w f c t a k r limit next
-      parting-many h = record {
-        few = λ z. absurd (omega arith);
-        many = λ _ y. many c T o (classAt now′ a) (λ i p. x .sorted .numbered i (omega (arith, long))) (coarse c T (suc (g .depth)) (classAt now′ a) deeper) limit
-            (omega (arith, x .sorted .met, ap (classes (classAt now′ a)) long)) (subst (λ (U : List Node). AtMost limit c (meaning c U 0)) rows′ y);
-        low = low′;
-        high = high′;
-      }
+      parting-many h = too-many a (suc (g .depth)) limit next deeper (x .sorted .numbered) (x .sorted .met) h low′ high′
 
       pub parting-done : next ≤ count → Parted was now′ n w f c t a k r limit count
       parting-done h = record {
@@ -244,15 +282,7 @@ module _ {was : List ℕ} {n w f c t a k r : ℕ} (l : Levels was n w f c t a k 
         numbered = λ i p. omega (arith, y .part i p, x .sorted .numbered i p, classes-same (classAt now′ a) (classAt now″ k) i (λ j q. y .part j (omega arith)));
         met = classes-same (classAt now′ a) (classAt now″ k) n (λ i p. y .part i p) ∙ x .sorted .met;
         few = h;
-        deep = λ _. omega arith;
+        deep = omega arith;
         low = λ p q. y .low p (omega (arith, l .new)) ∙ low′ p q;
         high = λ p q. y .high p (omega (arith, l .old)) ∙ high′ p q;
       }
-
--- what was so of the bytes that the loop began with is so of those before the old classes were cleared
-pub parted-since : {x was now : List ℕ} {n w f c t a k r limit count : ℕ} → Levels x n w f c t a k r → Cleared x was k n → Parted was now n w f c t a k r limit count → Parted x now n w f c t a k r limit count
-parted-since l e p = record { few = p .few; many = p .many; low = λ q h. p .low q h ∙ e .low q (omega (arith, l .new)); high = λ q h. p .high q h ∙ e .high q (omega (arith, l .old)) }
-
--- and the rows are there
-pub ordered-since : {x was : List ℕ} {n w f c t a k r : ℕ} → Levels x n w f c t a k r → Cleared x was k n → Ordered c (rowsAt x w f c t n) → Ordered c (rowsAt was w f c t n)
-ordered-since {x} {was} {n} {w} {f} {c} {t} l e o = subst (Ordered c) (sym (rows-same x was w f c t t n (l .wide) (λ p h. e .low (t + p) (omega (arith, l .source, l .new))))) o

@@ -74,7 +74,7 @@ module _ {was : List ℕ} {n w f c t m q : ℕ} (l : Paired was n w f c t m q) (
       }
         where
           differ : node T (leftAt now q done) .values ≡ node T (rightAt now q done) .values → ⊥
-          differ e = z .here h (values-byte now n w f c t (leftAt now q done) (rightAt now q done) (inside .0) (inside .1) (subst (λ (U : List Node). val c U (leftAt now q done) ≡ val c U (rightAt now q done)) (sym rows) e) k h)
+          differ e = z .here h (values-byte now n w f c t (leftAt now q done) (rightAt now q done) (inside .0) (inside .1) (subst (λ (U : List Node). val c U (leftAt now q done) ≡ val c U (rightAt now q done)) (sym rows) e) .byte k h)
 
       pub seeking-more : f ≤ k → {now′ : List ℕ} {next : ℕ} → Followed now now′ n w f c t m q done count next → Seeking was now′ n w f c t m q next (done + 1)
       seeking-more h {now′} {next} p = record {
@@ -87,7 +87,7 @@ module _ {was : List ℕ} {n w f c t m q : ℕ} (l : Paired was n w f c t m q) (
       }
         where
           here : node T (leftAt now q done) .values ≡ node T (rightAt now q done) .values
-          here = subst (λ (U : List Node). val c U (leftAt now q done) ≡ val c U (rightAt now q done)) rows (byte-values now n w f c t (leftAt now q done) (rightAt now q done) (inside .0) (inside .1) (λ j i. z .before j (omega arith)))
+          here = subst (λ (U : List Node). val c U (leftAt now q done) ≡ val c U (rightAt now q done)) rows (byte-values now n w f c t (leftAt now q done) (rightAt now q done) (inside .0) (inside .1) (record { byte = λ j i. z .before j (omega arith) }))
 
           alike : (e : ℕ) → e < done + 1 → node T (leftAt now q e) .values ≡ node T (rightAt now q e) .values
           alike e i = by-cases (decLt e done) (λ b. g .same e b) (λ b. let y : done ≡ e = omega arith in subst (λ (e : ℕ). node T (leftAt now q e) .values ≡ node T (rightAt now q e) .values) y here)

@@ -2,11 +2,12 @@
 use mathlib.Core.Path.{_≡_, refl, sym, _∙_, ap, subst}
 use mathlib.Core.Bool.{Bool, true, false}
 use mathlib.Core.Logic.{_↔_, ⊎-elim, by-cases}
-use Prim.Native.Nat.{ℕ, zero, suc, _<_, _≤_}
+use Prim.Native.Nat.{ℕ, zero, suc, _+_, _<_, _≤_}
+use native.Mathlib.Numerals.{add-one}
 use native.Mathlib.Nat.{eq-or-lt-of-le, le-of-suc-le-suc}
 use native.Mathlib.Omega.{arith}
 use Rattle.chart.specs.Laws.Merged.{classes, grows, Numbered, first}
-use Rattle.chart.specs.Inner.Level.{Decides, Agrees, Sorted}
+use Rattle.chart.specs.Inner.Level.{Decides, Agrees, Placed, Sorted}
 use native.Mathlib.Decide.{decLt}
 use lib.Dec.{leb}
 use borrow.Author.Tests.{leb-true, le-leb}
@@ -32,10 +33,6 @@ agrees-decides {P} {n} {r} a = record {
   yes = λ e q h. a .before q (omega (arith, leb-true n r e));
   no = λ f. by-cases (decLt r n) (λ h. absurd (a .here h (f r h))) (λ h. le-leb n r (omega arith));
 }
-
--- what holds below v and from v on holds of all
-pub below-and-from : {P : ℕ → Type 0} {v f : ℕ} → ((q : ℕ) → q < v → P q) → ((q : ℕ) → v ≤ q → q < f → P q) → (q : ℕ) → q < f → P q
-below-and-from {P} {v} {f} x y q h = by-cases (decLt q v) (x q) (λ l. y q (omega arith) h)
 
 pub record Equivalence (R : ℕ → ℕ → Type 0) : Type 0 where
   pub self : (a : ℕ) → R a a
@@ -129,3 +126,24 @@ module _ {R : ℕ → ℕ → Type 0} (eq : Equivalence R) {key lead : ℕ → �
 
       one : (a : ℕ) → a < i → (key a ≡ key i) ↔ R a i
       one a l = (λ g. absurd (omega (arith, below a l)), λ t. absurd (apart a l t))
+
+-- row i put into its class, under another name of the numbers
+pub sorted-row : {R : ℕ → ℕ → Type 0} → Equivalence R → {key lead : ℕ → ℕ} {i count q more : ℕ} (key′ lead′ : ℕ → ℕ) → Sorted R key lead i count → ((a : ℕ) → a < i → key′ a ≡ key a) → ((q : ℕ) → q < count → lead′ q ≡ lead q)
+    → Placed R lead count i q → key′ i ≡ q → (q < count → more ≡ count) → (count ≤ q → (more ≡ count + 1) × (lead′ count ≡ i)) → Sorted R key′ lead′ (i + 1) more
+sorted-row {R} eq {key} {lead} {i} {count} {q} {more} key′ lead′ s k l place e old new = by-cases (decLt q count) known fresh
+  where
+    s′ : Sorted R key′ lead′ i count
+    s′ = sorted-as key′ lead′ s k l
+
+    -- row i and how many classes, as the code counts
+    done : (m : ℕ) → more ≡ m → Sorted R key′ lead′ (suc i) m → Sorted R key′ lead′ (i + 1) more
+    done m g x = subst (λ (m : ℕ). Sorted R key′ lead′ (i + 1) m) (sym g) (subst (λ (i : ℕ). Sorted R key′ lead′ i m) (sym (add-one i)) x)
+
+    known : q < count → Sorted R key′ lead′ (i + 1) more
+    known h = done count (old h) (sorted-old eq s′ q h (subst (λ (j : ℕ). R j i) (sym (l q h)) (place .known h)) e)
+
+    fresh : ¬ (q < count) → Sorted R key′ lead′ (i + 1) more
+    fresh h =
+        let z : q ≡ count = omega (arith, place .within) in
+        let (m, g) = new (omega arith) in
+        done (suc count) (m ∙ add-one count) (sorted-new eq s′ (λ p lp u. place .fresh (omega arith) p lp (subst (λ (j : ℕ). R j i) (l p lp) u)) (e ∙ z) g)

@@ -4,6 +4,7 @@ pub mod Put
 pub mod Numbers
 pub mod Classed
 pub mod Level
+pub mod Values
 pub mod Out
 pub mod Pairs
 pub mod Look

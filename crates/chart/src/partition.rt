@@ -1,5 +1,4 @@
-// The partition: rows that mean the same get one class, refined level by level from one class for all.
-use crate::bytes::clear;
+// The partition: rows that mean the same get one class. Classes of equal values come first; then they are refined level by level.
 use crate::bytes::copy_part;
 use crate::bytes::wide;
 ghost use mathlib.Core.Path.{_≡_};
@@ -8,7 +7,8 @@ ghost use lib.ListN.{length, getD};
 ghost use Rattle.chart.specs.Chart.{Ordered};
 ghost use Rattle.pack.specs.Table.{rowsAt};
 ghost use Rattle.chart.specs.Inner.Numbers.{Sound};
-ghost use Rattle.chart.specs.Inner.Level.{Decides, Agrees, SameByte, SameClass, SameFrom, Alike, RowOk, Against, ClassIs, Levels, Finer, Sorted, RowClassed, Leveled, Parted};
+ghost use Rattle.chart.specs.Inner.Level.{Decides, Agrees, Placed, SameByte, SameValues, SameClass, Alike, RowOk, Against, Levels, Finer, RowClassed, Leveled, Parted};
+ghost use Rattle.chart.specs.Inner.Values.{markOf, Chain, Chained, Valuable, RowValued, Valued};
 
 // The first of the f bytes from a on that is not the same from b on; f where all are.
 pub fn first_other(work: &[u8], a: usize, b: usize, f: usize) -> usize
@@ -43,7 +43,104 @@ pub fn first_apart(work: &[u8], a: usize, b: usize, c: usize, k: usize) -> usize
     c
 }
 
-// Whether rows i and j are alike. Rows of different classes never are, so that is asked first; of one class, they may have other values among the first v only.
+// The mark of the f bytes from a on, which is below 131: where all bytes are the same, so is the mark.
+pub fn mark(work: &[u8], a: usize, f: usize) -> usize
+    requires { ⌜ a + f ≤ length (now work) ⌝ }
+    ensures { λ r. ⌜ (r ≡ markOf (now (work .entry)) a f) × (r < 131) ⌝ }
+{
+    let mut sum: usize = 0;
+    let mut q = 0;
+    while q < f {
+        sum = (sum * 2 + wide(work[a + q])) % 4294967296;
+        q += 1;
+    }
+    sum % 131
+}
+
+// The class, of `count`, whose leading row has the values of row i, or `count`. Only those of row i's mark are looked at, of which `last` is the last one's number plus 1, and
+// from a on stands such a number for the one before each.
+pub fn value_class(
+    work: &[u8],
+    w: usize,
+    f: usize,
+    t: usize,
+    a: usize,
+    r: usize,
+    i: usize,
+    count: usize,
+    last: usize,
+) -> usize
+    requires { ⌜ Chain (now work) w f t a r i count last ⌝ }
+    ensures { λ q. ⌜ Placed (SameValues (now (work .entry)) w f t) (λ p. getD (now (work .entry)) (r + p) 0) count i q ⌝ }
+{
+    let mut q = last;
+    while 0 < q {
+        let p = q - 1;
+        let j = wide(work[r + p]);
+        if f <= first_other(work, t + j * w, t + i * w, f) {
+            return p;
+        }
+        q = wide(work[a + p]);
+    }
+    count
+}
+
+// Classes row i by its values: by the class whose leading row has them, or as the leading row of a new class; how many classes there are then.
+pub fn value_row(
+    work: &mut [u8],
+    heads: &mut [u8],
+    n: usize,
+    w: usize,
+    f: usize,
+    t: usize,
+    a: usize,
+    k: usize,
+    r: usize,
+    i: usize,
+    count: usize,
+) -> usize
+    requires { ⌜ Valuable (now work) n w f t a k r i count × Chained (now work) (now heads) w f t a r count ⌝ }
+    ensures { λ more. ⌜ RowValued (now (work .entry)) (now (work .exit)) (now (heads .exit)) w f t a k r i count more ⌝ }
+{
+    let b = mark(work, t + i * w, f);
+    let last = heads[b];
+    let q = value_class(work, w, f, t, a, r, i, count, wide(last));
+    work[k + i] = q as u8;
+    if q < count {
+        return count;
+    }
+    work[r + count] = i as u8;
+    work[a + count] = last;
+    heads[b] = (count + 1) as u8;
+    count + 1
+}
+
+// Classes the n rows from t on by their values, from k on; how many classes there are.
+pub fn value_level(
+    work: &mut [u8],
+    n: usize,
+    w: usize,
+    f: usize,
+    c: usize,
+    t: usize,
+    a: usize,
+    k: usize,
+    r: usize,
+) -> usize
+    requires { ⌜ Levels (now work) n w f c t a k r ⌝ }
+    ensures { λ count. ⌜ Valued (now (work .entry)) (now (work .exit)) n w f t a k r count ⌝ }
+{
+    let mut heads = [0u8; 131];
+    let mut count = 0;
+    let mut i = 0;
+    while i < n {
+        count = value_row(work, &mut heads, n, w, f, t, a, k, r, i, count);
+        i += 1;
+    }
+    count
+}
+
+// Whether rows i and j are alike. Rows of different classes never are, so that is asked first; those of one class have the same values.
 pub fn alike(
     work: &[u8],
     w: usize,
@@ -53,22 +150,16 @@ pub fn alike(
     k: usize,
     i: usize,
     j: usize,
-    v: usize,
 ) -> bool
-    requires { ⌜ (f + c ≤ w) × (v ≤ f) × RowOk (now work) w f c t k i × RowOk (now work) w f c t k j ⌝ }
+    requires { ⌜ (f + c ≤ w) × RowOk (now work) w f c t k i × RowOk (now work) w f c t k j ⌝ }
     requires { ⌜ (Alike (now work) w f c t k i j → getD (now work) (k + i) 0 ≡ getD (now work) (k + j) 0) ⌝ }
-    requires { ⌜ (getD (now work) (k + i) 0 ≡ getD (now work) (k + j) 0 → SameFrom (now work) w f t v i j) ⌝ }
+    requires { ⌜ (getD (now work) (k + i) 0 ≡ getD (now work) (k + j) 0 → SameValues (now work) w f t i j) ⌝ }
     ensures { λ r. ⌜ Decides r (Alike (now (work .entry)) w f c t k i j) ⌝ }
 {
     if work[k + i] != work[k + j] {
         return false;
     }
-    let a = t + i * w;
-    let b = t + j * w;
-    if first_other(work, a, b, v) < v {
-        return false;
-    }
-    c <= first_apart(work, a + f, b + f, c, k)
+    c <= first_apart(work, t + i * w + f, t + j * w + f, c, k)
 }
 
 // The first of `count` classes whose leading row, from r on, is alike to row i; or `count` where none is. No class below row i's old one has such a row.
@@ -82,15 +173,14 @@ pub fn class_of(
     r: usize,
     count: usize,
     i: usize,
-    v: usize,
 ) -> usize
-    requires { ⌜ Against (now work) w f c t k r count i v ⌝ }
-    ensures { λ q. ⌜ ClassIs (now (work .entry)) w f c t k r count i q ⌝ }
+    requires { ⌜ Against (now work) w f c t k r count i ⌝ }
+    ensures { λ q. ⌜ Placed (Alike (now (work .entry)) w f c t k) (λ p. getD (now (work .entry)) (r + p) 0) count i q ⌝ }
 {
     let mut q = wide(work[k + i]);
     while q < count {
         let j = wide(work[r + q]);
-        if alike(work, w, f, c, t, k, j, i, v) {
+        if alike(work, w, f, c, t, k, j, i) {
             return q;
         }
         q += 1;
@@ -110,13 +200,12 @@ pub fn class_row(
     r: usize,
     i: usize,
     count: usize,
-    v: usize,
 ) -> usize
     requires { ⌜ (a + i + 1 ≤ r) × (r + count < length (now work)) × (i < 256) × (count < 256) ⌝ }
-    requires { ⌜ Against (now work) w f c t k r count i v ⌝ }
+    requires { ⌜ Against (now work) w f c t k r count i ⌝ }
     ensures { λ more. ⌜ RowClassed (now (work .entry)) (now (work .exit)) w f c t a k r i count more ⌝ }
 {
-    let q = class_of(work, w, f, c, t, k, r, count, i, v);
+    let q = class_of(work, w, f, c, t, k, r, count, i);
     work[a + i] = q as u8;
     if q < count {
         return count;
@@ -125,16 +214,7 @@ pub fn class_row(
     count + 1
 }
 
-// How many of the f values the level after one of `count` classes compares: all where there is one class, which is before the first level; else none, since rows of one
-// class have the same.
-pub fn compared(count: usize, f: usize) -> usize
-    ensures { λ v. ⌜ (v ≤ f) × (v < f → 1 < count) ⌝ }
-{
-    if count <= 1 { f } else { 0 }
-}
-
-// Classes the n rows from t on by their values, of which the first v are compared, and by the old classes, from k on, of what they believe: the new classes stand from a on.
-// How many there are.
+// Classes the n rows from t on by the old classes, from k on, which are of equal values, and by those of what they believe: the new classes stand from a on. How many there are.
 pub fn level(
     work: &mut [u8],
     n: usize,
@@ -145,23 +225,22 @@ pub fn level(
     a: usize,
     k: usize,
     r: usize,
-    v: usize,
 ) -> usize
     requires { ⌜ Levels (now work) n w f c t a k r × Sound (now work) n w f c t ⌝ }
-    requires { ⌜ Finer (now work) n w f c t k v ⌝ }
+    requires { ⌜ Finer (now work) n w f c t k ⌝ }
     ensures { λ count. ⌜ Leveled (now (work .entry)) (now (work .exit)) n w f c t a k r count ⌝ }
 {
     let mut count = 0;
     let mut i = 0;
     while i < n {
-        count = class_row(work, w, f, c, t, a, k, r, i, count, v);
+        count = class_row(work, w, f, c, t, a, k, r, i, count);
         i += 1;
     }
     count
 }
 
-// Classes the n rows from t on by what they mean, from k on, where that takes at most `limit` classes: from one class for all, level by level, until a level has no more
-// classes than the one before. How many there are; more than `limit` where the rows mean more states than that.
+// Classes the n rows from t on by what they mean, from k on, where that takes at most `limit` classes: by values, then level by level, until each row is a class of its own or
+// a level has no more classes than the one before. How many there are; more than `limit` where the rows mean more states than that.
 pub fn partition(
     work: &mut [u8],
     n: usize,
@@ -178,11 +257,12 @@ pub fn partition(
     requires { ⌜ Ordered c (rowsAt (now work) w f c t n) ⌝ }
     ensures { λ count. ⌜ Parted (now (work .entry)) (now (work .exit)) n w f c t a k r limit count ⌝ }
 {
-    clear(work, k, n);
-    let mut count = 1;
-    loop {
-        let v = compared(count, f);
-        let next = level(work, n, w, f, c, t, a, k, r, v);
+    let mut count = value_level(work, n, w, f, c, t, a, k, r);
+    if limit < count {
+        return count;
+    }
+    while count < n {
+        let next = level(work, n, w, f, c, t, a, k, r);
         if limit < next {
             return next;
         }
@@ -192,4 +272,5 @@ pub fn partition(
         copy_part(work, a, k, n);
         count = next;
     }
+    count
 }

@@ -24,9 +24,19 @@ pub record Agrees (P : ℕ → Type 0) (n r : ℕ) : Type 0 where
   pub before : (q : ℕ) → q < r → P q
   pub here : r < n → P r → ⊥
 
+-- row i is put into class q of `count`: the one whose leading row it is in R with, or the next where there is none
+pub record Placed (R : ℕ → ℕ → Type 0) (lead : ℕ → ℕ) (count i q : ℕ) : Type 0 where
+  pub within : q ≤ count
+  pub known : q < count → R (lead q) i
+  pub fresh : count ≤ q → (p : ℕ) → p < count → R (lead p) i → ⊥
+
 -- bytes q from a on and from b on are the same
 abbrev pub SameByte : List ℕ → ℕ → ℕ → ℕ → Type 0
 SameByte bytes a b q = getD bytes (a + q) 0 ≡ getD bytes (b + q) 0
+
+-- rows i and j have the same values
+pub record SameValues (bytes : List ℕ) (w f t i j : ℕ) : Type 0 where
+  pub byte : (q : ℕ) → q < f → SameByte bytes (t + i * w) (t + j * w) q
 
 -- the beliefs of character d that stand from a on and from b on are of one class; the classes stand from k on
 abbrev pub SameClass : List ℕ → ℕ → ℕ → ℕ → ℕ → Type 0
@@ -34,7 +44,7 @@ SameClass bytes a b k d = classAt bytes k (getD bytes (a + d) 0) ≡ classAt byt
 
 -- rows i and j have the same values, and believe in rows of the same classes
 pub record Alike (bytes : List ℕ) (w f c t k i j : ℕ) : Type 0 where
-  pub values : (q : ℕ) → q < f → SameByte bytes (t + i * w) (t + j * w) q
+  pub values : SameValues bytes w f t i j
   pub beliefs : (d : ℕ) → d < c → SameClass bytes (t + i * w + f) (t + j * w + f) k d
 
 -- row i and its class lie within the buffer, and so do the classes of what it believes
@@ -43,28 +53,18 @@ pub record RowOk (bytes : List ℕ) (w f c t k i : ℕ) : Type 0 where
   pub class : k + i < length bytes
   pub beliefs : (d : ℕ) → d < c → k + getD bytes (t + i * w + f + d) 0 < length bytes
 
--- rows i and j have the same values from the v-th on
-abbrev pub SameFrom : List ℕ → (w f t v i j : ℕ) → Type 0
-SameFrom bytes w f t v i j = (q : ℕ) → v ≤ q → q < f → SameByte bytes (t + i * w) (t + j * w) q
-
--- the rows that lead the first `count` classes stand from r on, and are to be held against row i; rows of one class may have other values below the v-th only
-pub record Against (bytes : List ℕ) (w f c t k r count i v : ℕ) : Type 0 where
+-- the rows that lead the first `count` classes stand from r on, and are to be held against row i
+pub record Against (bytes : List ℕ) (w f c t k r count i : ℕ) : Type 0 where
   pub wide : f + c ≤ w
-  pub some : v ≤ f
   pub room : r + count ≤ length bytes
   pub row : RowOk bytes w f c t k i
   pub leads : (q : ℕ) → q < count → RowOk bytes w f c t k (getD bytes (r + q) 0)
   -- rows that are alike are of one class already
   pub finer : (q : ℕ) → q < count → Alike bytes w f c t k (getD bytes (r + q) 0) i → classAt bytes k (getD bytes (r + q) 0) ≡ classAt bytes k i
-  pub values : (q : ℕ) → q < count → classAt bytes k (getD bytes (r + q) 0) ≡ classAt bytes k i → SameFrom bytes w f t v (getD bytes (r + q) 0) i
+  -- and those of one class have the same values
+  pub values : (q : ℕ) → q < count → classAt bytes k (getD bytes (r + q) 0) ≡ classAt bytes k i → SameValues bytes w f t (getD bytes (r + q) 0) i
   -- and the new class has no lower number
   pub since : (q : ℕ) → q < count → Alike bytes w f c t k (getD bytes (r + q) 0) i → classAt bytes k i ≤ q
-
--- what `class_of` answers: the first class whose leading row is alike, or `count` where there is none
-pub record ClassIs (bytes : List ℕ) (w f c t k r count i q : ℕ) : Type 0 where
-  pub within : q ≤ count
-  pub known : q < count → Alike bytes w f c t k (getD bytes (r + q) 0) i
-  pub fresh : (p : ℕ) → p < q → Alike bytes w f c t k (getD bytes (r + p) 0) i → ⊥
 
 -- n rows from t on, then room for new classes from a on, the old classes from k on, and room for the leading rows from r on
 pub record Levels (bytes : List ℕ) (n w f c t a k r : ℕ) : Type 0 where
@@ -75,10 +75,9 @@ pub record Levels (bytes : List ℕ) (n w f c t a k r : ℕ) : Type 0 where
   pub old : k + n ≤ r
   pub leads : r + n ≤ length bytes
 
--- rows that are alike are of one class already, those of one class may have other values below the v-th only, and the classes are numbered by first row
-pub record Finer (bytes : List ℕ) (n w f c t k v : ℕ) : Type 0 where
-  pub some : v ≤ f
-  pub values : (i j : ℕ) → i < n → j < n → classAt bytes k i ≡ classAt bytes k j → SameFrom bytes w f t v i j
+-- rows that are alike are of one class already, those of one class have the same values, and the classes are numbered by first row
+pub record Finer (bytes : List ℕ) (n w f c t k : ℕ) : Type 0 where
+  pub values : (i j : ℕ) → i < n → j < n → classAt bytes k i ≡ classAt bytes k j → SameValues bytes w f t i j
   pub numbered : Numbered (classAt bytes k) n
   pub same : (i j : ℕ) → i < n → j < n → Alike bytes w f c t k i j → classAt bytes k i ≡ classAt bytes k j
 
@@ -92,7 +91,7 @@ pub record Sorted (R : ℕ → ℕ → Type 0) (key lead : ℕ → ℕ) (i count
 -- what `class_row` leaves: row i classed too
 pub record RowClassed (was now : List ℕ) (w f c t a k r i count more : ℕ) : Type 0 where
   pub class : ℕ
-  pub is : ClassIs was w f c t k r count i class
+  pub is : Placed (Alike was w f c t k) (λ q. getD was (r + q) 0) count i class
   pub here : classAt now a i ≡ class
   pub old : class < count → more ≡ count
   pub new : count ≤ class → (more ≡ count + 1) × (getD now (r + count) 0 ≡ i)

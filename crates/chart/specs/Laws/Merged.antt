@@ -53,6 +53,21 @@ unfolding classes
 grows cls i zero l = absurd (omega arith)
 grows cls i (suc j) l = ⊎-elim (λ (e : i ≡ j). rw e (omega arith)) (λ (l : i < j). omega (arith, grows cls i j l)) (eq-or-lt-of-le (le-of-suc-le-suc l))
 
+-- there are no more classes than rows
+pub no-more : (cls : ℕ → ℕ) (n : ℕ) → Numbered cls n → classes cls n ≤ n
+unfolding classes
+no-more cls zero d = omega arith
+no-more cls (suc n) d = let g = d n (omega arith) in let h = no-more cls n (λ i l. d i (omega arith)) in omega arith
+
+-- and where there are as many, each row is a class of its own
+pub all-apart : (cls : ℕ → ℕ) (n : ℕ) → Numbered cls n → classes cls n ≡ n → (i : ℕ) → i < n → cls i ≡ i
+unfolding classes
+all-apart cls zero d e i l = absurd (omega arith)
+all-apart cls (suc n) d e i l =
+    let g = d n (omega arith) in
+    let h = no-more cls n (λ i l. d i (omega arith)) in
+    ⊎-elim (λ (z : i ≡ n). rw z (omega arith)) (λ (l : i < n). all-apart cls n (λ i l. d i (omega arith)) (omega arith) i l) (eq-or-lt-of-le (le-of-suc-le-suc l))
+
 -- the first row of a class
 pub first : (cls : ℕ → ℕ) (m : ℕ) → Numbered cls m → (q : ℕ) → q < classes cls m → (i : ℕ) × (i < m) × (cls i ≡ q) × (classes cls i ≡ q)
 unfolding classes

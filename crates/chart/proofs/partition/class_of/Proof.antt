@@ -8,10 +8,10 @@ use Rattle.chart.proofs.partition.class_of.Statement.{statement}
 use Rattle.chart.proofs.partition.class_of.Tie as tie
 
 abbrev Inv-loop : tie.InvT-loop
-Inv-loop work w f c t k r count i v q₀ q = NoneBelow work w f c t k r count i q
+Inv-loop work w f c t k r count i q₀ q = NoneBelow work w f c t k r count i q
 
 abbrev μ-loop : tie.MeasureT-loop
-μ-loop work w f c t k r count i v q₀ q = count - q
+μ-loop work w f c t k r count i q₀ q = count - q
 
 loop-holds : tie.Need-loop-holds Inv-loop μ-loop
 loop-holds c = none-since (c .before .before .before .pre) _ (c .wide .ensures)

@@ -9,10 +9,10 @@ use Rattle.chart.proofs.partition.level.Statement.{statement}
 use Rattle.chart.proofs.partition.level.Tie as tie
 
 abbrev Inv-loop : tie.InvT-loop
-Inv-loop work₀ n w f c t a k r v count₀ i₀ work count i = (length work ≡ length work₀) × Leveling work₀ work n w f c t a k r i count
+Inv-loop work₀ n w f c t a k r count₀ i₀ work count i = (length work ≡ length work₀) × Leveling work₀ work n w f c t a k r i count
 
 abbrev μ-loop : tie.MeasureT-loop
-μ-loop work₀ n w f c t a k r v count₀ i₀ work count i = n - i
+μ-loop work₀ n w f c t a k r count₀ i₀ work count i = n - i
 
 loop-holds : tie.Need-loop-holds Inv-loop μ-loop
 loop-holds c = (refl, leveling-none _ _ _ _ _ _ _ _ _)
