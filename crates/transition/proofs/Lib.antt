@@ -6,6 +6,7 @@ pub mod Firing
 pub mod Staging
 pub mod Acting
 pub mod Settling
+pub mod Rounding
 pub mod Playing
 pub mod Stepping
 pub mod Stepped

@@ -1,4 +1,4 @@
--- Rounds on the state in a slot: each a stage, until nothing fires or a limit is met. Assumes nothing.
+-- Rounds on the state in a slot, until nothing fires or a limit is met. Assumes nothing.
 use Prim.Native.Nat.{ℕ, suc, _+_, _*_, _-_, _<_, _≤_}
 use mathlib.Core.Path.{_≡_, refl, sym, ap, _∙_, subst}
 use mathlib.Core.Bool.{Bool, true, false}
@@ -110,6 +110,9 @@ module _ {p : Theory} {T : List Node} {pack places : List ℕ} {actions triggers
 
     pub round-firable : Firable pack places triggers now (tableIn t slot nodes)
     round-firable = record { dimensions = dims (p .characters) (p .domains); table = U; tabled = round-table; ts = p .triggers; triggered = theory-triggers (x .theorized) }
+
+    pub round-slotted : Slotted U now (tableIn t slot nodes) slot
+    round-slotted = record { count = g .holds .count (g .few); rows = refl; written = g .holds .starts (g .few) .0 }
 
     starts-p : Starts (p .characters) (g .state) U
     starts-p = subst (λ (c : ℕ). Starts c (g .state) U) same-characters (g .holds .starts (g .few))

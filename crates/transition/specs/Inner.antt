@@ -4,3 +4,4 @@ pub mod Change
 pub mod Fire
 pub mod Stage
 pub mod Play
+pub mod Round

@@ -3,6 +3,7 @@ pub mod act;
 pub mod cause;
 pub mod change;
 pub mod fire;
+pub mod round;
 pub mod settle;
 pub mod stage;
 pub mod step;

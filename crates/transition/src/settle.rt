@@ -1,7 +1,7 @@
 // Rounds of triggers, until none holds anywhere.
 use crate::change::Change;
 use crate::fire::fire_all;
-use crate::stage::stage;
+use crate::round::round;
 use pack::table::Table;
 ghost use mathlib.Core.List.{List};
 ghost use Prim.Native.Nat.{ℕ};
@@ -45,7 +45,7 @@ pub fn settle(
             observed: 327,
             root: 0,
         };
-        nodes = stage(pack, places, &effects, everyone, work, now, slot);
+        nodes = round(pack, places, &effects, everyone, work, now, slot);
         if 32 < nodes {
             return 12;
         }

@@ -9,7 +9,7 @@ use borrow.Author.Tests.{not-true, not-false}
 use Rattle.pack.specs.Syntax.{Node, Theory}
 use Rattle.pack.specs.State.{meaning}
 use Rattle.transition.specs.Inner.Play.{Setting, Slotted}
-use Rattle.transition.proofs.Settling.{InRound, round-start, round-table, round-firable, theory-triggers, round-quiet, round-last, roundScene, round-stands, round-room, round-many, round-next}
+use Rattle.transition.proofs.Settling.{InRound, round-start, round-table, round-firable, theory-triggers, round-quiet, round-last, roundScene, round-slotted, round-stands, round-room, round-many, round-next}
 use Rattle.transition.proofs.settle.settle.Statement.{statement}
 use Rattle.transition.proofs.settle.settle.Tie as tie
 
@@ -35,15 +35,15 @@ returns-2 : tie.Need-returns-2 Inv-loop μ-loop
 returns-2 c = let (size, long, few, going) = c .before .before .before .before .before .before .loop .inv in let f = c .before .before .before .fire-all in
     λ p T n x y. let g = going p T n x y in round-last x g long (f .ensures _ _ _ (round-table x g long) (theory-triggers (x .theorized))) (not-false (f .result) (c .before .if1 .left)) (c .if2 .taken)
 
-stage-requires : tie.Need-stage-requires Inv-loop μ-loop
-stage-requires c κs =
+round-requires : tie.Need-round-requires Inv-loop μ-loop
+round-requires c κs =
     let (p, (T, (n, (x, y)))) = c .before .before .before .before .before .before .before .before .before .before .before .before .pre in
     let (size, long, few, going) = c .before .before .before .before .before .before .before .before .loop .inv in
     let g = here (c .before .before .before .before .before .before .before .before) in
     let f = c .before .before .before .before .before .fire-all in
     let fired = f .ensures _ _ _ (round-table x g long) (theory-triggers (x .theorized)) in
     let e = not-false (f .result) (c .before .before .before .if1 .left) in
-    ((roundScene x g long fired e, round-stands x g long fired e (f .kept .1 .1 .1 .1 .1 .0 ∙ size)), round-room x g long fired e)
+    ((roundScene x g long fired e, round-stands x g long fired e (f .kept .1 .1 .1 .1 .1 .0 ∙ size)), round-room x g long fired e, record { all = refl; root = refl }, round-slotted x g long)
 
 returns-3 : tie.Need-returns-3 Inv-loop μ-loop
 returns-3 c =
@@ -53,7 +53,7 @@ returns-3 c =
     λ p T n x y.
     let g = going p T n x y in
     let fired = f .ensures _ _ _ (round-table x g long) (theory-triggers (x .theorized)) in
-    round-many x g long fired e (c .before .before .before .stage .ensures (roundScene x g long fired e) (round-stands x g long fired e (f .kept .1 .1 .1 .1 .1 .0 ∙ size))) (c .before .before .before .before .before .before .if2 .left) few (c .if3 .taken)
+    round-many x g long fired e (c .before .before .before .round .ensures (roundScene x g long fired e) (round-stands x g long fired e (f .kept .1 .1 .1 .1 .1 .0 ∙ size))) (c .before .before .before .before .before .before .if2 .left) few (c .if3 .taken)
 
 loop-again : tie.Need-loop-again Inv-loop μ-loop
 loop-again c =
@@ -61,12 +61,12 @@ loop-again c =
     let f = c .before .before .before .before .before .before .before .before .before .fire-all in
     let e = not-false (f .result) (c .before .before .before .before .before .before .before .if1 .left) in (
       f .kept .1 .1 .1 .1 .1 .0 ∙ size,
-      c .before .before .before .stage .kept .1 .1 .1 .1 .0 ∙ long,
+      c .before .before .before .round .kept .1 .1 .1 .1 .0 ∙ long,
       omega (arith, few, c .before .before .before .before .before .before .if2 .left),
       λ p T n x y.
           let g = going p T n x y in
           let fired = f .ensures _ _ _ (round-table x g long) (theory-triggers (x .theorized)) in
-          round-next x g long fired e (c .before .before .before .stage .ensures (roundScene x g long fired e) (round-stands x g long fired e (f .kept .1 .1 .1 .1 .1 .0 ∙ size))) (c .before .before .before .before .before .before .if2 .left) few (omega (arith, c .if3 .left)),
+          round-next x g long fired e (c .before .before .before .round .ensures (roundScene x g long fired e) (round-stands x g long fired e (f .kept .1 .1 .1 .1 .1 .0 ∙ size))) (c .before .before .before .before .before .before .if2 .left) few (omega (arith, c .if3 .left)),
     )
 
 pub settle-spec : {M : Type 1} → statement M
@@ -82,8 +82,8 @@ settle-spec =
     (λ c. c .before .before .before .before .before .before .loop .inv .1)
     returns-2
     (λ c. search needs)
-    stage-requires
-    (λ c. c .before .before .before .stage .kept .1 .1 .1 .1 .0 ∙ c .before .before .before .before .before .before .before .before .before .before .before .before .loop .inv .1)
+    round-requires
+    (λ c. c .before .before .before .round .kept .1 .1 .1 .1 .0 ∙ c .before .before .before .before .before .before .before .before .before .before .before .before .loop .inv .1)
     returns-3
     (λ c. omega (arith, c .before .before .before .before .before .before .before .before .before .before .before .before .loop .inv .2))
     (λ c. omega (arith, c .before .before .before .before .before .before .before .before .before .before .before .before .loop .inv .2, c .before .before .before .before .before .before .if2 .left))

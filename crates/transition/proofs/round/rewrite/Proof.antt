@@ -1,0 +1,52 @@
+-- The effects in the rows below m are written. Assumes nothing.
+use mathlib.Core.Path.{_≡_, refl, _∙_, subst}
+use Prim.Native.Nat.{_-_, _≤_}
+use lib.ListN.{length}
+use native.Mathlib.Omega.{arith}
+use Rattle.transition.specs.Inner.Change.{Scene}
+use Rattle.transition.specs.Inner.Round.{Caused, Rewritten}
+use Rattle.transition.proofs.Rounding.{rewritten-none, row-inside, row-tellable, rewritten-more}
+use Rattle.transition.proofs.round.rewrite.Statement.{statement}
+use Rattle.transition.proofs.round.rewrite.Tie as tie
+
+abbrev Inv-loop : tie.InvT-loop
+Inv-loop pack effects work₀ t m₀ work m = (m ≤ t .nodes) × (length work ≡ length work₀) × ((s : Scene) → Caused s pack effects work₀ t → Rewritten s t work₀ work m)
+
+abbrev μ-loop : tie.MeasureT-loop
+μ-loop pack effects work₀ t m₀ work m = t .nodes - m
+
+mul-write-told-2 : tie.Need-mul-write-told-2 Inv-loop μ-loop
+mul-write-told-2 c = let (s, x) = c .before .before .before .before .before .before .before .before .before .pre in omega (arith, row-inside x _ (c .before .before .before .if1 .taken))
+
+add-write-told : tie.Need-add-write-told Inv-loop μ-loop
+add-write-told c = let (s, x) = c .before .before .before .before .before .before .before .before .before .before .pre in omega (arith, row-inside x _ (c .before .before .before .before .if1 .taken))
+
+write-told-requires : tie.Need-write-told-requires Inv-loop μ-loop
+write-told-requires c κs = let (s, x) = c .before .before .before .before .before .before .before .before .before .before .pre in row-tellable x (c .before .before .before .before .if1 .taken) (c .before .before .before .before .before .before .loop .inv .1)
+
+loop-again : tie.Need-loop-again Inv-loop μ-loop
+loop-again c =
+    let (few, long, done) = c .before .before .before .before .before .before .before .before .before .loop .inv in
+    let w = c .before .before .write-told .ensures in
+    (omega (arith, c .before .before .before .before .before .before .before .if1 .taken), w .only .long ∙ long, λ s x. rewritten-more x (c .before .before .before .before .before .before .before .if1 .taken) long (done s x) w)
+
+returns : tie.Need-returns Inv-loop μ-loop
+returns c =
+    let (few, long, done) = c .before .before .loop .inv in
+    let a = c .before .before .before .before .before .before .args in
+    let e : c .before .before .loop .m ≡ a .t .nodes = omega (arith, few, c .if1 .left) in
+    λ s x. subst (Rewritten s (a .t) (a .work .now) (c .before .before .loop .work)) e (done s x)
+
+pub rewrite-spec : {M : Type 1} → statement M
+rewrite-spec =
+    tie.close
+    (tie.spec Inv-loop μ-loop
+    (λ c. (omega arith, refl, λ s x. rewritten-none s _ _))
+    (λ c. let (s, x) = c .before .before .before .before .before .before .pre in omega (arith, x .tabled .few, c .if1 .taken))
+    (λ c. let (s, x) = c .before .before .before .before .before .before .before .pre in omega (arith, x .long, c .before .if1 .taken))
+    mul-write-told-2 add-write-told write-told-requires
+    (λ c. let (s, x) = c .before .before .before .before .before .before .before .before .before .before .before .before .before .pre in omega (arith, x .tabled .few, c .before .before .before .before .before .before .before .if1 .taken))
+    (λ c. omega (arith, c .before .before .before .before .before .before .before .if1 .taken))
+    loop-again
+    (λ c. c .before .before .loop .inv .1)
+    returns)

@@ -1,0 +1,125 @@
+// A round of triggers in a slot. Where it tells nobody anything, every belief stays where it was: the values change in place, and rows that have become the same are merged.
+use crate::cause::write_told;
+use crate::change::Change;
+use crate::stage::copy_down;
+use crate::stage::stage;
+use chart::merge::write_merged;
+use chart::partition::partition;
+use pack::number::wide;
+use pack::table::Table;
+ghost use mathlib.Core.Path.{_≡_};
+ghost use mathlib.Core.Bool.{true};
+ghost use mathlib.Core.List.{List};
+ghost use Prim.Native.Nat.{ℕ, _<_, _≤_};
+ghost use lib.ListN.{length, getD};
+ghost use Rattle.pack.specs.Syntax.{Effect};
+ghost use Rattle.pack.specs.Grammar.{Dimensions};
+ghost use Rattle.pack.specs.Judge.{Small};
+ghost use Rattle.pack.specs.Table.{tableOf, stateOf};
+ghost use Rattle.transition.specs.Inner.Cause.{EffectsAt, Telling};
+ghost use Rattle.transition.specs.Inner.Change.{Scene, Stands, Scened};
+ghost use Rattle.transition.specs.Inner.Stage.{StageRoom, Staged};
+ghost use Rattle.transition.specs.Inner.Play.{Slotted, Acted};
+ghost use Rattle.transition.specs.Inner.Round.{Silent, Caused, CausedSome, Rewritten, SlotTable, Everyone};
+
+// Whether the effects at a place are meant for nobody's beliefs.
+pub fn silent(pack: &[u8], at: usize) -> bool
+    requires { ⌜ Telling (now pack) at ⌝ }
+    ensures { λ r. ⌜ ((d : Dimensions) → Small d → (es : List Effect) → EffectsAt d (now (pack .entry)) at es → r ≡ true → Silent es) ⌝ }
+{
+    if pack.len() <= at {
+        return true;
+    }
+    let mut n = at + 1;
+    let mut left = wide(pack[at]);
+    while 0 < left {
+        if 0 < wide(pack[n]) {
+            return false;
+        }
+        n = n + 3;
+        left = left - 1;
+    }
+    true
+}
+
+// Whether the effects in the first n rows are.
+pub fn all_silent(pack: &[u8], effects: &[usize], n: usize) -> bool
+    requires { ⌜ (n ≤ 32) × (n ≤ length (now effects)) × ((m : ℕ) → m < n → Telling (now pack) (getD (now effects) m 0)) ⌝ }
+    ensures { λ r. ⌜ (r ≡ true → (m : ℕ) → m < n → (d : Dimensions) → Small d → (es : List Effect) → EffectsAt d (now (pack .entry)) (getD (now (effects .entry)) m 0) es → Silent es) ⌝ }
+{
+    let mut m = 0;
+    while m < n {
+        if !silent(pack, effects[m]) {
+            return false;
+        }
+        m += 1;
+    }
+    true
+}
+
+// Writes the effects in each row of a table into its values.
+pub fn rewrite(pack: &[u8], effects: &[usize], work: &mut [u8], t: Table)
+    requires { ⌜ CausedSome (now pack) (now effects) (now work) t ⌝ }
+    ensures { λ _. ⌜ ((s : Scene) → Caused s (now (pack .entry)) (now (effects .entry)) (now (work .entry)) t → Rewritten s t (now (work .entry)) (now (work .exit)) (t .nodes)) ⌝ }
+{
+    let mut m = 0;
+    while m < t.nodes {
+        write_told(pack, effects[m], 0, work, t.rows + m * t.width, t.fluents);
+        m += 1;
+    }
+}
+
+// Merges the rows of the table in a slot, where two of them mean the same; how many are left.
+pub fn merge_slot(work: &mut [u8], t: Table, slot: usize) -> usize
+    requires { ⌜ SlotTable (now work) t slot ⌝ }
+    ensures { λ r. ⌜ Acted (stateOf t (now (work .entry)) 0) t (now (work .entry)) (now (work .exit)) slot r ⌝ }
+{
+    let classes = partition(
+        work,
+        t.nodes,
+        t.width,
+        t.fluents,
+        t.characters,
+        t.rows,
+        36036,
+        36264,
+        36492,
+        32,
+    );
+    if t.nodes <= classes {
+        return t.nodes;
+    }
+    let count = write_merged(
+        work,
+        t.nodes,
+        t.width,
+        t.fluents,
+        t.characters,
+        t.rows,
+        36264,
+        36720,
+    );
+    work[slot] = count as u8;
+    copy_down(work, 36720, t.rows, count * t.width);
+    count
+}
+
+// The round in which these effects take place in the rows of the table in a slot, everyone taking part; how many rows it leaves, or more than 32.
+pub fn round(
+    pack: &[u8],
+    places: &[usize],
+    effects: &[usize],
+    h: Change,
+    work: &mut [u8],
+    t: Table,
+    slot: usize,
+) -> usize
+    requires { ⌜ Scened (now pack) (now places) (now effects) h (now work) t × StageRoom (now work) t slot × Everyone h × Slotted (tableOf t (now work)) (now work) t slot ⌝ }
+    ensures { λ r. ⌜ ((s : Scene) → Stands s (now (pack .entry)) (now (places .entry)) (now (effects .entry)) h (now (work .entry)) t → Staged s (h .root) t (now (work .entry)) (now (work .exit)) slot r) ⌝ }
+{
+    if !all_silent(pack, effects, t.nodes) {
+        return stage(pack, places, effects, h, work, t, slot);
+    }
+    rewrite(pack, effects, work, t);
+    merge_slot(work, t, slot)
+}
