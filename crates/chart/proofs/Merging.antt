@@ -11,16 +11,16 @@ use lib.Seq.{getD-set-same, getD-set-other, ext-getD}
 use borrow.Author.Count.{below-more}
 use Rattle.pack.specs.Syntax.{Node}
 use Rattle.pack.specs.State.{node, meaning}
-use Rattle.chart.specs.Chart.{Ordered}
+use Rattle.chart.specs.Chart.{Ordered, Written}
 use Rattle.chart.specs.Laws.Unique.{some}
-use Rattle.chart.specs.Laws.Merged.{classes, getD-map, Numbered, grows, Merged, merged, kept}
+use Rattle.chart.specs.Laws.Merged.{classes, getD-map, Numbered, no-more, all-apart, grows, Merged, merged, kept}
 use Rattle.pack.specs.Table.{cells, rowsAt}
 use Rattle.chart.specs.Inner.Bytes.{Below, Above}
 use Rattle.chart.specs.Inner.Put.{PartCopied}
 use Rattle.chart.specs.Inner.Numbers.{Sound}
 use Rattle.chart.specs.Inner.Classed.{classAt, Mapped, RowPut, ClassPut, Room, Classed, WrittenOut}
 use Rattle.pack.proofs.Tables.{cells-at, rows-length}
-use Rattle.chart.proofs.Cells.{cells-length, cells-same, row-in, rows-node}
+use Rattle.chart.proofs.Cells.{cells-length, cells-same, row-in, rows-node, rows-same}
 
 pub mapped-none : (was : List ℕ) (from to k : ℕ) → Mapped was was from to k 0
 mapped-none was from to k = record { part = λ d l. absurd (omega arith); low = λ p l. refl; high = λ p l. refl }
@@ -169,3 +169,23 @@ pub sound-below : {was now : List ℕ} {n w f c t k u : ℕ} → Room was n w f 
 sound-below {n = n} {w = w} {f = f} {t = t} r d low = record {
   beliefs = λ i q h g. omega (arith, low (t + i * w + f + q) (omega (arith, row-in n w i h, r)), d .beliefs i q h g);
 }
+
+-- Where each row is a class of its own, the rows are the written chart as they stand
+module _ {bytes : List ℕ} {n w f c t k : ℕ} (x : Classed bytes n w f c t k) (all : n ≤ classes (classAt bytes k) n) where
+  pub classed-apart : Written c (rowsAt bytes w f c t n)
+  classed-apart = record { ordered = x .ordered; apart = apart }
+    where
+      own : (i : ℕ) → i < n → classAt bytes k i ≡ i
+      own = all-apart (classAt bytes k) n (x .numbered) (omega (arith, no-more (classAt bytes k) n (x .numbered)))
+
+      apart : (i j : ℕ) → i < j → j < length (rowsAt bytes w f c t n) → meaning c (rowsAt bytes w f c t n) i ≡ meaning c (rowsAt bytes w f c t n) j → ⊥
+      apart i j h l e =
+          let hj : j < n = omega (arith, rows-length bytes w f c t n) in
+          let hi : i < n = omega arith in
+          omega (arith, own i hi, own j hj, x .exact i j hi hj .1 e)
+
+  -- and so they are where they are copied to
+  pub copied-out : {now : List ℕ} {u : ℕ} → f + c ≤ w → PartCopied bytes now t u (n * w) → WrittenOut bytes now n w f c t u n
+  copied-out {now} {u} wide y =
+      let rows = rows-same bytes now w f c t u n wide (y .part) in
+      record { few = omega arith; written = subst (Written c) (sym rows) classed-apart; means = ap (λ (T : List Node). meaning c T 0) rows; low = y .low; high = y .high }

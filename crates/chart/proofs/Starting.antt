@@ -18,17 +18,18 @@ use Rattle.pack.proofs.Tables.{rows-length, belief-in-table}
 use Rattle.chart.specs.Answers.{startTable}
 use Rattle.chart.specs.Call.{workRoom}
 use Rattle.chart.specs.Inner.Numbers.{Laid, Copied, Sound}
-use Rattle.chart.specs.Inner.Put.{Cleared}
+use Rattle.chart.specs.Inner.Put.{Cleared, PartCopied}
 use Rattle.chart.specs.Inner.Out.{RowsPut}
-use Rattle.chart.specs.Inner.Classed.{Room, Classed, WrittenOut}
+use Rattle.chart.specs.Inner.Classed.{classAt, Room, Classed, WrittenOut}
 use Rattle.chart.specs.Inner.Level.{Levels, Parted}
 use Rattle.chart.specs.Inner.Start.{Mergeable, Merged, Startable, StartPut}
 use Rattle.chart.specs.States.{AtMost}
+use Rattle.chart.specs.Laws.Merged.{classes}
 use Rattle.chart.specs.Laws.Tabled.{tabled-at}
 use Rattle.chart.specs.Laws.Charted.{chart, few-rows}
 use Rattle.chart.specs.Laws.Answers.{written-short, start-table-iff, fits-table, start-fits}
 use Rattle.chart.proofs.Cells.{rows-same}
-use Rattle.chart.proofs.Merging.{ordered-sound}
+use Rattle.chart.proofs.Merging.{ordered-sound, copied-out}
 use Rattle.chart.proofs.Charting.{chart-out}
 use Rattle.chart.proofs.Looking.{cleared-all}
 
@@ -53,8 +54,8 @@ module _ {was : List ℕ} {n w f c : ℕ} (p : Mergeable was n w f c) where
       merge-room = record { wide = p .wide; source = omega (arith, small k (x .few)); classes = omega (arith, x .few, p .few); target = omega (arith, small k (x .few), p .room) }
 
       -- at most 32 rows are at most 32 classes
-      pub merge-classed : Classed mid′ k w f c 1100 2200
-      merge-classed = by-cases (decLt 32 count) (λ h. absurd (y .many h few-states)) (λ h. y .few (omega arith) .0)
+      pub merge-classed : Classed mid′ k w f c 1100 2200 × (classes (classAt mid′ 2200) k ≡ count)
+      merge-classed = by-cases (decLt 32 count) (λ h. absurd (y .many h few-states)) (λ h. y .few (omega arith))
         where
           few-states : AtMost 32 c (meaning c (rowsAt mid′ w f c 1100 k) 0)
           few-states =
@@ -64,6 +65,10 @@ module _ {was : List ℕ} {n w f c : ℕ} (p : Mergeable was n w f c) where
               let pos : 0 < length t = omega (arith, x .some) in
               let written = chart (tabled-at c t closed 0 pos) in
               few-rows written 32 .1 (omega (arith, written-short c (written .rows) t (written .written) closed pos (written .means), x .few, p .few))
+
+      -- where each row is one, the rows are copied
+      pub merge-copied : k ≤ count → {now : List ℕ} → PartCopied mid′ now 1100 2400 (k * w) → WrittenOut mid′ now k w f c 1100 2400 k
+      merge-copied h z = copied-out (merge-classed .0) (omega (arith, merge-classed .1)) (p .wide) z
 
       pub merge-merged : {now : List ℕ} {r : ℕ} → WrittenOut mid′ now k w f c 1100 2400 r → Merged was now n w f c r
       merge-merged {now} {r} z = record {

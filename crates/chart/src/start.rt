@@ -2,6 +2,7 @@
 // partition, and the merged rows.
 use crate::Charted;
 use crate::bytes::clear;
+use crate::bytes::copy_part;
 use crate::call::both_fit;
 use crate::call::check_lent;
 use crate::call::unless_refused;
@@ -20,7 +21,11 @@ pub fn merge_table(work: &mut [u8], n: usize, w: usize, f: usize, c: usize) -> u
     ensures { λ r. ⌜ Merged (now (work .entry)) (now (work .exit)) n w f c r ⌝ }
 {
     let reached = crate::copy::copy_table(work, n, w, f, c, 1, 1024, 1100);
-    partition(work, reached, w, f, c, 1100, 2100, 2200, 2300, 32);
+    let classes = partition(work, reached, w, f, c, 1100, 2100, 2200, 2300, 32);
+    if reached <= classes {
+        copy_part(work, 1100, 2400, reached * w);
+        return reached;
+    }
     write_merged(work, reached, w, f, c, 1100, 2200, 2400)
 }
 

@@ -2,13 +2,12 @@
 use Prim.Native.Nat.{ℕ, zero, suc, _+_, _*_, _<_, _≤_}
 use mathlib.Core.Path.{_≡_, refl, sym, ap, _∙_, subst}
 use mathlib.Core.Bool.{Bool, true}
-use mathlib.Core.Logic.{_≢_, inl, inr, ⊎-elim, by-cases}
+use mathlib.Core.Logic.{inl, inr, ⊎-elim, by-cases}
 use mathlib.Core.List.{List}
 use native.Mathlib.Nat.{mul-le-mul-left, mul-le-mul-right}
 use native.Mathlib.Decide.{decLt}
 use native.Mathlib.Omega.{arith}
 use lib.ListN.{length, getD, set}
-use lib.Seq.{getD-set-same, getD-set-other}
 use borrow.Author.Count.{below-more}
 use Rattle.pack.specs.Syntax.{Effect, Node}
 use Rattle.pack.specs.State.{State, node, target, meaning}
@@ -18,13 +17,14 @@ use Rattle.pack.specs.declared.table.Table.{Table}
 use Rattle.pack.proofs.Tables.{rows-length}
 use Rattle.chart.specs.Chart.{met, Ordered, Starts}
 use Rattle.chart.specs.Inner.Put.{PartCopied}
-use Rattle.chart.specs.Inner.Classed.{classAt, Room, Classed, WrittenOut}
+use Rattle.chart.specs.Inner.Classed.{Room, Classed, WrittenOut}
 use Rattle.chart.specs.Inner.Level.{Levels, Parted}
 use Rattle.chart.specs.Laws.Built.{Rows}
-use Rattle.chart.specs.Laws.Merged.{classes, all-apart, no-more}
+use Rattle.chart.specs.Laws.Merged.{classes}
 use Rattle.chart.specs.Laws.Counted.{at-most}
 use Rattle.chart.specs.Laws.Unique.{ordered-reached, some}
 use Rattle.chart.proofs.Cells.{cells-same, row-in, rows-node, rows-same}
+use Rattle.chart.proofs.Merging.{classed-apart}
 use Rattle.transition.specs.declared.change.Change.{Change}
 use Rattle.transition.specs.Happening.{change}
 use Rattle.transition.specs.Laws.Changed as changed
@@ -36,6 +36,7 @@ use Rattle.transition.specs.Inner.Play.{Slotted, Acted}
 use Rattle.transition.specs.Inner.Round.{Silent, Caused, Rewritten, SlotTable, Everyone}
 use Rattle.transition.proofs.Causing.{untold-write}
 use Rattle.transition.proofs.Changing.{small}
+use Rattle.transition.proofs.Staging.{put-down}
 use Rattle.transition.proofs.Settling.{only-then}
 
 -- Tables with the same beliefs are ordered alike
@@ -191,20 +192,11 @@ module _ {was : List ℕ} {t : Table} {slot : ℕ} (p : SlotTable was t slot) wh
       holds = record {
         some = p .some;
         count = λ l. z .low slot (omega (arith, p .slot-room)) ∙ p .count;
-        starts = λ l. subst (λ (a : ℕ). Starts C (stateOf t was 0) (rowsAt mid w f C a n)) (p .rows) (record { ordered = slot-classed .ordered; apart = apart }, ap (λ (T : List Node). meaning C T 0) same-table);
+        starts = λ l. subst (λ (a : ℕ). Starts C (stateOf t was 0) (rowsAt mid w f C a n)) (p .rows) (classed-apart slot-classed (omega (arith, z .few few-classes .1)), ap (λ (T : List Node). meaning C T 0) same-table);
         many = λ l a. omega (arith, p .few);
       };
       only = record { low = λ q l. z .low q (omega (arith, p .slot-room)); mid = λ q l k. z .low q (omega arith); high = λ q l. z .high q (omega (arith, p .few)) };
     }
-      where
-        own : (i : ℕ) → i < n → classAt mid 36264 i ≡ i
-        own = all-apart (classAt mid 36264) n (slot-classed .numbered) (omega (arith, z .few few-classes .1, no-more (classAt mid 36264) n (slot-classed .numbered)))
-
-        apart : (i j : ℕ) → i < j → j < length (tableOf t mid) → meaning C (tableOf t mid) i ≡ meaning C (tableOf t mid) j → ⊥
-        apart i j h l e =
-            let hj : j < n = omega (arith, size-slot) in
-            let hi : i < n = omega arith in
-            omega (arith, own i hi, own j hj, slot-classed .exact i j hi hj .1 e)
 
     pub slot-room : length mid ≡ length was → Room mid n w f C (t .rows) 36264 36720
     slot-room long = record { wide = p .wide; source = omega (arith, sized n (p .few), p .rows, p .slot-room); classes = omega (arith, p .few); target = omega (arith, sized n (p .few), long, p .room) }
@@ -218,21 +210,10 @@ module _ {was : List ℕ} {t : Table} {slot : ℕ} (p : SlotTable was t slot) wh
       pub slot-done : {now′ : List ℕ} → length now ≡ length was → PartCopied (set now slot r) now′ 36720 (t .rows) (r * w) → Acted (stateOf t was 0) t was now′ slot r
       slot-done {now′} long c =
           let (pos, most, narrow) = slot-few in
-          let kept : (q : ℕ) → q ≢ slot → getD (set now slot r) q 0 ≡ getD now q 0 = λ q g. getD-set-other now slot q r 0 g in
-          let rows : rowsAt now′ w f C (t .rows) r ≡ rowsAt now w f C 36720 r = rows-same now now′ w f C 36720 (t .rows) r (p .wide) (λ q l. c .part q l ∙ kept (36720 + q) (omega (arith, p .slot-room))) in
-          record {
-            holds = record {
-              some = pos;
-              count = λ g. c .low slot (omega (arith, p .rows)) ∙ getD-set-same now slot r 0 (omega (arith, long, p .slot-room, p .room));
-              starts = λ g. subst (λ (a : ℕ). Starts C (stateOf t was 0) (rowsAt now′ w f C a r)) (p .rows) (subst (Starts C (stateOf t was 0)) (sym rows) (o .written, o .means ∙ ap (λ (T : List Node). meaning C T 0) same-table));
-              many = λ g a. omega arith;
-            };
-            only = record {
-              low = λ q g. c .low q (omega (arith, p .rows)) ∙ kept q (omega arith) ∙ o .low q (omega (arith, p .slot-room)) ∙ z .low q (omega (arith, p .slot-room));
-              mid = λ q g k. c .high q (omega (arith, p .rows)) ∙ kept q (omega arith) ∙ o .low q (omega arith) ∙ z .low q (omega arith);
-              high = λ q g. c .high q (omega (arith, p .rows, p .slot-room)) ∙ kept q (omega (arith, p .slot-room)) ∙ o .high q (omega (arith, sized n (p .few))) ∙ z .high q (omega (arith, p .few));
-            };
-          }
+          let c′ : PartCopied (set now slot r) now′ 36720 (slot + 1) (r * w) = subst (λ (a : ℕ). PartCopied (set now slot r) now′ 36720 a (r * w)) (p .rows) c in
+          let (holds, only) = put-down t was now now′ (p .wide) (p .slot-room) (omega (arith, long, p .room)) pos most narrow (o .written, o .means ∙ ap (λ (T : List Node). meaning C T 0) same-table)
+          (λ q l. o .low q (omega arith) ∙ z .low q (omega arith)) (λ q l. o .high q (omega (arith, sized n (p .few))) ∙ z .high q (omega (arith, p .few))) c′ in
+          record { holds = holds; only = only }
 
 -- A round in a slot
 module _ {s : Scene} {pack places effects was : List ℕ} {h : Change} {t : Table} (x : Stands s pack places effects h was t) where

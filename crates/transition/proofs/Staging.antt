@@ -15,6 +15,7 @@ use Rattle.pack.specs.Table.{rowsAt, Below, Above}
 use Rattle.pack.specs.Laws.Table.{walk-inside, after-walk}
 use Rattle.pack.specs.declared.table.Table.{Table}
 use Rattle.pack.proofs.Tables.{rows-length}
+use Rattle.chart.specs.Call.{workRoom}
 use Rattle.chart.specs.Chart.{Ordered, Written, Starts}
 use Rattle.chart.specs.States.{AtMost}
 use Rattle.chart.specs.Inner.Put.{PartCopied}
@@ -27,7 +28,7 @@ use Rattle.chart.proofs.Numbering.{pigeons}
 use Rattle.transition.specs.declared.change.Change.{Change}
 use Rattle.transition.specs.Happening.{change}
 use Rattle.transition.specs.Inner.Change.{Scene, Stands, at, Laid, ChangeMade}
-use Rattle.transition.specs.Inner.Stage.{StageRoom, Staged}
+use Rattle.transition.specs.Inner.Stage.{StageRoom, SlotOnly, InSlot, Staged}
 use Rattle.transition.proofs.Changing.{small}
 
 pub down-more : {was now : List ℕ} {a b k : ℕ} → PartCopied was now a b k → b + k < length now → b + k < a + k → PartCopied was (set now (b + k) (getD now (a + k) 0)) a b (k + 1)
@@ -38,6 +39,26 @@ down-more {was} {now} {a} {b} {k} c l apart = let v = getD now (a + k) 0 in reco
   low = λ p h. getD-set-other now (b + k) p v 0 (omega arith) ∙ c .low p h;
   high = λ p h. getD-set-other now (b + k) p v 0 (omega arith) ∙ c .high p (omega arith);
 }
+
+-- a written chart of r rows from 36720 on, its count put into a slot and its rows copied down behind it
+pub put-down : (t : Table) (was now now′ : List ℕ) {z : State} {slot r : ℕ} → t .fluents + t .characters ≤ t .width → slot + 961 ≤ 28832 → workRoom ≤ length now → 0 < r → r ≤ 32 → r * t .width ≤ 960
+    → Starts (t .characters) z (rowsAt now (t .width) (t .fluents) (t .characters) 36720 r) → Below was now 28832 → Above was now 43470 → PartCopied (set now slot r) now′ 36720 (slot + 1) (r * t .width)
+    → InSlot t z now′ slot r × SlotOnly was now′ slot
+put-down t was now now′ {z} {slot} {r} wide slot-room room some few narrow starts below above c =
+    let kept : (q : ℕ) → q ≢ slot → getD (set now slot r) q 0 ≡ getD now q 0 = λ q g. getD-set-other now slot q r 0 g in
+    let rows = rows-same now now′ (t .width) (t .fluents) (t .characters) 36720 (slot + 1) r wide (λ q l. c .part q l ∙ kept (36720 + q) (omega arith)) in (
+      record {
+        some = some;
+        count = λ g. c .low slot (omega arith) ∙ getD-set-same now slot r 0 (omega arith);
+        starts = λ g. subst (Starts (t .characters) z) (sym rows) starts;
+        many = λ g a. omega arith;
+      },
+      record {
+        low = λ q g. c .low q (omega arith) ∙ kept q (omega arith) ∙ below q (omega arith);
+        mid = λ q g k. c .high q (omega arith) ∙ kept q (omega arith) ∙ below q k;
+        high = λ q g. c .high q (omega arith) ∙ kept q (omega arith) ∙ above q g;
+      },
+    )
 
 -- a written chart has no more rows than its table has classes
 as-many : {C : ℕ} {u w : List Node} (cls : ℕ → ℕ) → Ordered C u → ((i j : ℕ) → i < length u → j < length u → cls i ≡ cls j → meaning C u i ≡ meaning C u j) → Written C w → meaning C w 0 ≡ meaning C u 0 → length w ≤ classes cls (length u)
@@ -145,18 +166,6 @@ module _ {s : Scene} {pack places effects was : List ℕ} {h : Change} {t : Tabl
 
           pub stage-done : {now′ : List ℕ} → length now ≡ length was → PartCopied (set now slot r) now′ 36720 (slot + 1) (r * w) → Staged s (h .root) t was now′ slot r
           stage-done {now′} size c =
-              let kept : (q : ℕ) → q ≢ slot → getD (set now slot r) q 0 ≡ getD now q 0 = λ q g. getD-set-other now slot q r 0 g in
-              let rows : rowsAt now′ w f C (slot + 1) r ≡ rowsAt now w f C 36720 r = rows-same now now′ w f C 36720 (slot + 1) r wide (λ q l. c .part q l ∙ kept (36720 + q) (omega (arith, p .slot-room))) in
-              record {
-                holds = record {
-                  some = stage-few .0;
-                  count = λ g. c .low slot (omega arith) ∙ getD-set-same now slot r 0 (omega (arith, size, p .slot-room, p .room));
-                  starts = λ g. subst (Starts C made) (sym rows) (o .written, o .means ∙ means);
-                  many = λ g a. omega (arith, stage-few);
-                };
-                only = record {
-                  low = λ q g. c .low q (omega arith) ∙ kept q (omega arith) ∙ o .low q (omega (arith, p .slot-room)) ∙ below q (omega (arith, p .slot-room));
-                  mid = λ q g k. c .high q (omega (arith, stage-inside)) ∙ kept q (omega arith) ∙ o .low q (omega arith) ∙ below q k;
-                  high = λ q g. c .high q (omega (arith, stage-inside, p .slot-room)) ∙ kept q (omega (arith, p .slot-room)) ∙ o .high q (omega (arith, sized k 225 some-rows)) ∙ above q (omega arith);
-                };
-              }
+              let (some, most) = stage-few in
+              let (holds, only) = put-down t was now now′ wide (p .slot-room) (omega (arith, size, p .room)) some most (sized r 32 most) (o .written, o .means ∙ means) (λ q l. o .low q (omega arith) ∙ below q l) (λ q l. o .high q (omega (arith, sized k 225 some-rows)) ∙ above q (omega arith)) c in
+              record { holds = holds; only = only }

@@ -1,7 +1,8 @@
--- The pass, the partition, and the merged table. Assumes nothing.
+-- The pass, the partition, and the merged table, which is the rows themselves where each is a class of its own. Assumes nothing.
 use mathlib.Core.Path.{_∙_}
+use native.Mathlib.Omega.{arith}
 use borrow.Author.Needs.{needs}
-use Rattle.chart.proofs.Starting.{merge-laid, merge-levels, merge-room, merge-classed, merge-merged}
+use Rattle.chart.proofs.Starting.{merge-laid, merge-levels, merge-room, merge-classed, merge-copied, merge-merged}
 use Rattle.chart.proofs.start.merge_table.Statement.{statement}
 use Rattle.chart.proofs.start.merge_table.Tie as tie
 
@@ -13,21 +14,44 @@ partition-requires c κs =
     let x = c .before .before .before .copy-table in
     ((merge-levels (c .before .before .before .before .before .before .pre) (x .ensures) (x .kept .0), x .ensures .some, search needs), x .ensures .ordered)
 
-write-merged-requires : tie.Need-write-merged-requires
-write-merged-requires c κs =
-    let p = c .before .before .before .before .before .before .before .before .before .before .pre in
-    let x = c .before .before .before .before .before .before .before .copy-table in
-    let y = c .before .before .before .partition in
-    (merge-room p (x .ensures) (x .kept .0) (y .ensures) (y .kept .0), merge-classed p (x .ensures) (x .kept .0) (y .ensures) (y .kept .0))
+mul-copy-part : tie.Need-mul-copy-part
+mul-copy-part c =
+    let x = c .before .before .before .before .before .before .before .before .copy-table in
+    let y = c .before .before .before .before .partition in
+    omega (arith, merge-room (c .before .before .before .before .before .before .before .before .before .before .before .pre) (x .ensures) (x .kept .0) (y .ensures) (y .kept .0))
+
+copy-part-requires : tie.Need-copy-part-requires
+copy-part-requires c κs =
+    let x = c .before .before .before .before .before .before .before .before .copy-table in
+    let y = c .before .before .before .before .partition in
+    let room = merge-room (c .before .before .before .before .before .before .before .before .before .before .before .pre) (x .ensures) (x .kept .0) (y .ensures) (y .kept .0) in
+    (omega (arith, room .source), room .target)
 
 same-length : tie.Need-same-length
-same-length c = c .before .before .write-merged .kept .0 ∙ c .before .before .before .before .before .before .partition .kept .0 ∙ c .before .before .before .before .before .before .before .before .before .before .copy-table .kept .0
+same-length c = c .before .before .copy-part .kept .0 ∙ c .before .before .before .before .before .before .before .partition .kept .0 ∙ c .before .before .before .before .before .before .before .before .before .before .before .copy-table .kept .0
 
 returns : tie.Need-returns
 returns c =
-    let x = c .before .before .before .before .before .before .before .before .before .before .copy-table in
-    let y = c .before .before .before .before .before .before .partition in
-    merge-merged (c .before .before .before .before .before .before .before .before .before .before .before .before .before .pre) (x .ensures) (x .kept .0) (y .ensures) (y .kept .0) (c .before .before .write-merged .ensures)
+    let p = c .before .before .before .before .before .before .before .before .before .before .before .before .before .before .pre in
+    let x = c .before .before .before .before .before .before .before .before .before .before .before .copy-table in
+    let y = c .before .before .before .before .before .before .before .partition in
+    merge-merged p (x .ensures) (x .kept .0) (y .ensures) (y .kept .0) (merge-copied p (x .ensures) (x .kept .0) (y .ensures) (y .kept .0) (c .before .before .before .before .if1 .taken) (c .before .before .copy-part .ensures))
+
+write-merged-requires : tie.Need-write-merged-requires
+write-merged-requires c κs =
+    let p = c .before .before .before .before .before .before .before .before .before .before .before .pre in
+    let x = c .before .before .before .before .before .before .before .before .copy-table in
+    let y = c .before .before .before .before .partition in
+    (merge-room p (x .ensures) (x .kept .0) (y .ensures) (y .kept .0), merge-classed p (x .ensures) (x .kept .0) (y .ensures) (y .kept .0) .0)
+
+same-length-2 : tie.Need-same-length-2
+same-length-2 c = c .before .before .write-merged .kept .0 ∙ c .before .before .before .before .before .before .before .partition .kept .0 ∙ c .before .before .before .before .before .before .before .before .before .before .before .copy-table .kept .0
+
+returns-2 : tie.Need-returns-2
+returns-2 c =
+    let x = c .before .before .before .before .before .before .before .before .before .before .before .copy-table in
+    let y = c .before .before .before .before .before .before .before .partition in
+    merge-merged (c .before .before .before .before .before .before .before .before .before .before .before .before .before .before .pre) (x .ensures) (x .kept .0) (y .ensures) (y .kept .0) (c .before .before .write-merged .ensures)
 
 pub merge-table-spec : {M : Type 1} → statement M
-merge-table-spec = tie.close (tie.spec copy-table-requires partition-requires write-merged-requires same-length returns)
+merge-table-spec = tie.close (tie.spec copy-table-requires partition-requires mul-copy-part copy-part-requires same-length returns write-merged-requires same-length-2 returns-2)
