@@ -1,0 +1,33 @@
+//! What the sources of the proved library must not have (a `requires` on a public call, an axiom of choice or of the
+//! excluded middle, a hole), and which definitions a reader must believe: those that public contracts reach.
+
+pub mod believed;
+pub mod calls;
+pub mod words;
+
+use std::fs;
+use std::io::Result;
+use std::path::{Path, PathBuf};
+
+/// The repository that this package stands in.
+pub fn repository() -> PathBuf {
+    Path::new(env!("CARGO_MANIFEST_DIR")).join("../..")
+}
+
+/// The files below a folder whose names end so, in order.
+pub fn files(folder: &Path, end: &str) -> Result<Vec<PathBuf>> {
+    let mut found = Vec::new();
+    if !folder.is_dir() {
+        return Ok(found);
+    }
+    for entry in fs::read_dir(folder)? {
+        let path = entry?.path();
+        if path.is_dir() {
+            found.extend(files(&path, end)?);
+        } else if path.to_string_lossy().ends_with(end) {
+            found.push(path);
+        }
+    }
+    found.sort();
+    Ok(found)
+}

@@ -1,0 +1,59 @@
+//! The library's sources have nothing that they must not have, and the checks find it where they do.
+
+use audit::{believed, calls, repository, words};
+
+#[test]
+fn no_forbidden_word() {
+    assert_eq!(words::forbidden(&repository()).expect("the sources"), Vec::<String>::new());
+}
+
+#[test]
+fn forbidden_words_are_found() {
+    assert_eq!(words::uses("decide p = lem p"), ["lem"]);
+    assert_eq!(words::uses("choose f = (ac f)"), ["ac"]);
+    assert_eq!(words::uses("returns c = ?"), ["?"]);
+    assert_eq!(words::uses("-- by lem"), Vec::<&str>::new());
+    assert_eq!(words::uses("acted = problem ac-same"), Vec::<&str>::new());
+}
+
+#[test]
+fn public_calls_ask_nothing() {
+    let heads = calls::heads(&repository()).expect("the sources");
+    assert_eq!(heads.len(), 12, "six calls, and six exported");
+    for head in heads {
+        assert!(!head.requires(), "{} has a `requires`", head.name);
+        assert!(head.ensures(), "{} promises nothing", head.name);
+    }
+}
+
+#[test]
+fn a_requires_is_found() {
+    let text = "pub fn f(x: usize)\n    requires { ⌜ x < 2 ⌝ }\n    ensures { ⌜ tt ⌝ }".to_string();
+    let head = calls::Head { name: "f".into(), text };
+    assert!(head.requires() && head.ensures());
+}
+
+#[test]
+fn definitions_are_reached() {
+    let modules = believed::reached(&repository()).expect("the sources");
+    let has = |end: &str| modules.iter().any(|module| module.path.ends_with(end) && module.lines > 0);
+    for end in [
+        "planner/specs/Promises.antt",
+        "planner/specs/Ending.antt",
+        "transition/specs/Happening.antt",
+        "chart/specs/Call.antt",
+        "pack/specs/Grammar.antt",
+        "pack/specs/State.antt",
+        "export/specs/Exports.antt",
+    ] {
+        assert!(has(end), "{end} is not reached");
+    }
+}
+
+#[test]
+fn use_lines_are_read() {
+    assert_eq!(believed::used("use Rattle.pack.specs.Syntax.{Node}"), Some((Some("pack"), "Syntax")));
+    assert_eq!(believed::used("use Rattle.chart.specs.Laws.Moore as moore"), Some((None, "Laws.Moore")));
+    assert_eq!(believed::used("use Rattle.pack.specs.declared.table.Table.{Table}"), None);
+    assert_eq!(believed::used("use lib.ListN.{length}"), None);
+}
