@@ -9,6 +9,7 @@ pub mod pairs;
 pub mod partition;
 pub mod query;
 pub mod start;
+pub mod values;
 pub mod write;
 
 // What Start hands back, and Step above it: the length of the chart that was written, or a refusal's number and place.

@@ -1,7 +1,7 @@
 // Pairs of rows met breadth first from one pair on, each once, until one is found whose rows have other values: the way back from there is the chain.
 use crate::bytes::clear;
 use crate::bytes::wide;
-use crate::partition::first_other;
+use crate::values::first_other;
 ghost use mathlib.Core.Path.{_≡_};
 ghost use Prim.Native.Nat.{_+_, _*_, _<_, _≤_};
 ghost use lib.ListN.{length, getD};

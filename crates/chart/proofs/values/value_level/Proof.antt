@@ -4,8 +4,8 @@ use Prim.Native.Nat.{ℕ, _-_}
 use lib.ListN.{length, getD-replicate}
 use borrow.Author.Needs.{needs}
 use Rattle.chart.proofs.Valuing.{Valuing, valuing-none, valuing-next, valuing-row, valuing-end}
-use Rattle.chart.proofs.partition.value_level.Statement.{statement}
-use Rattle.chart.proofs.partition.value_level.Tie as tie
+use Rattle.chart.proofs.values.value_level.Statement.{statement}
+use Rattle.chart.proofs.values.value_level.Tie as tie
 
 abbrev Inv-loop : tie.InvT-loop
 Inv-loop work₀ n w f c t a k r heads₀ count₀ i₀ work heads count i = (length work ≡ length work₀) × Valuing work₀ work heads n w f t a k r i count

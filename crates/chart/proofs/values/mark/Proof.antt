@@ -5,8 +5,8 @@ use native.Mathlib.Omega.{arith}
 use borrow.Author.Needs.{needs}
 use Rattle.chart.specs.Inner.Values.{sumOf}
 use Rattle.chart.proofs.Valuing.{sum-none, sum-more}
-use Rattle.chart.proofs.partition.mark.Statement.{statement}
-use Rattle.chart.proofs.partition.mark.Tie as tie
+use Rattle.chart.proofs.values.mark.Statement.{statement}
+use Rattle.chart.proofs.values.mark.Tie as tie
 
 abbrev Inv-loop : tie.InvT-loop
 Inv-loop work a f sum₀ q₀ sum q = (q ≤ f) × (sum < 4294967296) × (sum ≡ sumOf work a q)

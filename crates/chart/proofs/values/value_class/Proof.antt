@@ -4,8 +4,8 @@ use Prim.Native.Nat.{suc, _-_}
 use native.Mathlib.Omega.{arith}
 use borrow.Author.Needs.{needs}
 use Rattle.chart.proofs.Valuing.{agrees-values, agrees-not, Looking, looking-start, looking-room, looking-lower, looking-found, looking-next, looking-none}
-use Rattle.chart.proofs.partition.value_class.Statement.{statement}
-use Rattle.chart.proofs.partition.value_class.Tie as tie
+use Rattle.chart.proofs.values.value_class.Statement.{statement}
+use Rattle.chart.proofs.values.value_class.Tie as tie
 
 abbrev Inv-loop : tie.InvT-loop
 Inv-loop work w f t a r i count last q₀ q = Looking work w f t r i count q

@@ -4,8 +4,8 @@ use native.Mathlib.Omega.{arith}
 use lib.ListN.{length-set}
 use borrow.Author.Needs.{needs}
 use Rattle.chart.proofs.Valuing.{row-inside, chain-at, valued-old, valued-new}
-use Rattle.chart.proofs.partition.value_row.Statement.{statement}
-use Rattle.chart.proofs.partition.value_row.Tie as tie
+use Rattle.chart.proofs.values.value_row.Statement.{statement}
+use Rattle.chart.proofs.values.value_row.Tie as tie
 
 mul-mark : tie.Need-mul-mark
 mul-mark c = let v = c .before .before .before .pre .0 in omega (arith, row-inside v _ (v .row))

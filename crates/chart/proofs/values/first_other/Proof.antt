@@ -4,8 +4,8 @@ use native.Mathlib.Omega.{arith}
 use borrow.Author.Count.{below-more}
 use borrow.Author.Needs.{needs}
 use Rattle.chart.specs.Inner.Level.{SameByte}
-use Rattle.chart.proofs.partition.first_other.Statement.{statement}
-use Rattle.chart.proofs.partition.first_other.Tie as tie
+use Rattle.chart.proofs.values.first_other.Statement.{statement}
+use Rattle.chart.proofs.values.first_other.Tie as tie
 
 abbrev Inv-loop : tie.InvT-loop
 Inv-loop work a b f q₀ q = (q ≤ f) × ((p : ℕ) → p < q → SameByte work a b p)
