@@ -1,7 +1,7 @@
 // What is known of states: entries behind a step's scratch, one for each hash, each true. An entry is a mark, a key and a table, which is compared whole.
 use crate::explain::Shape;
 use chart::bytes::copy_part;
-use chart::partition::first_other;
+use chart::values::first_other;
 use pack::number::wide;
 ghost use mathlib.Core.Path.{_≡_};
 ghost use mathlib.Core.Bool.{true};
