@@ -4,8 +4,8 @@
 //! `report`; `lending` puts a call with all that it is lent between margins. `expected` asks the reference's readers,
 //! `numbers` finds and damages the numbers of a pack or chart, `inputs` draws packs and charts, `asks` calls and `plans`
 //! searches and explanations, of which `effort` counts the steps; `agreement` compares calls and `tally` what is read, and
-//! counts, `course` tells what a step met, `largest`, `tables` and `sought` build what the benchmarks are run on, `timing`
-//! measures.
+//! counts, `long` compares any number of them, `course` tells what a step met, `largest`, `tables` and `sought` build what
+//! the benchmarks are run on, `timing` measures.
 
 pub mod agreement;
 pub mod asks;
@@ -16,6 +16,7 @@ pub mod inputs;
 pub mod largest;
 pub mod lending;
 pub mod library;
+pub mod long;
 pub mod numbers;
 pub mod plans;
 pub mod probe;

@@ -7,7 +7,7 @@ use compare::effort;
 use compare::inputs::P;
 use compare::lending::{Lent, Noise};
 use compare::library::{Library, ENTRIES};
-use compare::plans;
+use compare::long::any;
 use compare::tally::{refused, Tally};
 use reference::call::{Call, Outcome};
 use reference::calls::{Differs, Found};
@@ -77,23 +77,6 @@ fn other_reports() {
         println!("a report of {entries}: {tally}");
         assert!(tally.met(&refused(SHORT)) >= if entries < ENTRIES { 500 } else { 20 });
         assert!([1, 2, 3, 4, 21, 23].iter().all(|&number| tally.met(&refused(number)) >= 5));
-    }
-}
-
-/// A call of any kind that doesn't take long.
-fn any(r: &mut Random, engine: &mut Engine) -> Call {
-    loop {
-        let call = match r.below(6) {
-            0 => asks::start(r),
-            1 => asks::query(r),
-            2 => asks::compare(r),
-            3 => asks::step(r),
-            4 => plans::search(r),
-            _ => plans::explanations(r, engine, 1).remove(0),
-        };
-        if effort::quick(&call) {
-            return call;
-        }
     }
 }
 
