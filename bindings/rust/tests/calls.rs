@@ -156,25 +156,35 @@ fn stories() {
     assert!(stories >= 7);
 }
 
-/// The calls of `lent`, each with a buffer that is too short: 8 is handed back, and nothing but the report's first number is
-/// written.
+/// The calls of `lent`. An answer fills the first bytes and numbers and clears the work buffer; where a buffer is too short, 8
+/// is handed back and nothing but the report's first number is written.
 #[test]
-fn short_buffers() {
+fn lent_buffers() {
     let whole = [lent::CHART, lent::CHAIN, lent::LIST, lent::WORK, lent::REPORT];
-    // Which of them each call is lent to write to.
-    let used = [[0, 3, 4], [3, 3, 4], [1, 3, 4], [0, 3, 4], [3, 3, 4], [2, 3, 4]];
-    for (call, used) in used.iter().enumerate() {
-        let mut buffers = (vec![7; lent::CHART], vec![7; lent::WORK], [7; lent::REPORT]);
+    // Which of them each call is lent to write to, and what it answers.
+    let calls: [([usize; 3], &[u8], [u64; 3]); 6] = [
+        ([0, 3, 4], &BEGUN, [4, 9, 9]),
+        ([3, 3, 4], &[], [0, 9, 9]),
+        ([1, 3, 4], &[1], [1, 1, 0]),
+        ([0, 3, 4], &LIT, [7, 9, 9]),
+        ([3, 3, 4], &[], [1, 9, 9]),
+        ([2, 3, 4], &[0], [1, 0, 5]),
+    ];
+    for (call, (used, filled, told)) in calls.into_iter().enumerate() {
+        let lent = || (vec![9; lent::CHART], vec![9; lent::WORK], [9; lent::REPORT]);
+        let mut buffers = lent();
         assert_eq!(put(call, whole, &mut buffers), 0, "call {call}");
-        assert!(buffers.1.iter().all(|&byte| byte == 0), "call {call}");
-        for &short in used {
+        let mut result = vec![9; lent::CHART];
+        result[..filled.len()].copy_from_slice(filled);
+        assert!(buffers == (result, vec![0; lent::WORK], told), "call {call}");
+        for short in used {
             for length in [0, whole[short] - 1] {
                 let mut lengths = whole;
                 lengths[short] = length;
-                let mut buffers = (vec![7; lent::CHART], vec![7; lent::WORK], [7; lent::REPORT]);
+                let mut buffers = lent();
                 assert_eq!(put(call, lengths, &mut buffers), SHORT, "call {call}, buffer {short} of {length}");
-                let place = if short == 4 && length == 0 { 7 } else { 0 };
-                assert_eq!(buffers, (vec![7; lent::CHART], vec![7; lent::WORK], [place, 7, 7]), "call {call}");
+                let place = if short == 4 && length == 0 { 9 } else { 0 };
+                assert!(buffers == (lent().0, lent().1, [place, 9, 9]), "call {call}, buffer {short} of {length}");
             }
         }
     }
