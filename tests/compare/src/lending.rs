@@ -61,6 +61,20 @@ impl Lent {
         seen
     }
 
+    /// The same with each part in a piece of memory of its own, of just its length, so that a tool that watches memory
+    /// sees a byte read or written outside.
+    pub fn apart(&self, by: &mut impl Implementation, call: &Call) -> Seen {
+        let [pack, first, second, mut result, mut work] =
+            self.parts.clone().map(|part| self.bytes[part].to_vec().into_boxed_slice());
+        let outcome = outcome(by, &call.ask, [&pack, &first, &second], &mut result, &mut work);
+        for (read, part) in [&pack, &first, &second].into_iter().zip(self.parts.clone()) {
+            assert!(**black_box(read) == self.bytes[part], "bytes were changed that should not be: {call}");
+        }
+        let seen = Seen { outcome, result: result.into_vec(), work: work.into_vec() };
+        self.keeps_the_rules(&seen, call);
+        seen
+    }
+
     /// "A refusal keeps result buffers unchanged; an answer changes only the bytes it fills. After 1 to 9 and 21 to 27
     /// the work buffer is unchanged, after all else its first 49,152 bytes are 0."
     fn keeps_the_rules(&self, seen: &Seen, call: &Call) {

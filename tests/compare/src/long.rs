@@ -1,5 +1,5 @@
 //! The long comparison: any number of drawn calls of all six kinds, put to an implementation with all that it is lent
-//! between margins, and to the tuned engine. What differs is counted and told, so that a run goes on to its end.
+//! between margins (or apart), and to the tuned engine. What differs is counted and told, so that a run goes on to its end.
 
 use crate::agreement::what;
 use crate::lending::{Lent, Noise, Seen};
@@ -16,6 +16,15 @@ pub const KINDS: [&str; 6] = ["start", "query", "compare", "step", "explained", 
 
 /// At most so many differences and violations are told in full.
 const TOLD: u64 = 10;
+
+/// Where what is lent lies.
+#[derive(Clone, Copy, PartialEq, Eq)]
+pub enum Lending {
+    /// In one piece of memory, between margins.
+    Together,
+    /// Each part in a piece of its own, for runs under a tool that watches memory.
+    Apart,
+}
 
 /// What a run has counted.
 #[derive(Default)]
@@ -36,7 +45,13 @@ impl fmt::Display for Count {
 }
 
 /// Puts the calls of so many seeds, beginning with this one.
-pub fn run(by: &mut impl Implementation, seeds: u64, first: u64, mut progress: impl FnMut(&Count)) -> Count {
+pub fn run(
+    by: &mut impl Implementation,
+    lending: Lending,
+    seeds: u64,
+    first: u64,
+    mut progress: impl FnMut(&Count),
+) -> Count {
     let (mut count, mut engine, noise) = (Count::default(), Engine::new(), Noise::new());
     for seed in first..first + seeds {
         let r = &mut Random::new(seed);
@@ -44,7 +59,7 @@ pub fn run(by: &mut impl Implementation, seeds: u64, first: u64, mut progress: i
         let lent = Lent::new(&call, &noise, r);
         let expected = lent.to(&mut engine, &call);
         count.calls += 1;
-        match tried(by, &lent, &call) {
+        match tried(by, lending, &lent, &call) {
             Ok(found) if found == expected => count.met[kind(&call.ask)].note(what(&found)),
             Ok(found) => {
                 count.differences += 1;
@@ -65,8 +80,12 @@ pub fn run(by: &mut impl Implementation, seeds: u64, first: u64, mut progress: i
 }
 
 /// What is seen of a call, or which rule of lent buffers it breaks.
-fn tried(by: &mut impl Implementation, lent: &Lent, call: &Call) -> Result<Seen, String> {
-    catch_unwind(AssertUnwindSafe(|| lent.to(by, call))).map_err(|told| match told.downcast::<String>() {
+fn tried(by: &mut impl Implementation, lending: Lending, lent: &Lent, call: &Call) -> Result<Seen, String> {
+    let put = || match lending {
+        Lending::Together => lent.to(by, call),
+        Lending::Apart => lent.apart(by, call),
+    };
+    catch_unwind(AssertUnwindSafe(put)).map_err(|told| match told.downcast::<String>() {
         Ok(told) => *told,
         Err(told) => told.downcast::<&str>().map_or("it panics".to_string(), |told| told.to_string()),
     })

@@ -2,7 +2,7 @@
 //! errs or writes where it mustn't.
 
 use compare::library::Library;
-use compare::long::{run, KINDS};
+use compare::long::{run, Lending, KINDS};
 use reference::calls::{Differs, Found};
 use reference::implementation::Implementation;
 use reference::refusal::Refusal;
@@ -12,7 +12,7 @@ const CALLS: u64 = 6_000;
 
 #[test]
 fn nothing_is_found() {
-    let count = run(&mut Library::new(), CALLS, 3_000_000_000, |_| ());
+    let count = run(&mut Library::new(), Lending::Together, CALLS, 3_000_000_000, |_| ());
     assert_eq!(count.to_string(), "6000 calls, 0 differences, 0 violations");
     assert_eq!(count.met.iter().map(|met| met.all()).sum::<usize>(), CALLS as usize);
     for (kind, met) in KINDS.iter().zip(&count.met) {
@@ -63,9 +63,11 @@ impl Implementation for Mistaken {
 
 #[test]
 fn mistakes_are_counted() {
-    let count = run(&mut Mistaken(Engine::new()), 600, 0, |_| ());
-    println!("{count}");
-    assert!(count.differences >= 20 && count.violations >= 10, "{count}");
-    let right: usize = count.met.iter().map(|met| met.all()).sum();
-    assert_eq!(right as u64 + count.differences + count.violations, 600);
+    for lending in [Lending::Together, Lending::Apart] {
+        let count = run(&mut Mistaken(Engine::new()), lending, 600, 0, |_| ());
+        println!("{count}");
+        assert!(count.differences >= 20 && count.violations >= 10, "{count}");
+        let right: usize = count.met.iter().map(|met| met.all()).sum();
+        assert_eq!(right as u64 + count.differences + count.violations, 600);
+    }
 }
