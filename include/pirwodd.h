@@ -10,10 +10,11 @@
  *
  * LENT MEMORY. Each slice is a pointer and then its length, in bytes (for a report: in numbers). Pointers are not NULL, even
  * where the length is 0; a report is aligned as uint64_t is. What is written to must not overlap with anything else that is
- * lent. Nothing else is asked of the caller: longer buffers than needed are as good, shorter ones are refused as 8.
+ * lent. Nothing else is asked of the caller: longer buffers than needed are as good, shorter ones are refused as 8, and numbers
+ * may be of any size.
  *
  *     pack     the story pack's bytes, at most 8,192; only read
- *     chart    a chart's bytes, of any length; only read, but in pirwodd_start
+ *     chart    a chart's bytes, of any length; only read (but pirwodd_start's is its result)
  *     work     PIRWODD_WORK bytes; they may hold anything at first
  *     report   PIRWODD_REPORT numbers; they may hold anything at first
  *

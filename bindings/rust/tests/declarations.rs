@@ -6,6 +6,8 @@ use std::collections::BTreeMap;
 const LIBRARY: &str = include_str!("../../../crates/export/src/lib.rt");
 const HEADER: &str = include_str!("../../../include/pirwodd.h");
 const RUST: &str = include_str!("../src/lent.rs");
+/// The tests that compare the library with others declare its functions once more.
+const COMPARE: &str = include_str!("../../../tests/compare/src/library.rs");
 
 /// The functions that are found behind a word, by name, each with its parameters: the text between the parentheses.
 fn functions<'a>(text: &'a str, before: &str) -> BTreeMap<&'a str, Vec<String>> {
@@ -70,6 +72,7 @@ fn the_header() {
 #[test]
 fn the_declarations_in_rust() {
     assert_eq!(functions(RUST, "    fn "), source(in_rust));
+    assert_eq!(functions(COMPARE, "    fn "), source(in_rust));
 }
 
 /// Each is handed back a number of 32 bits.
@@ -77,5 +80,6 @@ fn the_declarations_in_rust() {
 fn what_is_handed_back() {
     let calls = LIBRARY.split("pub extern \"C\" fn ").skip(1);
     assert!(calls.clone().all(|call| call[call.find(')').unwrap()..].starts_with(") -> u32\n")));
-    assert_eq!(RUST.matches("    ) -> u32;").count(), 6);
+    assert!([RUST, COMPARE].iter().all(|text| text.matches("    ) -> u32;").count() == 6));
+    assert_eq!(HEADER.matches("\nuint32_t pirwodd_").count(), 6);
 }

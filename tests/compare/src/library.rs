@@ -1,6 +1,6 @@
 //! The proved library's calls as an `Implementation`, each behind a safe function. They ask nothing of their caller, so
-//! any slices will do. Nothing checks these declarations against the library's source: a slice passes as its pointer
-//! and its length.
+//! any slices will do. A slice passes as its pointer and its length; `bindings/rust/tests/declarations.rs` holds these
+//! declarations against the library's source.
 
 use crate::report::Report;
 use reference::call::Ask;
