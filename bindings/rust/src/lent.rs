@@ -58,6 +58,15 @@ extern "C" {
 // borrowed alone. The calls read and write within these only, whatever they hold.
 
 /// Start: writes the chart of the pack's start; told is its length.
+///
+/// ```
+/// # use pirwodd::lent;
+/// # let pack = include_bytes!("../../../examples/p.pack");
+/// # let mut chart = [0; lent::CHART];
+/// # let (mut work, mut report) = ([0; lent::WORK], [0; lent::REPORT]);
+/// assert_eq!(lent::start(pack, &mut chart, &mut work, &mut report), 0);
+/// assert_eq!(chart[..report[0] as usize], [1, 0, 1, 1]);
+/// ```
 #[rustfmt::skip]
 pub fn start(pack: &[u8], chart: &mut [u8], work: &mut [u8], report: &mut [u64]) -> u32 {
     // SAFETY: see above.
@@ -70,6 +79,15 @@ pub fn start(pack: &[u8], chart: &mut [u8], work: &mut [u8], report: &mut [u64])
 }
 
 /// Query: told is the fluent's value where the chain leads, which is one byte a character.
+///
+/// ```
+/// # use pirwodd::lent;
+/// # let pack = include_bytes!("../../../examples/p.pack");
+/// # let (mut work, mut report) = ([0; lent::WORK], [0; lent::REPORT]);
+/// let (lit, ben) = ([2, 1, 1, 2, 0, 2, 2], [1]);
+/// assert_eq!(lent::query(pack, &lit, &ben, 0, &mut work, &mut report), 0);
+/// assert_eq!(report[0], 0);
+/// ```
 #[rustfmt::skip]
 pub fn query(pack: &[u8], chart: &[u8], chain: &[u8], fluent: u64, work: &mut [u8], report: &mut [u64]) -> u32 {
     // SAFETY: see above.
@@ -82,6 +100,16 @@ pub fn query(pack: &[u8], chart: &[u8], chain: &[u8], fluent: u64, work: &mut [u
 }
 
 /// Compare: told is 0 for the same, or 1, the length of the chain that is written, and the fluent.
+///
+/// ```
+/// # use pirwodd::lent;
+/// # let pack = include_bytes!("../../../examples/p.pack");
+/// # let mut chain = [0; lent::CHAIN];
+/// # let (mut work, mut report) = ([0; lent::WORK], [0; lent::REPORT]);
+/// let (lit, known) = ([2, 1, 1, 2, 0, 2, 2], [1, 1, 1, 1]);
+/// assert_eq!(lent::compare(pack, &lit, &known, &mut chain, &mut work, &mut report), 0);
+/// assert_eq!((report, chain[0]), ([1, 1, 0], 1));
+/// ```
 #[rustfmt::skip]
 pub fn compare(pack: &[u8], first: &[u8], second: &[u8], chain: &mut [u8], work: &mut [u8], report: &mut [u64]) -> u32 {
     // SAFETY: see above.
@@ -94,6 +122,15 @@ pub fn compare(pack: &[u8], first: &[u8], second: &[u8], chain: &mut [u8], work:
 }
 
 /// Step: writes the chart of what the action and the triggers after it leave; told is its length.
+///
+/// ```
+/// # use pirwodd::lent;
+/// # let pack = include_bytes!("../../../examples/p.pack");
+/// # let mut result = [0; lent::CHART];
+/// # let (mut work, mut report) = ([0; lent::WORK], [0; lent::REPORT]);
+/// assert_eq!(lent::step(pack, &[1, 0, 1, 1], 0, &mut result, &mut work, &mut report), 0);
+/// assert_eq!(result[..report[0] as usize], [2, 1, 1, 2, 0, 2, 2]);
+/// ```
 #[rustfmt::skip]
 pub fn step(pack: &[u8], chart: &[u8], action: u64, result: &mut [u8], work: &mut [u8], report: &mut [u64]) -> u32 {
     // SAFETY: see above.
@@ -106,6 +143,14 @@ pub fn step(pack: &[u8], chart: &[u8], action: u64, result: &mut [u8], work: &mu
 }
 
 /// Explained: told is 1 for yes, 0 for no.
+///
+/// ```
+/// # use pirwodd::lent;
+/// # let pack = include_bytes!("../../../examples/p.pack");
+/// # let (mut work, mut report) = ([0; lent::WORK], [0; lent::REPORT]);
+/// assert_eq!(lent::explained(pack, &[1, 0, 1, 1], 0, 0, 1, 1, &mut work, &mut report), 0);
+/// assert_eq!(report[0], 1);
+/// ```
 #[allow(clippy::too_many_arguments)]
 #[rustfmt::skip]
 pub fn explained(
@@ -128,6 +173,15 @@ pub fn explained(
 }
 
 /// Search: writes the ending's actions; told are its length and the author's worth at the start and at its end.
+///
+/// ```
+/// # use pirwodd::lent;
+/// # let pack = include_bytes!("../../../examples/p.pack");
+/// # let mut list = [0; lent::LIST];
+/// # let (mut work, mut report) = ([0; lent::WORK], [0; lent::REPORT]);
+/// assert_eq!(lent::search(pack, 1, 1, 1, &mut list, &mut work, &mut report), 0);
+/// assert_eq!((report, list[0]), ([1, 0, 5], 0));
+/// ```
 #[rustfmt::skip]
 pub fn search(
     pack: &[u8],

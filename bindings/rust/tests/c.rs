@@ -1,4 +1,5 @@
-//! The calls from C: `c/calls.c` is compiled against the header, linked with the archive and run, and so is the example.
+//! The calls from C: `c/calls.c` is compiled against the header, linked with the archive and run. So is the
+//! example, and the one in Rust prints the same.
 
 use std::env;
 use std::fs::{create_dir_all, read_to_string};
