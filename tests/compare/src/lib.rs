@@ -9,6 +9,7 @@
 
 pub mod agreement;
 pub mod asks;
+pub mod cases;
 pub mod course;
 pub mod effort;
 pub mod expected;

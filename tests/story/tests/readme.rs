@@ -1,4 +1,4 @@
-//! The crate's page shows P as it is, with names and without.
+//! The crate's page shows P as it is, with names and without; the repository's page shows the letter.
 
 use story::{print, Story};
 
@@ -27,4 +27,12 @@ fn an_error() {
     let story = include_str!("../../../examples/letter.story").replacen("is in the desk", "is in the dessk", 1);
     let error = story::read(story.as_bytes()).err().unwrap();
     assert!(PAGE.contains(&quoted(&format!("letter.story: {error}"))), "{error}");
+}
+
+/// The repository's page shows the ending of the letter as the program prints it and as the examples tell it.
+#[test]
+fn the_first_story() {
+    const FIRST: &str = include_str!("../../../README.md");
+    assert!(FIRST.contains(&quoted(include_str!("../../../examples/letter.out"))));
+    assert!(FIRST.contains(&quoted(include_str!("../../../examples/c/letter.txt"))));
 }

@@ -1,18 +1,18 @@
 //! How long the calls take in the proved library, in the tuned engine and in the readable reference. A word given as an
 //! argument measures only the cases that have it in their names.
 
+use compare::cases::{answer, pair, query, repeated, start};
 use compare::library::Library;
-use compare::tables::{early, late, pack, parting, stepping, TRIGGERS};
+use compare::tables::{early, late, parting, stepping, TRIGGERS};
 use compare::timing::{compare, Way, ROUNDS};
 use reference::call::{lent, Ask, Call, Outcome};
 use reference::chart;
 use reference::generate::draft;
 use reference::graph::Node;
-use reference::implementation::{outcome, Implementation, Reference};
+use reference::implementation::Reference;
 use reference::refusal::{without_place, CONDITION};
 use reference::tuned::Engine;
 use std::cell::RefCell;
-use std::hint::black_box;
 
 fn main() {
     println!("Calls one after the other on one thread, the three in turn, {ROUNDS} times each.");
@@ -48,23 +48,6 @@ fn steps(size: &str, characters: usize, nodes: &[Node]) {
     }
 }
 
-fn start(characters: usize, nodes: Vec<Node>) -> Call {
-    Call::new(draft::bytes(&pack(characters, nodes)), Ask::Start)
-}
-
-fn query(characters: usize, nodes: Vec<Node>) -> Call {
-    let chain = (0..62).map(|i| (i % characters) as u8).collect();
-    Call::new(
-        draft::bytes(&pack(characters, early(characters, 1))),
-        Ask::Query { chart: chart::bytes(&nodes), chain, fluent: 0 },
-    )
-}
-
-fn pair(characters: usize, (first, second): (Vec<Node>, Vec<Node>)) -> Call {
-    let ask = Ask::Compare { first: chart::bytes(&first), second: chart::bytes(&second) };
-    Call::new(draft::bytes(&pack(characters, early(characters, 1))), ask)
-}
-
 fn measure(name: &str, call: &Call) {
     measure_beside(name, call, None);
 }
@@ -93,20 +76,4 @@ fn measure_beside(name: &str, call: &Call, refused: Option<&Call>) {
         ways.push(Way::new("tuned, refused as 10", repeated(&mut other_engine, refused, &buffers)));
     }
     compare(&mut ways);
-}
-
-fn answer(by: &mut impl Implementation, call: &Call) -> Outcome {
-    outcome(by, &call.ask, call.handed(), &mut lent(call.result), &mut lent(call.work))
-}
-
-/// The same call again and again.
-fn repeated<'a>(
-    by: &'a mut impl Implementation,
-    call: &'a Call,
-    buffers: &'a RefCell<(Vec<u8>, Vec<u8>)>,
-) -> impl FnMut() + 'a {
-    move || {
-        let (result, work) = &mut *buffers.borrow_mut();
-        drop(black_box(outcome(by, &call.ask, black_box(call.handed()), result, work)))
-    }
 }
