@@ -57,3 +57,24 @@ fn use_lines_are_read() {
     assert_eq!(believed::used("use Rattle.pack.specs.declared.table.Table.{Table}"), None);
     assert_eq!(believed::used("use lib.ListN.{length}"), None);
 }
+
+/// Every must-fail edit of the library and of the program is on the page of wrong programs, and every edit on it is there.
+#[test]
+fn wrong_programs_have_their_edits() {
+    let page = std::fs::read_to_string(repository().join("docs/CONTRACTS.md")).expect("the page");
+    let of = ["pack", "chart", "transition", "planner", "export", "ending"];
+    let cited: Vec<&str> = page.split('`').skip(1).step_by(2).collect();
+    let mut there = Vec::new();
+    for name in of {
+        for file in audit::files(&repository().join("crates").join(name).join("must-fail"), ".edit").expect("edits") {
+            there.push(format!("{name}/{}", file.file_stem().expect("a name").to_string_lossy()));
+        }
+    }
+    let uncited: Vec<_> = there.iter().filter(|edit| !cited.contains(&edit.as_str())).collect();
+    assert!(uncited.is_empty(), "not on the page: {uncited:?}");
+    let edits = cited
+        .iter()
+        .filter(|word| word.split_once('/').is_some_and(|(name, rest)| of.contains(&name) && !rest.contains('/')));
+    let gone: Vec<_> = edits.filter(|word| !there.iter().any(|edit| edit == *word)).collect();
+    assert!(gone.is_empty(), "on the page and not there: {gone:?}");
+}
