@@ -2,6 +2,7 @@
 //! reference. A word given as an argument measures only the rows that have it in their names.
 
 use compare::cases::{medians, pair, query, start};
+use compare::largest;
 use compare::sought::doors;
 use compare::tables::{early, parting, stepping, TRIGGERS};
 use reference::call::{Ask, Call};
@@ -46,8 +47,9 @@ fn main() {
     }
 }
 
-/// P under the least limits, the letter under those of the program, and doors with guards under the widest.
-fn stories() -> [Told; 3] {
+/// P under the least limits, the letter under those of the program, and under the widest doors with guards, where lists are
+/// many, and the largest pack, of which little but the reading is left.
+fn stories() -> [Told; 4] {
     let example = |name: &str| {
         let file = Path::new(env!("CARGO_MANIFEST_DIR")).join(format!("../../examples/{name}.pack"));
         std::fs::read(&file).unwrap_or_else(|error| panic!("{}: {error}", file.display()))
@@ -56,6 +58,7 @@ fn stories() -> [Told; 3] {
         Told { name: "P", pack: example("p"), limits: (1, 1, 1) },
         Told { name: "the letter", pack: example("letter"), limits: (4, 3, 2) },
         Told { name: "3 guarded doors", pack: doors(3, true), limits: (8, 6, 3) },
+        Told { name: "the largest pack", pack: largest::wide(), limits: (8, 6, 3) },
     ]
 }
 
