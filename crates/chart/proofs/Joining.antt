@@ -16,11 +16,11 @@ use Rattle.pack.proofs.Copying.{NodeBytes, node-bytes}
 use Rattle.pack.proofs.Found.{many-length}
 use Rattle.pack.proofs.Ready.{rows-stand, rows-end, nodes-closed}
 use Rattle.pack.proofs.Tables.{cells-at}
-use Rattle.chart.specs.Laws.Built.{built, copied}
-use Rattle.chart.specs.Inner.Out.{Shifts, shifted, RowsPut}
+use Rattle.partition.specs.Laws.Built.{built, copied}
+use Rattle.partition.specs.Inner.Out.{Shifts, shifted, RowsPut}
 use Rattle.chart.specs.Inner.Look.{NodesRead}
 use Rattle.chart.specs.Inner.Match.{Joinable, Joined}
-use Rattle.chart.proofs.Cells.{cells-length, row-in, rows-node}
+use Rattle.partition.proofs.Cells.{cells-length, row-in, rows-node}
 
 -- the bytes of a chart's nodes
 module _ {chart : List ℕ} {n f c : ℕ} {t : List Node} (r : NodesRead chart n f c t) where

@@ -15,10 +15,10 @@ use Rattle.pack.specs.declared.table.Table.{Table}
 use Rattle.pack.proofs.Ready.{copied-fits}
 use Rattle.pack.proofs.Tables.{cells-at, value-at}
 use Rattle.chart.specs.Call.{workRoom, cleared}
-use Rattle.chart.specs.Inner.Bytes.{Above}
-use Rattle.chart.specs.Inner.Put.{Cleared}
+use Rattle.partition.specs.Inner.Bytes.{Above}
+use Rattle.partition.specs.Inner.Put.{Cleared}
 use Rattle.chart.specs.Inner.Look.{NodesRead, Lookable, Looked}
-use Rattle.chart.proofs.Cells.{cells-length, row-in}
+use Rattle.partition.proofs.Cells.{cells-length, row-in}
 use Rattle.chart.proofs.Charting.{front-back}
 
 -- all bytes of a list

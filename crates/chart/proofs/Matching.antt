@@ -21,18 +21,18 @@ use Rattle.chart.specs.Call.{chainRoom, workRoom}
 use Rattle.chart.specs.Promises.{after}
 use Rattle.chart.specs.Laws.Answers.{compare-table-iff}
 use Rattle.chart.specs.Laws.Tables.{IsFull}
-use Rattle.chart.specs.Laws.Bridge.{val, meaning-at}
+use Rattle.partition.specs.Laws.Bridge.{val, meaning-at}
 use Rattle.chart.specs.Laws.Comparing.{differ-valid}
-use Rattle.chart.specs.Laws.Moore as moore
-use Rattle.chart.specs.Inner.Numbers.{Sound}
-use Rattle.chart.specs.Inner.Level.{Agrees, SameByte}
-use Rattle.chart.specs.Inner.Bytes.{Above}
+use Rattle.partition.specs.Laws.Moore as moore
+use Rattle.partition.specs.Inner.Numbers.{Sound}
+use Rattle.partition.specs.Inner.Level.{Agrees, SameByte}
+use Rattle.partition.specs.Inner.Bytes.{Above}
 use Rattle.chart.specs.Inner.Pairs.{leftAt, rightAt, Paired, PairsIn, FirstMet, FirstOther, Sought, Ways, Writable, LongWay, WayWritten}
 use Rattle.chart.specs.Inner.Look.{NodesRead}
-use Rattle.chart.specs.Inner.Put.{Cleared}
+use Rattle.partition.specs.Inner.Put.{Cleared}
 use Rattle.chart.specs.Inner.Match.{Joinable, Joined, Matchable, Said, RowsMatched, ChartsMatched}
-use Rattle.chart.proofs.Cells.{cells-length, row-in, rows-node, rows-same}
-use Rattle.chart.proofs.Parting.{sound-closed}
+use Rattle.partition.proofs.Cells.{cells-length, row-in, rows-node, rows-same}
+use Rattle.partition.proofs.Parting.{sound-closed}
 use Rattle.chart.proofs.Pairing.{pairs-first}
 use Rattle.chart.proofs.Charting.{front-back}
 use Rattle.chart.proofs.Looking.{cleared-all}

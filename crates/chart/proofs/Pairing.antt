@@ -9,14 +9,14 @@ use lib.ListN.{getD, length, set, length-set}
 use lib.Seq.{getD-set-same, getD-set-other}
 use Rattle.pack.specs.Syntax.{Node}
 use Rattle.pack.specs.State.{target}
-use Rattle.chart.specs.Laws.Count.{all, count-all, count-inj}
+use Rattle.partition.specs.Laws.Count.{all, count-all, count-inj}
 use Rattle.chart.specs.Laws.Breadth.{met-start, met-known, met-new}
-use Rattle.chart.specs.Inner.Bytes.{Below, Above}
+use Rattle.partition.specs.Inner.Bytes.{Below, Above}
 use Rattle.pack.specs.Table.{rowsAt}
-use Rattle.chart.specs.Inner.Put.{Cleared}
-use Rattle.chart.specs.Inner.Numbers.{Sound}
-use Rattle.chart.proofs.Cells.{row-in}
-use Rattle.chart.proofs.Parting.{target-at}
+use Rattle.partition.specs.Inner.Put.{Cleared}
+use Rattle.partition.specs.Inner.Numbers.{Sound}
+use Rattle.partition.proofs.Cells.{row-in}
+use Rattle.partition.proofs.Parting.{target-at}
 use Rattle.chart.specs.Inner.Pairs.{leftAt, rightAt, fromAt, charAt, markAt, Paired, Pairs, EntryPut, PairMet, FirstMet}
 
 -- What `meet` stores

@@ -9,14 +9,14 @@ use lib.ListN.{length}
 use Rattle.pack.specs.Syntax.{Node}
 use Rattle.pack.specs.State.{node}
 use Rattle.pack.specs.Table.{rowsAt}
-use Rattle.chart.specs.Laws.Bridge.{val}
+use Rattle.partition.specs.Laws.Bridge.{val}
 use Rattle.chart.specs.Laws.Breadth.{met-row, met-first, met-none}
-use Rattle.chart.specs.Inner.Bytes.{Below, Above}
-use Rattle.chart.specs.Inner.Numbers.{Sound}
-use Rattle.chart.specs.Inner.Level.{Agrees, SameByte}
+use Rattle.partition.specs.Inner.Bytes.{Below, Above}
+use Rattle.partition.specs.Inner.Numbers.{Sound}
+use Rattle.partition.specs.Inner.Level.{Agrees, SameByte}
 use Rattle.chart.specs.Inner.Pairs.{leftAt, rightAt, Paired, Pairs, PairsIn, Followed, Sought}
-use Rattle.chart.proofs.Cells.{row-in}
-use Rattle.chart.proofs.Parting.{same-rows, still-sound, values-byte, byte-values}
+use Rattle.partition.proofs.Cells.{row-in}
+use Rattle.partition.proofs.Parting.{same-rows, still-sound, values-byte, byte-values}
 use Rattle.chart.proofs.Pairing.{entries-most}
 
 -- The entries below `done` are of rows with the same values, and all their characters are followed

@@ -17,19 +17,19 @@ use Rattle.pack.proofs.Ready.{copied, copied-fits}
 use Rattle.pack.proofs.Tables.{rows-length, belief-in-table}
 use Rattle.chart.specs.Answers.{startTable}
 use Rattle.chart.specs.Call.{workRoom}
-use Rattle.chart.specs.Inner.Numbers.{Laid, Copied, Sound}
-use Rattle.chart.specs.Inner.Put.{Cleared, PartCopied}
-use Rattle.chart.specs.Inner.Out.{RowsPut}
-use Rattle.chart.specs.Inner.Classed.{classAt, Room, Classed, WrittenOut}
-use Rattle.chart.specs.Inner.Level.{Levels, Parted}
+use Rattle.partition.specs.Inner.Numbers.{Laid, Copied, Sound}
+use Rattle.partition.specs.Inner.Put.{Cleared, PartCopied}
+use Rattle.partition.specs.Inner.Out.{RowsPut}
+use Rattle.partition.specs.Inner.Classed.{classAt, Room, Classed, WrittenOut}
+use Rattle.partition.specs.Inner.Level.{Levels, Parted}
 use Rattle.chart.specs.Inner.Start.{Mergeable, Merged, Startable, StartPut}
-use Rattle.chart.specs.States.{AtMost}
-use Rattle.chart.specs.Laws.Merged.{classes}
+use Rattle.partition.specs.States.{AtMost}
+use Rattle.partition.specs.Laws.Merged.{classes}
 use Rattle.chart.specs.Laws.Tabled.{tabled-at}
 use Rattle.chart.specs.Laws.Charted.{chart, few-rows}
 use Rattle.chart.specs.Laws.Answers.{written-short, start-table-iff, fits-table, start-fits}
-use Rattle.chart.proofs.Cells.{rows-same}
-use Rattle.chart.proofs.Merging.{ordered-sound, copied-out}
+use Rattle.partition.proofs.Cells.{rows-same}
+use Rattle.partition.proofs.Merging.{ordered-sound, copied-out}
 use Rattle.chart.proofs.Charting.{chart-out}
 use Rattle.chart.proofs.Looking.{cleared-all}
 

@@ -1,14 +1,4 @@
-pub mod Count
-pub mod Classes
-pub mod Moore
-pub mod Lists
-pub mod Built
-pub mod Counted
-pub mod Unique
 pub mod Earliest
-pub mod Merged
-pub mod Pass
-pub mod Bridge
 pub mod Tabled
 pub mod Reach
 pub mod Charted

@@ -1,5 +1,3 @@
-pub mod States
-pub mod Chart
 pub mod Earliest
 pub mod Compare
 pub mod Laws

@@ -1,7 +1,6 @@
 // Compare: whether two charts mean the same, or the chain to where they differ. In the work buffer stand, from place 1 on, the first chart's rows and behind them the second's,
 // its beliefs counted on from there; then a mark for each pair of rows, and the pairs that were met.
 use crate::Matched;
-use crate::bytes::clear;
 use crate::call::both_fit;
 use crate::call::check_lent;
 use crate::call::check_under;
@@ -9,10 +8,11 @@ use crate::pairs::meet_first;
 use crate::pairs::other_value;
 use crate::pairs::seek;
 use crate::pairs::write_chain;
-use crate::write::put_rows;
 use pack::contents::read_contents;
 use pack::node::check_chart;
 use pack::number::Number;
+use partition::bytes::clear;
+use partition::write::put_rows;
 ghost use Prim.Native.Nat.{_≤_};
 ghost use lib.ListN.{length};
 ghost use Rattle.chart.specs.Call.{chainRoom};

@@ -1,16 +1,9 @@
 // The chart layer: states of nested belief, written as charts and compared. What it promises stands in specs/; here are the answers that its public calls hand back.
-pub mod bytes;
 pub mod call;
 pub mod compare;
-pub mod copy;
-pub mod merge;
-pub mod number;
 pub mod pairs;
-pub mod partition;
 pub mod query;
 pub mod start;
-pub mod values;
-pub mod write;
 
 // What Start hands back, and Step above it: the length of the chart that was written, or a refusal's number and place.
 pub enum Charted {

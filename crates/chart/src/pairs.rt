@@ -1,12 +1,12 @@
 // Pairs of rows met breadth first from one pair on, each once, until one is found whose rows have other values: the way back from there is the chain.
-use crate::bytes::clear;
-use crate::bytes::wide;
-use crate::values::first_other;
+use partition::bytes::clear;
+use partition::bytes::wide;
+use partition::values::first_other;
 ghost use mathlib.Core.Path.{_≡_};
 ghost use Prim.Native.Nat.{_+_, _*_, _<_, _≤_};
 ghost use lib.ListN.{length, getD};
-ghost use Rattle.chart.specs.Inner.Numbers.{Sound};
-ghost use Rattle.chart.specs.Inner.Level.{Agrees, SameByte};
+ghost use Rattle.partition.specs.Inner.Numbers.{Sound};
+ghost use Rattle.partition.specs.Inner.Level.{Agrees, SameByte};
 ghost use Rattle.chart.specs.Inner.Pairs.{markAt, Paired, PairsIn, PairMet, FirstMet, Followed, Sought, Ways, Writable, LongWay, WayWritten};
 
 // Meets the pair of rows x and y, from entry `from` by character d, where `count` have been met: if it is new, it is marked, and an entry more. How many are met then.

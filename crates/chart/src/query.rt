@@ -1,7 +1,5 @@
 // Query: a fluent's value where a chain of beliefs leads.
 use crate::Queried;
-use crate::bytes::clear;
-use crate::bytes::wide;
 use crate::call::chain_there;
 use crate::call::check_lent;
 use crate::call::check_under;
@@ -10,6 +8,8 @@ use pack::copy::copy_table;
 use pack::number::Number;
 use pack::table::Table;
 use pack::table::follow;
+use partition::bytes::clear;
+use partition::bytes::wide;
 ghost use Prim.Native.Nat.{_<_};
 ghost use mathlib.Core.Path.{_≡_};
 ghost use Rattle.chart.specs.Inner.Look.{Lookable, Looked};

@@ -1,17 +1,17 @@
 // Start: the chart of node 0. In the work buffer stand, from place 0 on: a table's count and its rows, the scratch of the pass, the rows it reaches, the scratch of the
 // partition, and the merged rows.
 use crate::Charted;
-use crate::bytes::clear;
-use crate::bytes::copy_part;
 use crate::call::both_fit;
 use crate::call::check_lent;
 use crate::call::unless_refused;
-use crate::merge::write_merged;
-use crate::partition::partition;
-use crate::write::write_chart;
 use pack::contents::read_contents;
 use pack::copy::copy_table;
 use pack::number::Number;
+use partition::bytes::clear;
+use partition::bytes::copy_part;
+use partition::merge::write_merged;
+use partition::partition::partition;
+use partition::write::write_chart;
 ghost use Rattle.chart.specs.Promises.{Started};
 ghost use Rattle.chart.specs.Inner.Start.{Mergeable, Merged, Startable, StartPut};
 
@@ -20,7 +20,7 @@ pub fn merge_table(work: &mut [u8], n: usize, w: usize, f: usize, c: usize) -> u
     requires { ⌜ Mergeable (now work) n w f c ⌝ }
     ensures { λ r. ⌜ Merged (now (work .entry)) (now (work .exit)) n w f c r ⌝ }
 {
-    let reached = crate::copy::copy_table(work, n, w, f, c, 1, 1024, 1100);
+    let reached = partition::copy::copy_table(work, n, w, f, c, 1, 1024, 1100);
     let classes = partition(work, reached, w, f, c, 1100, 2100, 2200, 2300, 32);
     if reached <= classes {
         copy_part(work, 1100, 2400, reached * w);

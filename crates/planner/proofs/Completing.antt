@@ -17,7 +17,7 @@ use Rattle.pack.specs.Table.{stateOf, Below, Above}
 use Rattle.pack.specs.declared.table.Table.{Table}
 use Rattle.chart.specs.Call.{workRoom}
 use Rattle.chart.specs.Earliest.{Before}
-use Rattle.chart.specs.Laws.Lists.{place}
+use Rattle.partition.specs.Laws.Lists.{place}
 use Rattle.transition.specs.Happening.{nothing, Plays, actionOf}
 use Rattle.transition.specs.Laws.Settled.{plays-one}
 use Rattle.planner.specs.declared.explain.Shape.{Shape}

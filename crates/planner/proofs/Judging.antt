@@ -26,7 +26,7 @@ use Rattle.chart.specs.Replies.{firstOf}
 use Rattle.chart.specs.Laws.Answers.{fits-table}
 use Rattle.chart.specs.Laws.Replies.{chart-fits}
 use Rattle.chart.specs.Inner.Look.{NodesRead}
-use Rattle.chart.specs.Inner.Put.{Cleared}
+use Rattle.partition.specs.Inner.Put.{Cleared}
 use Rattle.chart.proofs.Calling.{and-true}
 use Rattle.chart.proofs.Looking.{cleared-all}
 use Rattle.chart.proofs.Checking.{counted, lent, checks, Accepted, FirstRead, first-read, nodes-read, refused-by, accepted-by, left-alone, check-one}

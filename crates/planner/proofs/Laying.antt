@@ -14,10 +14,10 @@ use Rattle.pack.specs.Table.{rowsAt, Above}
 use Rattle.pack.proofs.Ready.{copied, copied-fits}
 use Rattle.pack.proofs.Tables.{belief-in-table}
 use Rattle.chart.specs.Call.{workRoom}
-use Rattle.chart.specs.Chart.{Starts}
-use Rattle.chart.specs.Inner.Put.{Cleared, PartCopied}
+use Rattle.partition.specs.Chart.{Starts}
+use Rattle.partition.specs.Inner.Put.{Cleared, PartCopied}
 use Rattle.chart.specs.Inner.Start.{Mergeable, Merged}
-use Rattle.chart.proofs.Cells.{rows-same}
+use Rattle.partition.proofs.Cells.{rows-same}
 use Rattle.planner.specs.declared.explain.Shape.{Shape}
 use Rattle.planner.specs.Inner.Memory.{memoryAt}
 use Rattle.planner.specs.Inner.Search.{Laying, LaidStart}

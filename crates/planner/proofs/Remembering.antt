@@ -14,9 +14,9 @@ use Rattle.pack.specs.State.{State, meaning}
 use Rattle.pack.specs.Reading.{pick}
 use Rattle.pack.specs.Table.{rowsAt, tableOf, stateOf, Below, Above}
 use Rattle.chart.specs.Call.{workRoom}
-use Rattle.chart.specs.Inner.Put.{Cleared, PartCopied}
-use Rattle.chart.specs.Inner.Level.{Agrees, SameByte}
-use Rattle.chart.proofs.Cells.{rows-same, row-in}
+use Rattle.partition.specs.Inner.Put.{Cleared, PartCopied}
+use Rattle.partition.specs.Inner.Level.{Agrees, SameByte}
+use Rattle.partition.proofs.Cells.{rows-same, row-in}
 use Rattle.planner.specs.declared.explain.Shape.{Shape}
 use Rattle.planner.specs.declared.memory.Key.{Key}
 use Rattle.planner.specs.Inner.Lists.{slotTable}

@@ -29,10 +29,10 @@ use Rattle.pack.proofs.Ready.{small-pack}
 use Rattle.pack.proofs.Tables.{cells-at, rows-length}
 use Rattle.chart.specs.Call.{fits, listRoom, workRoom, cleared, resultAfter, workAfter}
 use Rattle.chart.specs.Laws.Answers.{fits-table}
-use Rattle.chart.specs.Laws.Unique.{some}
-use Rattle.chart.specs.Inner.Put.{Cleared}
+use Rattle.partition.specs.Laws.Unique.{some}
+use Rattle.partition.specs.Inner.Put.{Cleared}
 use Rattle.chart.proofs.Calling.{and-true}
-use Rattle.chart.proofs.Cells.{cells-length}
+use Rattle.partition.proofs.Cells.{cells-length}
 use Rattle.chart.proofs.Charting.{front-back}
 use Rattle.chart.proofs.Checking.{lent, checks, Accepted, refused-by, accepted-by, left-alone, check-none}
 use Rattle.chart.proofs.Looking.{cleared-all}

@@ -27,9 +27,9 @@ use Rattle.pack.proofs.Laws.{between-within}
 use Rattle.pack.proofs.OneByte.{consenter-bytes}
 use Rattle.pack.proofs.Tables.{rows-length}
 use Rattle.chart.specs.Call.{workRoom}
-use Rattle.chart.specs.Chart.{Starts}
-use Rattle.chart.specs.Laws.Lists.{stands, place}
-use Rattle.chart.specs.Laws.Unique.{some}
+use Rattle.partition.specs.Chart.{Starts}
+use Rattle.partition.specs.Laws.Lists.{stands, place}
+use Rattle.partition.specs.Laws.Unique.{some}
 use Rattle.transition.specs.Happening.{nothing, actionOf, Plays, Refuses}
 use Rattle.transition.specs.Laws.Settled.{plays-one, plays-refuses}
 use Rattle.transition.specs.Inner.Cause.{Tabled}

@@ -14,7 +14,7 @@ use Rattle.pack.specs.Laws.PackBack.{pack-back}
 use Rattle.pack.specs.Laws.Exact.{Bytes}
 use Rattle.pack.specs.Laws.PackExact.{pack-exactly}
 use Rattle.pack.specs.Laws.Reading.{never-gives}
-use Rattle.chart.specs.Chart.{ChartOf}
+use Rattle.partition.specs.Chart.{ChartOf}
 use Rattle.chart.specs.Compare.{Verdict, differ, Compared}
 use Rattle.chart.specs.Call.{fits}
 use Rattle.chart.specs.Replies.{startReply, queryReply, compareReply}

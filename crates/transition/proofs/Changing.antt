@@ -17,8 +17,8 @@ use Rattle.pack.specs.Condition.{write}
 use Rattle.pack.specs.Table.{cells, tableOf, Below}
 use Rattle.pack.specs.declared.table.Table.{Table}
 use Rattle.pack.proofs.Tables.{belief-at, rows-length}
-use Rattle.chart.proofs.Cells.{cells-same, row-in, rows-node, rows-same}
-use Rattle.chart.specs.Inner.Put.{PartCopied}
+use Rattle.partition.proofs.Cells.{cells-same, row-in, rows-node, rows-same}
+use Rattle.partition.specs.Inner.Put.{PartCopied}
 use Rattle.transition.specs.declared.change.Change.{Change}
 use Rattle.transition.specs.Laws.Changed.{Member, acted, edge, old, There}
 use Rattle.transition.specs.Inner.Cause.{told, EffectsAt, Telling, Tellable, ToldWritten, Tabled, Watched, Took}

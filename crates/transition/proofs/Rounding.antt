@@ -15,16 +15,16 @@ use Rattle.pack.specs.Condition.{write}
 use Rattle.pack.specs.Table.{cells, rowsAt, tableOf, stateOf}
 use Rattle.pack.specs.declared.table.Table.{Table}
 use Rattle.pack.proofs.Tables.{rows-length}
-use Rattle.chart.specs.Chart.{met, Ordered, Starts}
-use Rattle.chart.specs.Inner.Put.{PartCopied}
-use Rattle.chart.specs.Inner.Classed.{Room, Classed, WrittenOut}
-use Rattle.chart.specs.Inner.Level.{Levels, Parted}
-use Rattle.chart.specs.Laws.Built.{Rows}
-use Rattle.chart.specs.Laws.Merged.{classes}
-use Rattle.chart.specs.Laws.Counted.{at-most}
-use Rattle.chart.specs.Laws.Unique.{ordered-reached, some}
-use Rattle.chart.proofs.Cells.{cells-same, row-in, rows-node, rows-same}
-use Rattle.chart.proofs.Merging.{classed-apart}
+use Rattle.partition.specs.Chart.{met, Ordered, Starts}
+use Rattle.partition.specs.Inner.Put.{PartCopied}
+use Rattle.partition.specs.Inner.Classed.{Room, Classed, WrittenOut}
+use Rattle.partition.specs.Inner.Level.{Levels, Parted}
+use Rattle.partition.specs.Laws.Built.{Rows}
+use Rattle.partition.specs.Laws.Merged.{classes}
+use Rattle.partition.specs.Laws.Counted.{at-most}
+use Rattle.partition.specs.Laws.Unique.{ordered-reached, some}
+use Rattle.partition.proofs.Cells.{cells-same, row-in, rows-node, rows-same}
+use Rattle.partition.proofs.Merging.{classed-apart}
 use Rattle.transition.specs.declared.change.Change.{Change}
 use Rattle.transition.specs.Happening.{change}
 use Rattle.transition.specs.Laws.Changed as changed

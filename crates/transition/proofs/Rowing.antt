@@ -6,10 +6,10 @@ use native.Mathlib.Omega.{arith}
 use lib.ListN.{length, getD}
 use Rattle.pack.specs.Table.{Below, Above}
 use Rattle.pack.specs.declared.table.Table.{Table}
-use Rattle.chart.specs.Inner.Numbers.{Numbering, Named, Given, keyAt}
-use Rattle.chart.proofs.Cells.{row-in}
-use Rattle.chart.proofs.Numbering.{few}
-use Rattle.chart.proofs.Passing.{row-filled, Going, going-start, going-row, going-end}
+use Rattle.partition.specs.Inner.Numbers.{Numbering, Named, Given, keyAt}
+use Rattle.partition.proofs.Cells.{row-in}
+use Rattle.partition.proofs.Numbering.{few}
+use Rattle.partition.proofs.Passing.{row-filled, Going, going-start, going-row, going-end}
 use Rattle.transition.specs.declared.change.Change.{Change}
 use Rattle.transition.specs.Happening.{change}
 use Rattle.transition.specs.Laws.Changed as changed

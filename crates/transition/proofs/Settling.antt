@@ -14,10 +14,10 @@ use Rattle.pack.specs.Answer.{dims}
 use Rattle.pack.specs.Table.{rowsAt}
 use Rattle.pack.specs.declared.table.Table.{Table}
 use Rattle.pack.proofs.Tables.{rows-length}
-use Rattle.chart.specs.Chart.{Starts}
-use Rattle.chart.specs.States.{AtMost}
-use Rattle.chart.specs.Laws.Counted.{counted}
-use Rattle.chart.specs.Laws.Unique.{ordered-reached, some}
+use Rattle.partition.specs.Chart.{Starts}
+use Rattle.partition.specs.States.{AtMost}
+use Rattle.partition.specs.Laws.Counted.{counted}
+use Rattle.partition.specs.Laws.Unique.{ordered-reached, some}
 use Rattle.transition.specs.declared.change.Change.{Change}
 use Rattle.transition.specs.Happening.{Quiet, Settles, Stops, firing, fires, round}
 use Rattle.transition.specs.Laws.Quiet.{quiet}

@@ -16,15 +16,15 @@ use Rattle.pack.specs.Laws.Table.{walk-inside, after-walk}
 use Rattle.pack.specs.declared.table.Table.{Table}
 use Rattle.pack.proofs.Tables.{rows-length}
 use Rattle.chart.specs.Call.{workRoom}
-use Rattle.chart.specs.Chart.{Ordered, Written, Starts}
-use Rattle.chart.specs.States.{AtMost}
-use Rattle.chart.specs.Inner.Put.{PartCopied}
-use Rattle.chart.specs.Inner.Classed.{classAt, Room, Classed, WrittenOut}
-use Rattle.chart.specs.Inner.Level.{Levels, Parted}
-use Rattle.chart.specs.Laws.Merged.{classes, grows}
-use Rattle.chart.specs.Laws.Unique.{ordered-reached, some}
-use Rattle.chart.proofs.Cells.{rows-same}
-use Rattle.chart.proofs.Numbering.{pigeons}
+use Rattle.partition.specs.Chart.{Ordered, Written, Starts}
+use Rattle.partition.specs.States.{AtMost}
+use Rattle.partition.specs.Inner.Put.{PartCopied}
+use Rattle.partition.specs.Inner.Classed.{classAt, Room, Classed, WrittenOut}
+use Rattle.partition.specs.Inner.Level.{Levels, Parted}
+use Rattle.partition.specs.Laws.Merged.{classes, grows}
+use Rattle.partition.specs.Laws.Unique.{ordered-reached, some}
+use Rattle.partition.proofs.Cells.{rows-same}
+use Rattle.partition.proofs.Numbering.{pigeons}
 use Rattle.transition.specs.declared.change.Change.{Change}
 use Rattle.transition.specs.Happening.{change}
 use Rattle.transition.specs.Inner.Change.{Scene, Stands, at, Laid, ChangeMade}

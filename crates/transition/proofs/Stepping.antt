@@ -17,15 +17,15 @@ use Rattle.pack.specs.Copy.{TableCopyable, TableCopied}
 use Rattle.pack.specs.declared.table.Table.{Table}
 use Rattle.pack.proofs.Ready.{copied-fits}
 use Rattle.chart.specs.Call.{workRoom, resultAfter, workAfter, cleared}
-use Rattle.chart.specs.Chart.{Starts}
+use Rattle.partition.specs.Chart.{Starts}
 use Rattle.chart.specs.declared.Charted.the-variants as charted
-use Rattle.chart.specs.Inner.Numbers.{Sound}
-use Rattle.chart.specs.Inner.Out.{RowsPut}
-use Rattle.chart.specs.Inner.Put.{Cleared}
+use Rattle.partition.specs.Inner.Numbers.{Sound}
+use Rattle.partition.specs.Inner.Out.{RowsPut}
+use Rattle.partition.specs.Inner.Put.{Cleared}
 use Rattle.chart.specs.Laws.Answers.{fits-table}
 use Rattle.chart.proofs.Charting.{chart-out}
 use Rattle.chart.proofs.Looking.{cleared-all}
-use Rattle.chart.proofs.Merging.{ordered-sound}
+use Rattle.partition.proofs.Merging.{ordered-sound}
 use Rattle.transition.specs.Happening.{Plays, Refuses, Stops}
 use Rattle.transition.specs.Step.{Outcome, leaves, refused, Steps}
 use Rattle.transition.specs.Answers.{stepTable}

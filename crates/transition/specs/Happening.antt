@@ -8,7 +8,7 @@ use lib.ListN.{getD, length}
 use Rattle.pack.specs.Syntax.{Effect, Action, Trigger, Theory}
 use Rattle.pack.specs.State.{State, belief, after, Valid}
 use Rattle.pack.specs.Condition.{holds, write}
-use Rattle.chart.specs.States.{AtMost}
+use Rattle.partition.specs.States.{AtMost}
 
 -- f of the values where the chain has ended: what is written into a belief is written into its own values, and into nothing that it believes in turn
 unfoldable pub atRoot : (List ℕ → List ℕ) → List ℕ → List ℕ → List ℕ

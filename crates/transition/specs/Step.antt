@@ -4,7 +4,7 @@ use mathlib.Core.List.{List}
 use lib.ListN.{length}
 use Rattle.pack.specs.Syntax.{Node, Theory}
 use Rattle.pack.specs.State.{State, meaning}
-use Rattle.chart.specs.Chart.{Written}
+use Rattle.partition.specs.Chart.{Written}
 use Rattle.transition.specs.Happening.{Plays, Refuses}
 
 -- a chart, or a number

@@ -1,12 +1,12 @@
 // A stage of Step, part 1 or a round: the pass, the partition, and the merged table, which is put into a slot of the work buffer.
 use crate::change::Change;
 use crate::change::change_table;
-use chart::merge::write_merged;
-use chart::partition::partition;
 use pack::table::Table;
+use partition::merge::write_merged;
+use partition::partition::partition;
 ghost use Prim.Native.Nat.{_+_, _≤_};
 ghost use lib.ListN.{length};
-ghost use Rattle.chart.specs.Inner.Put.{PartCopied};
+ghost use Rattle.partition.specs.Inner.Put.{PartCopied};
 ghost use Rattle.transition.specs.Inner.Change.{Scene, Stands, Scened};
 ghost use Rattle.transition.specs.Inner.Stage.{StageRoom, Staged};
 

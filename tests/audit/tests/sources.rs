@@ -41,6 +41,7 @@ fn definitions_are_reached() {
         "planner/specs/Promises.antt",
         "planner/specs/Ending.antt",
         "transition/specs/Happening.antt",
+        "partition/specs/Chart.antt",
         "chart/specs/Call.antt",
         "pack/specs/Grammar.antt",
         "pack/specs/State.antt",
@@ -62,7 +63,7 @@ fn use_lines_are_read() {
 #[test]
 fn wrong_programs_have_their_edits() {
     let page = std::fs::read_to_string(repository().join("docs/CONTRACTS.md")).expect("the page");
-    let of = ["pack", "chart", "transition", "planner", "export", "ending"];
+    let of = ["pack", "partition", "chart", "transition", "planner", "export", "ending"];
     let cited: Vec<&str> = page.split('`').skip(1).step_by(2).collect();
     let mut there = Vec::new();
     for name in of {

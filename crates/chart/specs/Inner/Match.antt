@@ -13,8 +13,8 @@ use Rattle.chart.specs.Answers.{compareTable}
 use Rattle.chart.specs.Call.{chainRoom, workRoom, cleared}
 use Rattle.chart.specs.Replies.{chainOf}
 use Rattle.chart.specs.Promises.{compareSaid, difference}
-use Rattle.chart.specs.Inner.Bytes.{Above}
-use Rattle.chart.specs.Inner.Numbers.{Sound}
+use Rattle.partition.specs.Inner.Bytes.{Above}
+use Rattle.partition.specs.Inner.Numbers.{Sound}
 use Rattle.chart.specs.Inner.Look.{NodesRead}
 
 -- two charts of n and m nodes, and room for both

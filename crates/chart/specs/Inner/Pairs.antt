@@ -10,7 +10,7 @@ use Rattle.pack.specs.State.{Valid, meaning}
 use Rattle.pack.specs.Table.{cells, rowsAt}
 use Rattle.chart.specs.Earliest.{Earliest}
 use Rattle.chart.specs.Laws.Breadth.{Met}
-use Rattle.chart.specs.Inner.Bytes.{Below, Above}
+use Rattle.partition.specs.Inner.Bytes.{Below, Above}
 
 -- the rows of entry e; the entries stand from q on
 abbrev pub leftAt : List ℕ → ℕ → ℕ → ℕ

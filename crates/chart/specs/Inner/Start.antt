@@ -11,11 +11,11 @@ use Rattle.pack.specs.Answer.{dims}
 use Rattle.pack.specs.Copy.{Shaped}
 use Rattle.pack.specs.State.{meaning}
 use Rattle.pack.specs.Table.{rowsAt}
-use Rattle.chart.specs.Chart.{Starts}
+use Rattle.partition.specs.Chart.{Starts}
 use Rattle.chart.specs.Answers.{startTable}
 use Rattle.chart.specs.Call.{chartRoom, workRoom, cleared}
-use Rattle.chart.specs.Inner.Bytes.{Above}
-use Rattle.chart.specs.Inner.Numbers.{Sound}
+use Rattle.partition.specs.Inner.Bytes.{Above}
+use Rattle.partition.specs.Inner.Numbers.{Sound}
 
 -- at most 32 rows of at most 30 bytes from 1 on, each belief one of them
 pub record Mergeable (work : List ℕ) (n w f c : ℕ) : Type 0 where

@@ -14,7 +14,7 @@ use Rattle.pack.specs.Syntax.{Node}
 use Rattle.pack.specs.State.{Valid, node, target, meaning, walk}
 use Rattle.pack.specs.Laws.Table.{finds-walk}
 use Rattle.chart.specs.Earliest.{Before, Earliest}
-use Rattle.chart.specs.Laws.Counted.{further}
+use Rattle.partition.specs.Laws.Counted.{further}
 use Rattle.chart.specs.Laws.Comparing.{differ-valid}
 
 before-self : (a : List ℕ) → Before a a → ⊥

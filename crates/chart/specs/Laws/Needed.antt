@@ -7,7 +7,7 @@ use native.Mathlib.Omega.{arith}
 use Rattle.pack.specs.State.{State, node, meaning, Closed, Valid}
 use Rattle.pack.specs.Syntax.{Node}
 use Rattle.pack.specs.Laws.Table.{same-valid}
-use Rattle.chart.specs.Chart.{Apart, meets, Fresh, met, Written}
+use Rattle.partition.specs.Chart.{Apart, meets, Fresh, met, Written}
 
 abbrev short : List Node
 short = record { values = 0 ∷ []; beliefs = 0 ∷ [] } ∷ []

@@ -19,12 +19,12 @@ use Rattle.pack.specs.Laws.Fits.{chart-short}
 use Rattle.pack.specs.Laws.PackBack.{chart-back, chart-bytes-one}
 use Rattle.pack.specs.Laws.Exact.{Bytes}
 use Rattle.pack.specs.Laws.PackExact.{pack-exactly, chart-exactly, fits-limits}
-use Rattle.chart.specs.Chart.{Starts, ChartOf}
+use Rattle.partition.specs.Chart.{Starts, ChartOf}
 use Rattle.chart.specs.Compare.{Verdict, same, differ, Compared}
 use Rattle.chart.specs.Answers.{startTable, compareTable}
 use Rattle.chart.specs.Call.{chartRoom, chainRoom, workRoom, fits, chartsOf, call}
 use Rattle.chart.specs.Replies.{startReply, queryReply, compareReply, allBelow}
-use Rattle.chart.specs.Laws.Unique.{unique}
+use Rattle.partition.specs.Laws.Unique.{unique}
 use Rattle.chart.specs.Laws.Answers.{start-table, start-table-iff, start-fits, compare-table-iff, compare-table-short, fits-table, fits-full}
 
 -- bytes that are accepted as a pack

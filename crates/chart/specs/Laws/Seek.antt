@@ -8,7 +8,7 @@ use native.Mathlib.Decide.{decLe}
 use native.Mathlib.Omega.{arith}
 use Rattle.pack.specs.State.{Valid}
 use Rattle.chart.specs.Earliest.{Before, Earliest}
-use Rattle.chart.specs.Laws.Count.{least}
+use Rattle.partition.specs.Laws.Count.{least}
 
 -- Lists of numbers below A, by length and then in order
 module _ (A : ℕ) where

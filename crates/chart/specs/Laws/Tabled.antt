@@ -9,8 +9,8 @@ use native.Mathlib.Omega.{arith}
 use Rattle.pack.specs.State.{State, belief, node, nowhere, meaning, target, Closed}
 use Rattle.pack.specs.Syntax.{Node}
 use Rattle.pack.specs.Laws.Table.{Matches, means, blank, belief-in, belief-out}
-use Rattle.chart.specs.Laws.Built.{Family, Rows, built, copied}
-use Rattle.chart.specs.Laws.Lists.{tabulate, length-tabulate, getD-tabulate, stands, place, below, below-in, below-out}
+use Rattle.partition.specs.Laws.Built.{Family, Rows, built, copied}
+use Rattle.partition.specs.Laws.Lists.{tabulate, length-tabulate, getD-tabulate, stands, place, below, below-in, below-out}
 
 pub record Tabled (C : ℕ) (s : State) : Type 0 where
   pub table : List Node

@@ -8,8 +8,8 @@ use native.Mathlib.Decide.{decLt, ℕ-discrete}
 use Rattle.pack.specs.State.{State, meaning, target, Closed, node, walk, Sized}
 use Rattle.pack.specs.Syntax.{Node}
 use Rattle.pack.specs.Laws.Table.{finds-walk, walk-inside}
-use Rattle.chart.specs.States.{Everywhere, Wide}
-use Rattle.chart.specs.Laws.Count.{every}
+use Rattle.partition.specs.States.{Everywhere, Wide}
+use Rattle.partition.specs.Laws.Count.{every}
 use Rattle.chart.specs.Laws.Tabled.{Tabled}
 
 -- Whether a list of nodes is a table

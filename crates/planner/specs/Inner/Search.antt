@@ -11,7 +11,7 @@ use Rattle.pack.specs.Grammar.{nodeAt}
 use Rattle.pack.specs.Copy.{Shaped}
 use Rattle.pack.specs.Table.{tableOf, stateOf, Below, Above}
 use Rattle.chart.specs.Call.{listRoom, workRoom, cleared, resultAfter}
-use Rattle.chart.specs.Chart.{Starts}
+use Rattle.partition.specs.Chart.{Starts}
 use Rattle.chart.specs.Earliest.{Before}
 use Rattle.transition.specs.Inner.Play.{Theorized}
 use Rattle.planner.specs.declared.Found.{Found}

@@ -8,7 +8,7 @@ use native.Mathlib.Decide.{ℕ-discrete, decLt, map-dec}
 use native.Mathlib.Omega.{arith}
 use Rattle.pack.specs.State.{State, belief}
 use Rattle.pack.specs.Syntax.{Theory}
-use Rattle.chart.specs.Laws.Count.{any}
+use Rattle.partition.specs.Laws.Count.{any}
 use Rattle.chart.specs.Laws.Tabled.{Tabled, tabled-belief}
 use Rattle.transition.specs.Happening.{Plays, actionOf}
 use Rattle.transition.specs.Laws.Decided.{play?}

@@ -7,7 +7,7 @@ use native.Mathlib.Omega.{arith}
 use Rattle.pack.specs.State.{State, meaning}
 use Rattle.pack.specs.Syntax.{Theory, Node}
 use Rattle.chart.specs.Answers.{startTable}
-use Rattle.chart.specs.Chart.{Written}
+use Rattle.partition.specs.Chart.{Written}
 use Rattle.chart.specs.Laws.Answers.{start-table-iff, written-table}
 use Rattle.chart.specs.Laws.Tables.{IsTable}
 use Rattle.transition.specs.Answers.{stepTable}

@@ -10,11 +10,11 @@ use Rattle.pack.specs.Condition.{holds, allPass, passes, compares, utility, wri
 use Rattle.pack.specs.State.{State, belief, Valid, node, meaning, target}
 use Rattle.pack.specs.Syntax.{is, Condition, Action, Theory, Node}
 use Rattle.pack.specs.Laws.Table.{means, belief-out}
-use Rattle.chart.specs.Chart.{Written, met, meets, Fresh}
+use Rattle.partition.specs.Chart.{Written, met, meets, Fresh}
 use Rattle.chart.specs.Compare.{Differ}
 use Rattle.chart.specs.Earliest.{Before}
-use Rattle.chart.specs.Laws.Counted.{at-most}
-use Rattle.chart.specs.Laws.Unique.{ordered-reached}
+use Rattle.partition.specs.Laws.Counted.{at-most}
+use Rattle.partition.specs.Laws.Unique.{ordered-reached}
 use Rattle.transition.specs.Happening.{Quiet, Settles, Plays, act, atRoot, firing, actionOf, change, observes}
 use Rattle.transition.specs.Laws.Changed.{Member, changed, all-told}
 use Rattle.planner.specs.Ending.{Explained, Ending, Leads}

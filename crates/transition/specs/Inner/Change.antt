@@ -12,8 +12,8 @@ use Rattle.pack.specs.Reading.{pick}
 use Rattle.pack.specs.Grammar.{Dimensions}
 use Rattle.pack.specs.Table.{cells, rowsAt, Below, Above}
 use Rattle.pack.specs.declared.table.Table.{Table}
-use Rattle.chart.specs.Chart.{Ordered}
-use Rattle.chart.specs.Inner.Numbers.{keyAt, RowFilled}
+use Rattle.partition.specs.Chart.{Ordered}
+use Rattle.partition.specs.Inner.Numbers.{keyAt, RowFilled}
 use Rattle.transition.specs.declared.change.Change.{Change}
 use Rattle.transition.specs.Happening.{change}
 use Rattle.transition.specs.Laws.Changed as changed

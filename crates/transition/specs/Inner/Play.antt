@@ -13,7 +13,7 @@ use Rattle.pack.specs.Contents.{TheoryFound}
 use Rattle.pack.specs.Table.{rowsAt}
 use Rattle.pack.specs.declared.table.Table.{Table}
 use Rattle.chart.specs.Call.{workRoom}
-use Rattle.chart.specs.Chart.{Written, Starts}
+use Rattle.partition.specs.Chart.{Written, Starts}
 use Rattle.chart.specs.Call.{chartRoom, resultAfter, cleared}
 use Rattle.chart.specs.Promises.{chartSaid}
 use Rattle.chart.specs.Inner.Look.{NodesRead}

@@ -10,7 +10,7 @@ use Rattle.pack.specs.Condition.{write}
 use Rattle.pack.specs.Table.{cells, tableOf}
 use Rattle.pack.specs.declared.table.Table.{Table}
 use Rattle.chart.specs.Call.{workRoom}
-use Rattle.chart.specs.Chart.{Ordered}
+use Rattle.partition.specs.Chart.{Ordered}
 use Rattle.transition.specs.declared.change.Change.{Change}
 use Rattle.transition.specs.Inner.Cause.{told, EffectsAt, Tabled}
 use Rattle.transition.specs.Inner.Change.{Scene, at}

@@ -6,9 +6,9 @@ use lib.ListN.{length, getD}
 use Rattle.pack.specs.Table.{rowsAt, Below, Above}
 use Rattle.pack.specs.declared.table.Table.{Table}
 use Rattle.chart.specs.Call.{workRoom}
-use Rattle.chart.specs.Chart.{Starts}
-use Rattle.chart.specs.States.{AtMost}
-use Rattle.chart.specs.Inner.Bytes.{Between}
+use Rattle.partition.specs.Chart.{Starts}
+use Rattle.partition.specs.States.{AtMost}
+use Rattle.partition.specs.Inner.Bytes.{Between}
 use Rattle.pack.specs.State.{State}
 use Rattle.transition.specs.Happening.{change}
 use Rattle.transition.specs.Inner.Change.{Scene, at}

@@ -9,7 +9,7 @@ use Rattle.pack.specs.Condition.{write}
 use Rattle.pack.specs.State.{State, belief, node, meaning, target}
 use Rattle.pack.specs.Syntax.{Effect, Node}
 use Rattle.pack.specs.Laws.Table.{blank, belief-in, belief-out}
-use Rattle.chart.specs.Laws.Built.{Family, Rows, built}
+use Rattle.partition.specs.Laws.Built.{Family, Rows, built}
 use Rattle.transition.specs.Happening.{atRoot, change}
 
 -- of a table: what row m has become by taking part, what c believes in it then, and what row m meant before

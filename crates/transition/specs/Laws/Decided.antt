@@ -9,11 +9,11 @@ use native.Mathlib.Decide.{decLt, map-dec}
 use Rattle.pack.specs.Condition.{holds}
 use Rattle.pack.specs.State.{State, meaning}
 use Rattle.pack.specs.Syntax.{Theory, Trigger}
-use Rattle.chart.specs.States.{AtMost}
+use Rattle.partition.specs.States.{AtMost}
 use Rattle.chart.specs.Laws.Charted.{Charting, chart, few?}
-use Rattle.chart.specs.Laws.Count.{every}
+use Rattle.partition.specs.Laws.Count.{every}
 use Rattle.chart.specs.Laws.Tabled.{Tabled}
-use Rattle.chart.specs.Laws.Unique.{ordered-reached, some}
+use Rattle.partition.specs.Laws.Unique.{ordered-reached, some}
 use Rattle.transition.specs.Happening.{Quiet, Settles, Plays, firing, actionOf, Stops, Refuses}
 use Rattle.transition.specs.Laws.Quiet.{quiet}
 use Rattle.transition.specs.Laws.Settled.{plays-refuses}

@@ -9,7 +9,7 @@ use native.Mathlib.Omega.{arith}
 use Rattle.pack.specs.State.{State, meaning, Closed, walk}
 use Rattle.pack.specs.Syntax.{Theory, Trigger, Node}
 use Rattle.pack.specs.Laws.Table.{after-walk, walk-inside}
-use Rattle.chart.specs.Laws.Counted.{there, Reached}
+use Rattle.partition.specs.Laws.Counted.{there, Reached}
 use Rattle.transition.specs.Happening.{Quiet, firing}
 
 module _ (p : Theory) (t : List Node) (reached : (i : ℕ) → i < length t → Reached (p .characters) t i) where

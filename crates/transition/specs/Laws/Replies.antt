@@ -12,7 +12,7 @@ use Rattle.pack.specs.Syntax.{Node, Pack}
 use Rattle.pack.specs.State.{State, meaning}
 use Rattle.pack.specs.Reading.{gives, refuses}
 use Rattle.pack.specs.Layout.{chartBytes}
-use Rattle.chart.specs.Chart.{ChartOf}
+use Rattle.partition.specs.Chart.{ChartOf}
 use Rattle.chart.specs.Call.{chartRoom, workRoom, fits}
 use Rattle.chart.specs.Laws.Answers.{fits-table}
 use Rattle.chart.specs.Laws.Replies.{Given, Chart, given-fits, chart-fits, both-true, long-enough, call-one}

@@ -4,7 +4,7 @@ use mathlib.Core.Path.{_≡_, refl, sym, _∙_}
 use mathlib.Core.Bool.{true≢false}
 use Rattle.pack.specs.State.{State}
 use Rattle.pack.specs.Syntax.{Theory}
-use Rattle.chart.specs.States.{AtMost}
+use Rattle.partition.specs.States.{AtMost}
 use Rattle.transition.specs.Happening.{Quiet, Settles, round, Plays, Stops, Refuses}
 
 module _ {p : Theory} where

@@ -6,12 +6,12 @@ use mathlib.Core.List.{List}
 use lib.ListN.{length}
 use Rattle.pack.specs.State.{State, meaning}
 use Rattle.pack.specs.Syntax.{Theory, Node, Pack}
-use Rattle.chart.specs.Chart.{Written}
+use Rattle.partition.specs.Chart.{Written}
 use Rattle.pack.specs.Layout.{PackFits, ChartFits}
 use Rattle.chart.specs.Laws.Answers.{written-fits, fits-table, fits-everywhere}
-use Rattle.chart.specs.Laws.Counted.{counted}
+use Rattle.partition.specs.Laws.Counted.{counted}
 use Rattle.chart.specs.Laws.Tables.{IsTable, on-table}
-use Rattle.chart.specs.Laws.Unique.{ordered-reached, some}
+use Rattle.partition.specs.Laws.Unique.{ordered-reached, some}
 use Rattle.transition.specs.Answers.{stepTable}
 use Rattle.transition.specs.Happening.{Plays}
 use Rattle.transition.specs.Step.{Outcome, leaves, refused, Steps}

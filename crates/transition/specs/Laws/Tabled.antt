@@ -10,7 +10,7 @@ use native.Mathlib.Omega.{arith}
 use Rattle.pack.specs.State.{State, meaning, target, Closed}
 use Rattle.pack.specs.Syntax.{Action, Trigger, Effect, Node}
 use Rattle.pack.specs.Laws.Table.{means}
-use Rattle.chart.specs.Laws.Lists.{below, map-in, map-out, below-in, below-out}
+use Rattle.partition.specs.Laws.Lists.{below, map-in, map-out, below-in, below-out}
 use Rattle.chart.specs.Laws.Tabled.{enumerated, tabled-same, Tabled}
 use Rattle.transition.specs.Happening.{act, change, fires, observes, round}
 use Rattle.transition.specs.Laws.Changed.{Member, acted, edge, old, There, next, changed, all-told}

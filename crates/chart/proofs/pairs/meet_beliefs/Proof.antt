@@ -5,9 +5,9 @@ use lib.ListN.{length}
 use native.Mathlib.Omega.{arith}
 use borrow.Author.Needs.{needs}
 use Rattle.pack.specs.Table.{rowsAt}
-use Rattle.chart.specs.Inner.Bytes.{Below, Above}
+use Rattle.partition.specs.Inner.Bytes.{Below, Above}
 use Rattle.chart.specs.Inner.Pairs.{leftAt, rightAt, Pairs}
-use Rattle.chart.proofs.Cells.{row-in}
+use Rattle.partition.proofs.Cells.{row-in}
 use Rattle.chart.proofs.Pairing.{entries-most, pairs-more, pairs-all, row-place, follow-row, follow-meet, follow-frame}
 use Rattle.chart.proofs.pairs.meet_beliefs.Statement.{statement}
 use Rattle.chart.proofs.pairs.meet_beliefs.Tie as tie

@@ -4,7 +4,7 @@ use mathlib.Core.Path.{refl}
 use native.Mathlib.Nat.{mod-lt}
 use native.Mathlib.Omega.{arith}
 use borrow.Author.Needs.{needs}
-use Rattle.chart.proofs.Cells.{row-in}
+use Rattle.partition.proofs.Cells.{row-in}
 use Rattle.planner.proofs.Remembering.{extent-most}
 use Rattle.planner.proofs.memory.entry_of.Statement.{statement}
 use Rattle.planner.proofs.memory.entry_of.Tie as tie

@@ -4,8 +4,8 @@ use Prim.Native.Nat.{_*_, _-_}
 use lib.ListN.{length}
 use native.Mathlib.Omega.{arith}
 use borrow.Author.Needs.{needs}
-use Rattle.chart.specs.Inner.Numbers.{keyAt}
-use Rattle.chart.proofs.Numbering.{numbering-none}
+use Rattle.partition.specs.Inner.Numbers.{keyAt}
+use Rattle.partition.proofs.Numbering.{numbering-none}
 use Rattle.transition.specs.Inner.Change.{Scene, Stands, Laid}
 use Rattle.transition.proofs.Changing.{stands-same}
 use Rattle.transition.proofs.Rowing.{slotsOf, Making, making-start, making-real, making-row, making-end}

@@ -4,8 +4,8 @@ use Prim.Native.Nat.{_≤_, _-_}
 use lib.ListN.{length, length-set}
 use native.Mathlib.Omega.{arith}
 use borrow.Author.Needs.{needs}
-use Rattle.chart.specs.Inner.Put.{PartCopied}
-use Rattle.chart.proofs.Cells.{part-none}
+use Rattle.partition.specs.Inner.Put.{PartCopied}
+use Rattle.partition.proofs.Cells.{part-none}
 use Rattle.transition.proofs.Staging.{down-more}
 use Rattle.transition.proofs.stage.copy_down.Statement.{statement}
 use Rattle.transition.proofs.stage.copy_down.Tie as tie

@@ -1,0 +1,10 @@
+pub mod Count
+pub mod Classes
+pub mod Moore
+pub mod Lists
+pub mod Built
+pub mod Counted
+pub mod Unique
+pub mod Merged
+pub mod Pass
+pub mod Bridge

@@ -1,0 +1,4 @@
+pub mod States
+pub mod Chart
+pub mod Laws
+pub mod Inner
