@@ -6,7 +6,7 @@ use mathlib.Core.List.{List, []}
 use lib.ListN.{length}
 use borrow.Author.Tests.{leb-true}
 use Rattle.pack.specs.Syntax.{Node, Pack}
-use Rattle.pack.specs.Reading.{done, many, Reply, gives, with, told}
+use Rattle.reading.specs.Reading.{done, many, Reply, gives, with, told}
 use Rattle.pack.specs.Grammar.{nodeAt}
 use Rattle.pack.specs.Layout.{chartBytes, ChartFits}
 use Rattle.pack.specs.Answer.{dims}
@@ -15,8 +15,8 @@ use Rattle.pack.specs.Contents.{PackRead, replied, repliedCount}
 use Rattle.pack.specs.Laws.Exact.{Bytes}
 use Rattle.pack.specs.Laws.PackExact.{pack-exactly}
 use Rattle.pack.specs.declared.contents.Contents.{Contents}
-use Rattle.pack.specs.declared.number.Number.{Number}
-use Rattle.pack.specs.declared.number.Number.the-variants as numbers
+use Rattle.reading.specs.declared.number.Number.{Number}
+use Rattle.reading.specs.declared.number.Number.the-variants as numbers
 use Rattle.pack.proofs.Ready.{small-pack}
 use Rattle.chart.specs.declared.Charted.the-variants as charted
 use Rattle.chart.specs.Answers.{startTable}

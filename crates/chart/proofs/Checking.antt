@@ -8,12 +8,13 @@ use lib.ListN.{length, take, getD}
 use lib.Dec.{ltb, leb}
 use borrow.Author.Tests.{lt-ltb, le-leb}
 use Rattle.pack.specs.Syntax.{Theory, Node, Pack}
-use Rattle.pack.specs.Reading.{done, many, Reply, gives, refuses, with, told, pick, whole}
-use Rattle.pack.specs.Number.{between}
+use Rattle.reading.specs.Reading.{done, many, Reply, gives, refuses, with, told, pick, whole}
+use Rattle.reading.specs.Number.{between}
 use Rattle.pack.specs.Grammar.{Dimensions, nodeAt, nodesAt, inChart, packOf, chartOf, dimensions}
-use Rattle.pack.specs.Answer.{dims, forget}
+use Rattle.reading.specs.Said.{forget}
+use Rattle.pack.specs.Answer.{dims}
 use Rattle.pack.specs.Contents.{PackRead, PackFound, replied}
-use Rattle.pack.specs.Laws.Reading.{never-gives, same-gift, both}
+use Rattle.reading.specs.Laws.Reading.{never-gives, same-gift, both}
 use Rattle.pack.specs.declared.contents.Contents.{Contents}
 use Rattle.pack.proofs.Low.{pack-refusal, chart-refusal}
 use Rattle.pack.proofs.Laws.{between-within}

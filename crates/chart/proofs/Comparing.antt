@@ -6,11 +6,11 @@ use mathlib.Core.List.{List, [], _∷_, map}
 use lib.ListN.{length, getD}
 use borrow.Author.Tests.{leb-true}
 use Rattle.pack.specs.Syntax.{Node, Pack}
-use Rattle.pack.specs.Reading.{Reply, gives, refuses, with, told}
+use Rattle.reading.specs.Reading.{Reply, gives, refuses, with, told}
 use Rattle.pack.specs.Contents.{PackRead, replied, repliedCount}
 use Rattle.pack.specs.declared.contents.Contents.{Contents}
-use Rattle.pack.specs.declared.number.Number.{Number}
-use Rattle.pack.specs.declared.number.Number.the-variants as numbers
+use Rattle.reading.specs.declared.number.Number.{Number}
+use Rattle.reading.specs.declared.number.Number.the-variants as numbers
 use Rattle.chart.specs.declared.Matched.{Matched}
 use Rattle.chart.specs.declared.Matched.the-variants as matched
 use Rattle.chart.specs.Compare.{Verdict}

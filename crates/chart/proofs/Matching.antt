@@ -11,7 +11,7 @@ use lib.Seq.{ext-getD}
 use Rattle.pack.specs.Syntax.{Node}
 use Rattle.pack.specs.State.{State, node, target, meaning, Closed}
 use Rattle.pack.specs.Table.{cells, rowsAt}
-use Rattle.pack.specs.Reading.{gives}
+use Rattle.reading.specs.Reading.{gives}
 use Rattle.pack.specs.Laws.Table.{finds-walk}
 use Rattle.pack.proofs.Tables.{cells-at, rows-length}
 use Rattle.chart.specs.declared.Matched.{Matched}

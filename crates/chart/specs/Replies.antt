@@ -6,7 +6,7 @@ use lib.ListN.{getD}
 use lib.Dec.{ltb}
 use Rattle.pack.specs.Syntax.{Node, fluents}
 use Rattle.pack.specs.State.{meaning}
-use Rattle.pack.specs.Reading.{Reply, gives}
+use Rattle.reading.specs.Reading.{Reply, gives}
 use Rattle.pack.specs.Layout.{chartBytes}
 use Rattle.chart.specs.Compare.{Verdict, same, differ}
 use Rattle.chart.specs.Answers.{startTable, compareTable}

@@ -15,7 +15,7 @@ ghost use mathlib.Core.Path.{_≡_};
 ghost use mathlib.Core.List.{[], _∷_};
 ghost use lib.ListN.{set};
 ghost use lib.Dec.{leb};
-ghost use Rattle.pack.specs.Reading.{pick, told};
+ghost use Rattle.reading.specs.Reading.{pick, told};
 ghost use Rattle.chart.specs.Promises.{chartSaid};
 ghost use Rattle.planner.specs.Promises.{explainedSaid, searchSaid};
 ghost use Rattle.export.specs.Report.{reportRoom, put, numberOf, entries};

@@ -13,14 +13,14 @@ use lib.Seq.{getD-set-same, getD-set-other, ext-getD}
 use lib.Dec.{ltb, leb, eqb}
 use borrow.Author.Tests.{eqb-false, leb-true}
 use Rattle.pack.specs.Syntax.{Node}
-use Rattle.pack.specs.Reading.{Reading, done, refused, Reader, pick, bind, mapped, runs, many}
-use Rattle.pack.specs.Number.{numberAt, between, item, beliefAt}
+use Rattle.reading.specs.Reading.{Reading, done, refused, Reader, pick, bind, mapped, runs, many}
+use Rattle.reading.specs.Number.{numberAt, between, item, beliefAt}
 use Rattle.pack.specs.Grammar.{Dimensions, valueAt, nodeAt}
 use Rattle.pack.specs.Table.{upto, cells, rowAt, rowsAt, Below, Above}
 use Rattle.pack.specs.Judge.{Small}
 use Rattle.pack.specs.Write.{RowOnly}
 use Rattle.pack.specs.Copy.{Copyable, Copied, Shaped, RowCopied}
-use Rattle.pack.specs.Laws.Reading.{same-value, same-place, Both, both, Mapped, unmapped, passed, failed}
+use Rattle.reading.specs.Laws.Reading.{same-value, same-place, Both, both, Mapped, unmapped, passed, failed}
 use Rattle.pack.proofs.Tables.{upto-length, cells-at}
 use Rattle.pack.proofs.Writing.{cells-length, only-then}
 use Rattle.pack.proofs.OneByte.{ByteAt, one-byte, between-byte}

@@ -7,15 +7,15 @@ use native.Mathlib.Numerals.{sub-one}
 use native.Mathlib.Omega.{arith}
 use lib.ListN.{length, getD}
 use Rattle.pack.specs.Syntax.{Kind, Test, Condition, Rule}
-use Rattle.pack.specs.Reading.{Reading, done, Reader, bind, mapped, runs, many}
-use Rattle.pack.specs.Number.{numberAt, between, counted}
+use Rattle.reading.specs.Reading.{Reading, done, Reader, bind, mapped, runs, many}
+use Rattle.reading.specs.Number.{numberAt, between, counted}
 use Rattle.pack.specs.Grammar.{Dimensions, kindOf, testAt, conditionAt, ruleAt}
 use Rattle.pack.specs.Condition.{compares, passes, allPass, holds, utility}
 use Rattle.pack.specs.State.{State, node, meaning, walk, Valid}
 use Rattle.pack.specs.Table.{tableOf, stateOf, TableFits, bytesAt}
 use Rattle.pack.specs.Judge.{Small, Over}
 use Rattle.pack.specs.declared.table.Table.{Table}
-use Rattle.pack.specs.Laws.Reading.{same-value, same-place, Both, both, Mapped, unmapped}
+use Rattle.reading.specs.Laws.Reading.{same-value, same-place, Both, both, Mapped, unmapped}
 use Rattle.pack.specs.Laws.Table.{finds-walk}
 use Rattle.pack.proofs.Tables.{value-at}
 use Rattle.pack.proofs.OneByte.{TestBytes, test-bytes, between-byte}

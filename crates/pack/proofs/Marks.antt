@@ -9,13 +9,13 @@ use native.Mathlib.Decide.{decLt}
 use native.Mathlib.Omega.{arith}
 use lib.ListN.{length, getD, set, length-set}
 use lib.Seq.{getD-set-same, getD-set-other}
-use Rattle.pack.specs.Reading.{Reading, done, refused, Reader, bind, mapped, runs, many}
+use Rattle.reading.specs.Reading.{Reading, done, refused, Reader, bind, mapped, runs, many}
 use Rattle.pack.specs.Grammar.{Dimensions, conditionAt, effectsAt, consentersAt, actionAt, triggerAt}
-use Rattle.pack.specs.Answer.{forget, whenPassed}
+use Rattle.reading.specs.Said.{forget, whenPassed}
 use Rattle.pack.specs.Places.{Ends, Marked, KeptBelow, ActionParts, TriggerParts}
-use Rattle.pack.specs.declared.number.Checked.{Checked}
-use Rattle.pack.specs.declared.number.Checked.the-variants.{Passed, Refused}
-use Rattle.pack.specs.Laws.Reading.{mapped-mapped, mapped-bind, bind-mapped, Both, both, same-place}
+use Rattle.reading.specs.declared.number.Checked.{Checked}
+use Rattle.reading.specs.declared.number.Checked.the-variants.{Passed, Refused}
+use Rattle.reading.specs.Laws.Reading.{mapped-mapped, mapped-bind, bind-mapped, Both, both, same-place}
 use Rattle.pack.proofs.Laws.{runs-none, many-forget}
 
 pub many-suc : {A : Type 0} (p : Reader A) (k : ℕ) (s : List ℕ) (at : ℕ) → mapped forget (many p (suc k) s at) ≡ bind (mapped forget (p s at)) (λ u n. mapped forget (many p k s n))

@@ -11,8 +11,8 @@ use lib.ListN.{length, getD, List·getD-eq-default}
 use lib.Dec.{ltb, leb, eqb}
 use borrow.Author.Tests.{eqb-false, leb-true}
 use Rattle.pack.specs.Syntax.{Node, Theory, Pack}
-use Rattle.pack.specs.Reading.{Reading, done, refused, Reader, pick, bind, mapped, runs, many, Reply, gives, refuses, told, whole, ended}
-use Rattle.pack.specs.Number.{numberAt, between, counted, beliefAt}
+use Rattle.reading.specs.Reading.{Reading, done, refused, Reader, pick, bind, mapped, runs, many, Reply, gives, refuses, told, whole, ended}
+use Rattle.reading.specs.Number.{numberAt, between, counted, beliefAt}
 use Rattle.pack.specs.Grammar.{Dimensions, dimensions, headAt, valueAt, nodeAt, nodesAt, theoryAt, packAt, packOf, chartOf, inChart}
 use Rattle.pack.specs.State.{Closed, nowhere}
 use Rattle.pack.specs.Answer.{dims}
@@ -22,7 +22,7 @@ use Rattle.pack.specs.Judge.{Small, Over, Readable, Judged}
 use Rattle.pack.specs.Copy.{Shaped, TableCopyable, TableCopied}
 use Rattle.pack.specs.declared.contents.Contents.{Contents}
 use Rattle.pack.specs.declared.table.Table.{Table}
-use Rattle.pack.specs.Laws.Reading.{never-gives, ended-gives, same-value, same-place, same-gift, Both, both, Mapped, unmapped, passed, failed}
+use Rattle.reading.specs.Laws.Reading.{never-gives, ended-gives, same-value, same-place, same-gift, Both, both, Mapped, unmapped, passed, failed}
 use Rattle.pack.proofs.Laws.{between-within}
 use Rattle.pack.proofs.OneByte.{between-byte}
 use Rattle.pack.proofs.Copying.{node-bytes}

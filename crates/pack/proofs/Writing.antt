@@ -12,13 +12,13 @@ use lib.Seq.{getD-set-same, getD-set-other, ext-getD}
 use lib.Dec.{eqb}
 use borrow.Author.Tests.{eq-eqb, ne-eqb}
 use Rattle.pack.specs.Syntax.{Effect}
-use Rattle.pack.specs.Reading.{Reading, done, Reader, mapped, runs, many}
+use Rattle.reading.specs.Reading.{Reading, done, Reader, mapped, runs, many}
 use Rattle.pack.specs.Grammar.{Dimensions, effectAt, effectsAt}
 use Rattle.pack.specs.Condition.{write}
 use Rattle.pack.specs.Table.{upto, cells}
 use Rattle.pack.specs.Judge.{Small}
 use Rattle.pack.specs.Write.{RowOnly, EffectWritten}
-use Rattle.pack.specs.Laws.Reading.{same-value, same-place, Both, both, Mapped, unmapped}
+use Rattle.reading.specs.Laws.Reading.{same-value, same-place, Both, both, Mapped, unmapped}
 use Rattle.pack.proofs.Tables.{upto-length, cells-at}
 use Rattle.pack.proofs.OneByte.{EffectBytes, effect-bytes}
 

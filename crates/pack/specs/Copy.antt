@@ -4,7 +4,7 @@ use mathlib.Core.Path.{_≡_}
 use mathlib.Core.List.{List}
 use lib.ListN.{length, getD}
 use Rattle.pack.specs.Syntax.{Node}
-use Rattle.pack.specs.Reading.{done, many}
+use Rattle.reading.specs.Reading.{done, many}
 use Rattle.pack.specs.Grammar.{Dimensions, nodeAt}
 use Rattle.pack.specs.Table.{rowAt, rowsAt, Below, Above}
 use Rattle.pack.specs.Judge.{Small}

@@ -4,8 +4,8 @@ use mathlib.Core.List.{List}
 use lib.ListN.{length, getD}
 use lib.Dec.{ltb, eqb}
 use Rattle.pack.specs.Syntax.{Kind, is, isNot, atLeast, Test, Condition, Effect, Action, Trigger, Rule, Theory, Node, Pack}
-use Rattle.pack.specs.Reading.{Reader, pick, bind, mapped, runs, many, Reply, gives, refuses, whole}
-use Rattle.pack.specs.Number.{numberAt, between, item, counted, beliefAt, risingAt}
+use Rattle.reading.specs.Reading.{Reader, pick, bind, mapped, runs, many, Reply, gives, refuses, whole}
+use Rattle.reading.specs.Number.{numberAt, between, item, counted, beliefAt, risingAt}
 
 -- what the readers of a pack's parts need of its head
 pub record Dimensions : Type 0 where

@@ -3,9 +3,9 @@ use Prim.Native.Nat.{ℕ, _<_, _≤_}
 use mathlib.Core.Path.{_≡_}
 use mathlib.Core.List.{List}
 use lib.ListN.{length, getD}
-use Rattle.pack.specs.Reading.{Reading, done, Reader}
+use Rattle.reading.specs.Reading.{Reading, done, Reader}
 use Rattle.pack.specs.Syntax.{Test}
-use Rattle.pack.specs.Number.{counted}
+use Rattle.reading.specs.Number.{counted}
 use Rattle.pack.specs.Grammar.{Dimensions, testAt}
 use Rattle.pack.specs.Table.{TableFits}
 use Rattle.pack.specs.declared.table.Table.{Table}

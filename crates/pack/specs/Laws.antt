@@ -1,4 +1,3 @@
-pub mod Reading
 pub mod Table
 pub mod Fits
 pub mod Accepts

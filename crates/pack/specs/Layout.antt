@@ -5,7 +5,7 @@ use mathlib.Core.List.{List, [], _∷_, _++_}
 use lib.ListN.{length, getD}
 use lib.Dec.{ltb}
 use Rattle.pack.specs.Syntax.{Kind, is, isNot, atLeast, Test, Condition, Effect, Action, Trigger, Rule, Theory, Node, Pack}
-use Rattle.pack.specs.Reading.{pick}
+use Rattle.reading.specs.Reading.{pick}
 
 -- "groups of seven bits, lowest first, the top bit set on all but the last"; "shortest form only"
 unfoldable pub numberBytes : ℕ → List ℕ

@@ -3,12 +3,12 @@ use Prim.Native.Nat.{ℕ, _+_, _*_, _<_, _≤_}
 use mathlib.Core.Path.{_≡_}
 use mathlib.Core.List.{List}
 use lib.ListN.{length, getD}
-use Rattle.pack.specs.Reading.{Reading, done, Reader, mapped, many}
-use Rattle.pack.specs.Number.{between, counted}
+use Rattle.reading.specs.Reading.{Reading, done, Reader, mapped, many}
+use Rattle.reading.specs.Number.{between, counted}
 use Rattle.pack.specs.Grammar.{Dimensions, conditionAt, effectsAt, consentersAt, actionAt, triggerAt, rulesAt}
-use Rattle.pack.specs.Answer.{said, shown, forget, whenPassed, whenIs}
-use Rattle.pack.specs.declared.number.Number.{Number}
-use Rattle.pack.specs.declared.number.Checked.{Checked}
+use Rattle.reading.specs.Said.{said, shown, forget, whenPassed, whenIs}
+use Rattle.reading.specs.declared.number.Number.{Number}
+use Rattle.reading.specs.declared.number.Checked.{Checked}
 
 -- what p reads from a place on ends at n
 abbrev pub Ends : {A : Type 0} → Reader A → List ℕ → ℕ → ℕ → Type 0

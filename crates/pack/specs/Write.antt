@@ -6,7 +6,7 @@ use mathlib.Core.List.{List}
 use lib.ListN.{length, set}
 use lib.Dec.{eqb}
 use Rattle.pack.specs.Syntax.{Effect}
-use Rattle.pack.specs.Reading.{done, Reader}
+use Rattle.reading.specs.Reading.{done, Reader}
 use Rattle.pack.specs.Grammar.{Dimensions, effectAt, effectsAt}
 use Rattle.pack.specs.Condition.{write}
 use Rattle.pack.specs.Table.{cells, Below, Above}

@@ -1,14 +1,15 @@
 // Effects and consenters of an action.
 use crate::condition::check_claim;
-use crate::number::Checked;
-use crate::number::Number;
-use crate::number::read_between;
-use crate::number::read_rising;
+use reading::number::Checked;
+use reading::number::Number;
+use reading::number::read_between;
+use reading::number::read_rising;
 ghost use mathlib.Core.Path.{_≡_};
 ghost use Prim.Native.Nat.{_+_, _≤_};
-ghost use Rattle.pack.specs.Reading.{mapped};
+ghost use Rattle.reading.specs.Reading.{mapped};
 ghost use Rattle.pack.specs.Grammar.{effectAt, effectsAt, consentersAt};
-ghost use Rattle.pack.specs.Answer.{shown, forget, dims};
+ghost use Rattle.reading.specs.Said.{shown, forget};
+ghost use Rattle.pack.specs.Answer.{dims};
 
 // Whom an effect is for, a fluent, a value.
 pub fn check_effect(s: &[u8], at: usize, characters: usize, domains: &[u8]) -> Checked

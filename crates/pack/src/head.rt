@@ -1,7 +1,7 @@
 // The head of a pack: version, characters, fluents and their domain sizes.
-use crate::number::Checked;
-use crate::number::Number;
-use crate::number::read_between;
+use reading::number::Checked;
+use reading::number::Number;
+use reading::number::read_between;
 ghost use Rattle.pack.specs.Answer.{DomainsRead, HeadRead};
 
 // The domain sizes: the first `fluents` of these.

@@ -1,15 +1,15 @@
 // Conditions judged in place, over a state in a table. Every number of an accepted pack's conditions is one byte.
-use crate::number::Number;
-use crate::number::read_number;
-use crate::number::wide;
 use crate::table::Table;
 use crate::table::follow;
+use reading::number::Number;
+use reading::number::read_number;
+use reading::number::wide;
 ghost use Prim.Native.Nat.{ℕ, _<_, _≤_};
 ghost use mathlib.Core.Path.{_≡_};
 ghost use mathlib.Core.List.{List};
 ghost use lib.Dec.{eqb};
 ghost use Rattle.pack.specs.Syntax.{is, isNot, atLeast, Test, Condition, Rule};
-ghost use Rattle.pack.specs.Reading.{pick, done};
+ghost use Rattle.reading.specs.Reading.{pick, done};
 ghost use Rattle.pack.specs.Grammar.{Dimensions, testAt, conditionAt, rulesAt};
 ghost use Rattle.pack.specs.Condition.{compares, allPass};
 ghost use Rattle.pack.specs.Table.{stateOf};

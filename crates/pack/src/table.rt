@@ -1,5 +1,5 @@
 // A table of states in a lent buffer, and where chains lead in it.
-use crate::number::wide;
+use reading::number::wide;
 ghost use Prim.Native.Nat.{_<_, _+_, _≤_};
 ghost use lib.ListN.{length};
 ghost use mathlib.Core.Path.{_≡_};

@@ -1,10 +1,10 @@
 // Effects written in place, into the values of a row, and the consenters of an action.
-use crate::number::wide;
+use reading::number::wide;
 ghost use Prim.Native.Nat.{ℕ, _<_, _+_, _≤_};
 ghost use mathlib.Core.Path.{_≡_};
 ghost use mathlib.Core.List.{List};
 ghost use lib.ListN.{length, getD};
-ghost use Rattle.pack.specs.Reading.{done};
+ghost use Rattle.reading.specs.Reading.{done};
 ghost use Rattle.pack.specs.Grammar.{Dimensions, effectAt, effectsAt, consentersAt};
 ghost use Rattle.pack.specs.Judge.{Small, Readable};
 ghost use Rattle.pack.specs.Write.{Writable, EffectWritten, EffectsWritten};

@@ -8,7 +8,7 @@ use native.Mathlib.Omega.{arith}
 use lib.ListN.{length, getD}
 use Rattle.pack.specs.Syntax.{Node, Theory, Rule}
 use Rattle.pack.specs.State.{State, meaning}
-use Rattle.pack.specs.Reading.{done}
+use Rattle.reading.specs.Reading.{done}
 use Rattle.pack.specs.Answer.{dims}
 use Rattle.pack.specs.Grammar.{Dimensions, rulesAt}
 use Rattle.pack.specs.Condition as condition

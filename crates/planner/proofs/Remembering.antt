@@ -11,7 +11,7 @@ use lib.ListN.{length, getD, set, length-set}
 use lib.Seq.{getD-set-same, getD-set-other}
 use Rattle.pack.specs.Syntax.{Node, Theory}
 use Rattle.pack.specs.State.{State, meaning}
-use Rattle.pack.specs.Reading.{pick}
+use Rattle.reading.specs.Reading.{pick}
 use Rattle.pack.specs.Table.{rowsAt, tableOf, stateOf, Below, Above}
 use Rattle.chart.specs.Call.{workRoom}
 use Rattle.partition.specs.Inner.Put.{Cleared, PartCopied}

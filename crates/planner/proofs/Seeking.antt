@@ -13,7 +13,7 @@ use borrow.Author.Tests.{leb-true}
 use lib.Seq.{ext-getD}
 use Rattle.pack.specs.Syntax.{Node, Theory, Pack}
 use Rattle.pack.specs.State.{State, meaning}
-use Rattle.pack.specs.Reading.{done, many, Reply, gives, with, told}
+use Rattle.reading.specs.Reading.{done, many, Reply, gives, with, told}
 use Rattle.pack.specs.Grammar.{nodeAt}
 use Rattle.pack.specs.Layout.{ChartFits}
 use Rattle.pack.specs.Judge.{Small}
@@ -21,8 +21,8 @@ use Rattle.pack.specs.Contents.{PackRead, replied, repliedCount}
 use Rattle.pack.specs.Laws.Exact.{Bytes}
 use Rattle.pack.specs.Laws.PackExact.{pack-exactly}
 use Rattle.pack.specs.declared.contents.Contents.{Contents}
-use Rattle.pack.specs.declared.number.Number.{Number}
-use Rattle.pack.specs.declared.number.Number.the-variants as numbers
+use Rattle.reading.specs.declared.number.Number.{Number}
+use Rattle.reading.specs.declared.number.Number.the-variants as numbers
 use Rattle.pack.specs.Answer.{dims}
 use Rattle.pack.specs.Table.{tableOf, Below, Above, cells}
 use Rattle.pack.proofs.Ready.{small-pack}

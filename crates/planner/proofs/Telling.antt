@@ -12,15 +12,15 @@ use lib.Dec.{ltb}
 use borrow.Author.Count.{below-more}
 use Rattle.pack.specs.Syntax.{Node, Theory, Rule, Condition}
 use Rattle.pack.specs.State.{State, belief, meaning, target}
-use Rattle.pack.specs.Reading.{Reader, done, refused, pick, bind, mapped, runs}
-use Rattle.pack.specs.Number.{item, between, risingAt}
+use Rattle.reading.specs.Reading.{Reader, done, refused, pick, bind, mapped, runs}
+use Rattle.reading.specs.Number.{item, between, risingAt}
 use Rattle.pack.specs.Answer.{dims}
 use Rattle.pack.specs.Grammar.{Dimensions, conditionAt, consentersAt, rulesAt}
 use Rattle.pack.specs.Condition as condition
 use Rattle.pack.specs.Contents.{Gives}
 use Rattle.pack.specs.Judge.{Over, Judged, Small, Readable}
 use Rattle.pack.specs.Table.{rowsAt, tableOf, stateOf, Below, Above}
-use Rattle.pack.specs.Laws.Reading.{both, unmapped, failed}
+use Rattle.reading.specs.Laws.Reading.{both, unmapped, failed}
 use Rattle.pack.specs.Laws.Table.{belief-in}
 use Rattle.pack.specs.declared.table.Table.{Table}
 use Rattle.pack.proofs.Laws.{between-within}
@@ -240,7 +240,7 @@ module _ (th : Theory) (K e who x : ℕ) (s : State) where
 runs-each : {S A : Type 0} (p : S → Reader A) (next : S → A → S) (P : A → Type 0) (s : List ℕ) → ((z : S) (at : ℕ) (a : A) (n : ℕ) → p z s at ≡ done a n → P a)
     → (k : ℕ) (z : S) (at : ℕ) (xs : List A) (n : ℕ) → runs p next z k s at ≡ done xs n → (y : A) (i : ℕ) → i < length xs → P (getD xs i y)
 unfolding runs
-runs-each p next P s f zero z at xs n e y i l = let q = Rattle.pack.specs.Laws.Reading.same-value e in absurd (omega (arith, ap length q))
+runs-each p next P s f zero z at xs n e y i l = let q = Rattle.reading.specs.Laws.Reading.same-value e in absurd (omega (arith, ap length q))
 runs-each {A = A} p next P s f (suc k) z at xs n e y i l =
     let b = both (p z s at) (λ a n. mapped (λ rest. a ∷ rest) (runs p next (next z a) k s n)) xs n e in
     let u = unmapped (λ rest. b .value ∷ rest) (runs p next (next z (b .value)) k s (b .place)) xs n (b .right) in
@@ -258,7 +258,7 @@ consenter-below d s at cs n e i l =
     runs-each (risingAt (d .characters)) (λ least v. v + 1) (λ v. v < d .characters) s
     (λ z at a n e. let c = both (item (d .characters) s at) (λ v n. pick (ltb v z) (refused 6 at) (done v n)) a n e in
     let (low, g) = failed (ltb (c .value) z) 6 at (done (c .value) (c .place)) a n (c .right) in
-    omega (arith, between-within 0 (d .characters) 4 s at (c .value) (c .place) (c .left), Rattle.pack.specs.Laws.Reading.same-value g))
+    omega (arith, between-within 0 (d .characters) 4 s at (c .value) (c .place) (c .left), Rattle.reading.specs.Laws.Reading.same-value g))
     (b .value) 0 (b .place) cs n (b .right) 0 i l
 
 pub one-less : (k e : ℕ) → 0 < e → k * e ≡ k * (e - 1) + k

@@ -4,7 +4,7 @@ use mathlib.Core.Path.{_≡_}
 use mathlib.Core.Bool.{Bool, true, false}
 use mathlib.Core.List.{List, [], _∷_}
 use lib.ListN.{length}
-use Rattle.pack.specs.Reading.{Reply, gives, refuses}
+use Rattle.reading.specs.Reading.{Reply, gives, refuses}
 use Rattle.pack.specs.Grammar.{packOf}
 use Rattle.chart.specs.Compare.{Verdict, same, differ}
 use Rattle.chart.specs.Call.{chartRoom, chainRoom, listRoom, workRoom}

@@ -7,13 +7,13 @@ use mathlib.Core.List.{List}
 use lib.ListN.{length, getD}
 use Rattle.pack.specs.Syntax.{Theory, Node, Pack, fluents}
 use Rattle.pack.specs.State.{State, Valid, meaning}
-use Rattle.pack.specs.Reading.{gives, refuses, pick}
+use Rattle.reading.specs.Reading.{gives, refuses, pick}
 use Rattle.pack.specs.Grammar.{packOf, chartOf}
 use Rattle.pack.specs.Layout.{packBytes, PackFits, Each}
 use Rattle.pack.specs.Laws.PackBack.{pack-back}
 use Rattle.pack.specs.Laws.Exact.{Bytes}
 use Rattle.pack.specs.Laws.PackExact.{pack-exactly}
-use Rattle.pack.specs.Laws.Reading.{never-gives}
+use Rattle.reading.specs.Laws.Reading.{never-gives}
 use Rattle.partition.specs.Chart.{ChartOf}
 use Rattle.chart.specs.Compare.{Verdict, differ, Compared}
 use Rattle.chart.specs.Call.{fits}

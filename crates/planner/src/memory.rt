@@ -1,8 +1,8 @@
 // What is known of states: entries behind a step's scratch, one for each hash, each true. An entry is a mark, a key and a table, which is compared whole.
 use crate::explain::Shape;
-use pack::number::wide;
 use partition::bytes::copy_part;
 use partition::values::first_other;
+use reading::number::wide;
 ghost use mathlib.Core.Path.{_≡_};
 ghost use mathlib.Core.Bool.{true};
 ghost use Prim.Native.Nat.{ℕ, _+_, _*_, _<_, _≤_};

@@ -5,7 +5,7 @@ use mathlib.Core.List.{List}
 use lib.ListN.{length, set}
 use lib.Dec.{ltb}
 use Rattle.pack.specs.Syntax.{Pack}
-use Rattle.pack.specs.Reading.{pick, Reply, gives, refuses, with, told}
+use Rattle.reading.specs.Reading.{pick, Reply, gives, refuses, with, told}
 use Rattle.pack.specs.Grammar.{packOf, chartOf}
 
 -- 0 where something is given, else the refusal's number

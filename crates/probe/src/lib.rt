@@ -3,8 +3,8 @@
 use pack::contents::Contents;
 use pack::contents::read_pack;
 use pack::node::check_chart;
-use pack::number::Checked;
-use pack::number::Number;
+use reading::number::Checked;
+use reading::number::Number;
 ghost use Prim.Native.Nat.{_≤_};
 ghost use lib.ListN.{length};
 ghost use mathlib.Core.Path.{_≡_};

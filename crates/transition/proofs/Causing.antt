@@ -10,7 +10,7 @@ use lib.Dec.{eqb}
 use borrow.Author.Tests.{eq-eqb, ne-eqb}
 use Rattle.pack.specs.Syntax.{Effect, Node}
 use Rattle.pack.specs.State.{meaning}
-use Rattle.pack.specs.Reading.{done}
+use Rattle.reading.specs.Reading.{done}
 use Rattle.pack.specs.Grammar.{Dimensions, conditionAt, effectAt, effectsAt}
 use Rattle.pack.specs.Condition.{holds, write}
 use Rattle.pack.specs.Judge.{Small, Over, Judged}

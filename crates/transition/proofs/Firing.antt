@@ -10,7 +10,7 @@ use lib.Seq.{getD-set-same, getD-set-other}
 use borrow.Author.Count.{below-more}
 use Rattle.pack.specs.Syntax.{Condition, Trigger, Node}
 use Rattle.pack.specs.State.{State, meaning}
-use Rattle.pack.specs.Reading.{done}
+use Rattle.reading.specs.Reading.{done}
 use Rattle.pack.specs.Grammar.{Dimensions, conditionAt, effectAt, effectsAt}
 use Rattle.pack.specs.Condition.{holds}
 use Rattle.pack.specs.Judge.{Over, Judged}

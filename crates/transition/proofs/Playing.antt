@@ -7,7 +7,7 @@ use native.Mathlib.Omega.{arith}
 use lib.ListN.{length, getD}
 use Rattle.pack.specs.Syntax.{Action, Condition, Node, Theory}
 use Rattle.pack.specs.State.{State, meaning}
-use Rattle.pack.specs.Reading.{done}
+use Rattle.reading.specs.Reading.{done}
 use Rattle.pack.specs.Answer.{dims}
 use Rattle.pack.specs.Grammar.{Dimensions, conditionAt}
 use Rattle.pack.specs.Condition.{holds}

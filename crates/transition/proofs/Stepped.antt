@@ -10,15 +10,15 @@ use lib.ListN.{length, getD}
 use lib.Dec.{ltb}
 use borrow.Author.Tests.{ltb-true, leb-true}
 use Rattle.pack.specs.Syntax.{Theory, Node, Pack}
-use Rattle.pack.specs.Reading.{Reply, gives, with, told}
+use Rattle.reading.specs.Reading.{Reply, gives, with, told}
 use Rattle.pack.specs.Grammar.{packOf}
 use Rattle.pack.specs.Layout.{ChartFits}
 use Rattle.pack.specs.Contents.{PackRead, replied, repliedCount}
 use Rattle.pack.specs.Laws.Exact.{Bytes}
-use Rattle.pack.specs.Laws.Reading.{never-gives}
+use Rattle.reading.specs.Laws.Reading.{never-gives}
 use Rattle.pack.specs.declared.contents.Contents.{Contents}
-use Rattle.pack.specs.declared.number.Number.{Number}
-use Rattle.pack.specs.declared.number.Number.the-variants as numbers
+use Rattle.reading.specs.declared.number.Number.{Number}
+use Rattle.reading.specs.declared.number.Number.the-variants as numbers
 use Rattle.pack.proofs.Found.{pack-long}
 use Rattle.pack.proofs.Ready.{small-pack}
 use Rattle.chart.specs.declared.Charted.{Charted}

@@ -10,7 +10,7 @@ use lib.ListN.{length, getD, set}
 use borrow.Author.Tests.{le-ltb, lt-leb}
 use Rattle.pack.specs.Syntax.{Node, Theory}
 use Rattle.pack.specs.State.{State, meaning}
-use Rattle.pack.specs.Reading.{gives, told, pick}
+use Rattle.reading.specs.Reading.{gives, told, pick}
 use Rattle.pack.specs.Layout.{ChartFits}
 use Rattle.pack.specs.Table.{rowsAt}
 use Rattle.pack.specs.Copy.{TableCopyable, TableCopied}

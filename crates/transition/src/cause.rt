@@ -1,8 +1,8 @@
 // What takes effect where: effects at a place of the pack, none at a place behind its end, and who takes part.
 use pack::judge::holds;
-use pack::number::wide;
 use pack::table::Table;
 use pack::write::write_effects;
+use reading::number::wide;
 ghost use mathlib.Core.Path.{_≡_};
 ghost use mathlib.Core.List.{List};
 ghost use Rattle.pack.specs.Syntax.{Effect};

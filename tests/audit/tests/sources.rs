@@ -43,6 +43,7 @@ fn definitions_are_reached() {
         "transition/specs/Happening.antt",
         "partition/specs/Chart.antt",
         "chart/specs/Call.antt",
+        "reading/specs/Number.antt",
         "pack/specs/Grammar.antt",
         "pack/specs/State.antt",
         "export/specs/Exports.antt",
@@ -63,7 +64,7 @@ fn use_lines_are_read() {
 #[test]
 fn wrong_programs_have_their_edits() {
     let page = std::fs::read_to_string(repository().join("docs/CONTRACTS.md")).expect("the page");
-    let of = ["pack", "partition", "chart", "transition", "planner", "export", "ending"];
+    let of = ["reading", "pack", "partition", "chart", "transition", "planner", "export", "ending"];
     let cited: Vec<&str> = page.split('`').skip(1).step_by(2).collect();
     let mut there = Vec::new();
     for name in of {

@@ -5,7 +5,7 @@ use Prim.Native.Nat.{ℕ, _<_, _≤_}
 use lib.ListN.{length, getD}
 use Rattle.pack.specs.Syntax.{Node}
 use Rattle.pack.specs.State.{Valid, meaning}
-use Rattle.pack.specs.Reading.{done, many}
+use Rattle.reading.specs.Reading.{done, many}
 use Rattle.pack.specs.Grammar.{Dimensions, nodeAt}
 use Rattle.pack.specs.Copy.{Shaped}
 use Rattle.chart.specs.Call.{workRoom, cleared}

@@ -5,7 +5,7 @@ use Prim.Native.Nat.{ℕ, _+_, _<_, _≤_}
 use lib.ListN.{length, drop}
 use Rattle.pack.specs.Syntax.{Node}
 use Rattle.pack.specs.State.{meaning}
-use Rattle.pack.specs.Reading.{gives}
+use Rattle.reading.specs.Reading.{gives}
 use Rattle.pack.specs.Table.{rowsAt}
 use Rattle.chart.specs.declared.Matched.{Matched}
 use Rattle.chart.specs.Compare.{Verdict, Compared}

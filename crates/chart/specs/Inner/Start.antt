@@ -4,7 +4,7 @@ use mathlib.Core.List.{List, _++_}
 use Prim.Native.Nat.{ℕ, _+_, _<_, _≤_}
 use lib.ListN.{length, drop}
 use Rattle.pack.specs.Syntax.{Node}
-use Rattle.pack.specs.Reading.{done, many}
+use Rattle.reading.specs.Reading.{done, many}
 use Rattle.pack.specs.Grammar.{nodeAt}
 use Rattle.pack.specs.Layout.{chartBytes, ChartFits}
 use Rattle.pack.specs.Answer.{dims}

@@ -10,10 +10,10 @@ use native.Mathlib.Omega.{arith}
 use borrow.Author.Tests.{le-leb, lt-ltb}
 use Rattle.pack.specs.Syntax.{Theory, Node, Pack, fluents}
 use Rattle.pack.specs.State.{State, Valid, meaning}
-use Rattle.pack.specs.Reading.{Reply, gives, refuses, pick}
+use Rattle.reading.specs.Reading.{Reply, gives, refuses, pick}
 use Rattle.pack.specs.Grammar.{packOf, chartOf}
 use Rattle.pack.specs.Layout.{chartBytes, ChartFits, PackFits}
-use Rattle.pack.specs.Laws.Reading.{same-gift}
+use Rattle.reading.specs.Laws.Reading.{same-gift}
 use Rattle.pack.specs.Laws.Table.{same-valid}
 use Rattle.pack.specs.Laws.Fits.{chart-short}
 use Rattle.pack.specs.Laws.PackBack.{chart-back, chart-bytes-one}

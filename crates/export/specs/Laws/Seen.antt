@@ -7,7 +7,7 @@ use lib.ListN.{getD, length}
 use lib.Dec.{ltb}
 use Rattle.pack.specs.Syntax.{Pack, Node, fluents}
 use Rattle.pack.specs.State.{meaning}
-use Rattle.pack.specs.Reading.{gives, pick}
+use Rattle.reading.specs.Reading.{gives, pick}
 use Rattle.pack.specs.Layout.{chartBytes}
 use Rattle.chart.specs.Answers.{startTable, compareTable}
 use Rattle.chart.specs.Call.{chartRoom, chainRoom, listRoom, workRoom, fits, call}

@@ -9,8 +9,8 @@ use lib.Dec.{ltb, leb}
 use borrow.Author.Tests.{lt-ltb, le-leb}
 use Rattle.pack.specs.Syntax.{Node, Pack}
 use Rattle.pack.specs.State.{State, meaning}
-use Rattle.pack.specs.Reading.{gives}
-use Rattle.pack.specs.Laws.Reading.{same-gift, never-gives}
+use Rattle.reading.specs.Reading.{gives}
+use Rattle.reading.specs.Laws.Reading.{same-gift, never-gives}
 use Rattle.chart.specs.Call.{listRoom, workRoom, fits}
 use Rattle.chart.specs.Laws.Answers.{fits-table}
 use Rattle.chart.specs.Laws.Tables.{IsTable}

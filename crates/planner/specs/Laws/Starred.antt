@@ -7,8 +7,8 @@ use native.Mathlib.Omega.{arith}
 use lib.Dec.{ltb}
 use borrow.Author.Tests.{ltb-true}
 use Rattle.pack.specs.Syntax.{Node, Pack}
-use Rattle.pack.specs.Reading.{gives, refuses, runs}
-use Rattle.pack.specs.Number.{numberAt, between, beliefAt, risingAt}
+use Rattle.reading.specs.Reading.{gives, refuses, runs}
+use Rattle.reading.specs.Number.{numberAt, between, beliefAt, risingAt}
 use Rattle.pack.specs.Grammar.{packOf, chartOf, packAt, headAt, nodesAt, nodeAt, theoryAt, actionAt, triggerAt, rulesAt, ruleAt, conditionAt, testAt, effectsAt, effectAt, consentersAt}
 use Rattle.pack.specs.Condition.{compares, passes, allPass, holds, utility}
 use Rattle.pack.specs.State.{meaning}

@@ -8,7 +8,7 @@ use lib.ListN.{length, getD}
 use lib.Dec.{eqb}
 use Rattle.pack.specs.Syntax.{Effect, Node}
 use Rattle.pack.specs.State.{State, meaning, target}
-use Rattle.pack.specs.Reading.{pick}
+use Rattle.reading.specs.Reading.{pick}
 use Rattle.pack.specs.Grammar.{Dimensions}
 use Rattle.pack.specs.Table.{cells, rowsAt, Below, Above}
 use Rattle.pack.specs.declared.table.Table.{Table}

@@ -19,7 +19,7 @@ use Rattle.chart.specs.Promises.{chartSaid}
 use Rattle.chart.specs.Inner.Look.{NodesRead}
 use Rattle.chart.specs.declared.Charted.{Charted}
 use Rattle.pack.specs.Layout.{ChartFits}
-use Rattle.pack.specs.Reading as reading
+use Rattle.reading.specs.Reading as reading
 use Rattle.transition.specs.Step.{Outcome, leaves}
 use Rattle.transition.specs.Answers.{stepTable}
 use Rattle.transition.specs.Replies.{outcomeReply}

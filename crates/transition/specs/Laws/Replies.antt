@@ -10,7 +10,7 @@ use lib.Dec.{ltb}
 use borrow.Author.Tests.{lt-ltb}
 use Rattle.pack.specs.Syntax.{Node, Pack}
 use Rattle.pack.specs.State.{State, meaning}
-use Rattle.pack.specs.Reading.{gives, refuses}
+use Rattle.reading.specs.Reading.{gives, refuses}
 use Rattle.pack.specs.Layout.{chartBytes}
 use Rattle.partition.specs.Chart.{ChartOf}
 use Rattle.chart.specs.Call.{chartRoom, workRoom, fits}

@@ -4,8 +4,9 @@ use mathlib.Core.Path.{_≡_, sym, ap, _∙_}
 use lib.ListN.{take}
 use Rattle.pack.specs.Contents.{bodyAt}
 use Rattle.pack.specs.Grammar.{packAt}
-use Rattle.pack.specs.Reading.{refused, bind, mapped}
-use Rattle.pack.specs.Answer.{shown, answered, forget, dims}
+use Rattle.reading.specs.Reading.{refused, bind, mapped}
+use Rattle.reading.specs.Said.{shown, answered, forget}
+use Rattle.pack.specs.Answer.{dims}
 use Rattle.pack.proofs.Found.{no-value, parts-forget, parts-body}
 use Rattle.pack.proofs.contents.read_parts.Statement.{statement}
 use Rattle.pack.proofs.contents.read_parts.Tie as tie

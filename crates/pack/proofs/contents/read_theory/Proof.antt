@@ -2,9 +2,10 @@
 use borrow.Author.Needs.{needs}
 use native.Mathlib.Omega.{arith}
 use mathlib.Core.Path.{_≡_, _∙_}
-use Rattle.pack.specs.Reading.{refused, mapped}
+use Rattle.reading.specs.Reading.{refused, mapped}
 use Rattle.pack.specs.Grammar.{theoryAt}
-use Rattle.pack.specs.Answer.{shown, forget, dims}
+use Rattle.reading.specs.Said.{shown, forget}
+use Rattle.pack.specs.Answer.{dims}
 use Rattle.pack.proofs.Found.{no-value, theory-marked}
 use Rattle.pack.proofs.Laws.{theory-forget}
 use Rattle.pack.proofs.contents.read_theory.Statement.{statement}

@@ -10,7 +10,7 @@ use Rattle.pack.specs.Grammar.{Dimensions, nodeAt}
 use Rattle.pack.specs.Table.{rowsAt, upto, Below, Above}
 use Rattle.pack.specs.Syntax.{Node}
 use Rattle.pack.specs.Copy.{Shaped}
-use Rattle.pack.specs.Reading.{done, many}
+use Rattle.reading.specs.Reading.{done, many}
 use Rattle.pack.proofs.Copying.{node-bytes, row-ends, row-fits, Rowing, rowing-one, rowing-next, rowing-none}
 use Rattle.pack.proofs.copy.copy_table.Statement.{statement}
 use Rattle.pack.proofs.copy.copy_table.Tie as tie

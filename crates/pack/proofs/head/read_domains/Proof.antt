@@ -5,9 +5,9 @@ use Prim.Native.Nat.{_+_, _≤_}
 use mathlib.Core.Path.{_≡_, refl, sym, ap, _∙_}
 use mathlib.Core.List.{_++_}
 use lib.ListN.{length, take, length-set}
-use Rattle.pack.specs.Reading.{mapped, many}
-use Rattle.pack.specs.Number.{between, counted}
-use Rattle.pack.specs.Answer.{said}
+use Rattle.reading.specs.Reading.{mapped, many}
+use Rattle.reading.specs.Number.{between, counted}
+use Rattle.reading.specs.Said.{said}
 use Rattle.pack.proofs.Laws.{between-within, mapped-id, stored-one, stored-all}
 use Rattle.pack.proofs.head.read_domains.Statement.{statement}
 use Rattle.pack.proofs.head.read_domains.Tie as tie

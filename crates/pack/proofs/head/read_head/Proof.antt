@@ -3,7 +3,8 @@ use borrow.Author.Needs.{needs}
 use native.Mathlib.Omega.{arith}
 use mathlib.Core.Path.{refl, ap, _∙_}
 use Rattle.pack.specs.Grammar.{headAt}
-use Rattle.pack.specs.Answer.{said, dims}
+use Rattle.reading.specs.Said.{said}
+use Rattle.pack.specs.Answer.{dims}
 use Rattle.pack.proofs.Laws.{between-within, mapped-answered}
 use Rattle.pack.proofs.head.read_head.Statement.{statement}
 use Rattle.pack.proofs.head.read_head.Tie as tie

@@ -9,7 +9,7 @@ use Rattle.pack.specs.Judge.{alternativeAt, Over}
 use Rattle.pack.specs.Condition.{allPass}
 use Rattle.pack.specs.Grammar.{Dimensions, testAt}
 use Rattle.pack.specs.Syntax.{Test}
-use Rattle.pack.specs.Reading.{done}
+use Rattle.reading.specs.Reading.{done}
 use Rattle.pack.proofs.Judging.{Left, left-start, left-one, left-next, left-none, counted-starts, all-next, all-fails, all-none, test-ends}
 use Rattle.pack.proofs.judge.all_pass.Statement.{statement}
 use Rattle.pack.proofs.judge.all_pass.Tie as tie

@@ -1,7 +1,7 @@
 -- The match has the kinds in the order of their numbers. Assumes nothing.
 use borrow.Author.Needs.{needs}
 use Prim.Native.Nat.{_-_}
-use Rattle.pack.proofs.Laws.{tests}
+use Rattle.reading.proofs.Tests.{tests}
 use Rattle.pack.specs.Condition.{compares}
 use Rattle.pack.proofs.judge.compare.Statement.{statement}
 use Rattle.pack.proofs.judge.compare.Tie as tie

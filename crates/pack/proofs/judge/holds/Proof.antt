@@ -7,7 +7,7 @@ use Rattle.pack.specs.Table.{stateOf}
 use Rattle.pack.specs.Judge.{alternativeAt, Over}
 use Rattle.pack.specs.Grammar.{Dimensions, conditionAt}
 use Rattle.pack.specs.Syntax.{Condition}
-use Rattle.pack.specs.Reading.{done}
+use Rattle.reading.specs.Reading.{done}
 use Rattle.pack.proofs.Judging.{Left, left-start, left-one, left-next, left-none, counted-starts, some-next, some-holds, some-none}
 use Rattle.pack.proofs.judge.holds.Statement.{statement}
 use Rattle.pack.proofs.judge.holds.Tie as tie

@@ -8,10 +8,10 @@ use Rattle.pack.specs.Table.{stateOf}
 use Rattle.pack.specs.Judge.{Over}
 use Rattle.pack.specs.Grammar.{Dimensions, ruleAt, rulesAt}
 use Rattle.pack.specs.Syntax.{Rule}
-use Rattle.pack.specs.Reading.{done}
-use Rattle.pack.specs.Number.{numberAt}
-use Rattle.pack.specs.Answer.{said}
-use Rattle.pack.specs.Laws.Reading.{never, same-value, same-place}
+use Rattle.reading.specs.Reading.{done}
+use Rattle.reading.specs.Number.{numberAt}
+use Rattle.reading.specs.Said.{said}
+use Rattle.reading.specs.Laws.Reading.{never, same-value, same-place}
 use Rattle.pack.proofs.Judging.{Left, left-start, left-one, left-next, left-none, counted-starts, rule-parts, rule-holds, rule-next, rule-none}
 use Rattle.pack.proofs.judge.utility.Statement.{statement}
 use Rattle.pack.proofs.judge.utility.Tie as tie

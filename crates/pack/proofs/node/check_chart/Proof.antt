@@ -5,7 +5,8 @@ use native.Mathlib.Omega.{arith}
 use mathlib.Core.Path.{ap, _∙_}
 use lib.ListN.{length}
 use Rattle.pack.specs.Grammar.{nodesAt}
-use Rattle.pack.specs.Answer.{said, dims}
+use Rattle.reading.specs.Said.{said}
+use Rattle.pack.specs.Answer.{dims}
 use Rattle.pack.proofs.Low.{nodes-low, low-told}
 use Rattle.pack.proofs.Found.{chart-refused, chart-read}
 use Rattle.pack.proofs.node.check_chart.Statement.{statement}

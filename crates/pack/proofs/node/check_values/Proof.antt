@@ -4,9 +4,10 @@ use native.Mathlib.Omega.{arith}
 use Prim.Native.Nat.{_+_, _-_}
 use mathlib.Core.Path.{_≡_}
 use lib.ListN.{length, getD}
-use Rattle.pack.specs.Reading.{mapped, runs}
-use Rattle.pack.specs.Number.{item}
-use Rattle.pack.specs.Answer.{forget, valuesAt}
+use Rattle.reading.specs.Reading.{mapped, runs}
+use Rattle.reading.specs.Number.{item}
+use Rattle.reading.specs.Said.{forget}
+use Rattle.pack.specs.Answer.{valuesAt}
 use Rattle.pack.proofs.Laws.{runs-none, runs-one}
 use Rattle.pack.proofs.node.check_values.Statement.{statement}
 use Rattle.pack.proofs.node.check_values.Tie as tie

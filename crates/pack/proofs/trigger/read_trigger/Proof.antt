@@ -3,7 +3,8 @@ use borrow.Author.Needs.{needs}
 use native.Mathlib.Omega.{arith}
 use mathlib.Core.Path.{ap, _∙_}
 use lib.ListN.{length-set}
-use Rattle.pack.specs.Answer.{shown, dims}
+use Rattle.reading.specs.Said.{shown}
+use Rattle.pack.specs.Answer.{dims}
 use Rattle.pack.proofs.Marks.{first-one, first-two, kept-one, kept-two, trigger-parts, when-always}
 use Rattle.pack.proofs.Laws.{trigger-forget}
 use Rattle.pack.proofs.trigger.read_trigger.Statement.{statement}

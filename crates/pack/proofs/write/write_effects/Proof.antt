@@ -11,7 +11,7 @@ use Rattle.pack.specs.Condition.{write}
 use Rattle.pack.specs.Table.{cells}
 use Rattle.pack.specs.Write.{RowOnly}
 use Rattle.pack.specs.Syntax.{Effect}
-use Rattle.pack.specs.Reading.{done}
+use Rattle.reading.specs.Reading.{done}
 use Rattle.pack.proofs.OneByte.{effect-bytes}
 use Rattle.pack.proofs.Judging.{counted-starts}
 use Rattle.pack.proofs.Writing.{only-none, only-then, Owed, owed-one, owed-next, owed-none}

@@ -42,7 +42,7 @@ use Rattle.planner.proofs.explain.via.Kinds as via-kinds
 use Rattle.planner.proofs.explain.+allowed+explained+extends+extends_by+fine+via.Lts-via as via-lts
 use Rattle.pack.proofs.judge.holds.Reads as holds-reads
 use Rattle.pack.proofs.judge.utility.Reads as utility-reads
-use Rattle.pack.proofs.number.wide.Reads as wide-reads
+use Rattle.reading.proofs.number.wide.Reads as wide-reads
 use Rattle.pack.proofs.write.consenter.Reads as consenter-reads
 use Rattle.pack.proofs.write.consenters.Reads as consenters-reads
 use Rattle.planner.proofs.explain.mark.Reads as mark-reads

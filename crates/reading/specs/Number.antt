@@ -3,7 +3,7 @@ use Prim.Native.Nat.{ℕ, _+_, _*_, _%_, _-_}
 use mathlib.Core.List.{List}
 use lib.ListN.{length, getD}
 use lib.Dec.{ltb, leb, eqb}
-use Rattle.pack.specs.Reading.{done, refused, Reader, pick, bind, many}
+use Rattle.reading.specs.Reading.{done, refused, Reader, pick, bind, many}
 
 -- "A number is written in groups of seven bits, lowest first, the top bit (80 hexadecimal) set on all but the last; at most three bytes, at most 65,535,
 -- shortest form only." A last group of 0 behind others is not shortest (2); a third byte above 3 is above 65,535 or not the last (2).

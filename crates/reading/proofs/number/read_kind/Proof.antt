@@ -1,10 +1,10 @@
 -- The numbers of the match are those below 3. Assumes nothing.
 use borrow.Author.Needs.{needs}
 use Prim.Native.Nat.{_-_}
-use Rattle.pack.specs.Number.{between}
-use Rattle.pack.proofs.Laws.{tests}
-use Rattle.pack.proofs.number.read_kind.Statement.{statement}
-use Rattle.pack.proofs.number.read_kind.Tie as tie
+use Rattle.reading.specs.Number.{between}
+use Rattle.reading.proofs.Tests.{tests}
+use Rattle.reading.proofs.number.read_kind.Statement.{statement}
+use Rattle.reading.proofs.number.read_kind.Tie as tie
 
 pub read-kind-spec : {M : Type 1} → statement M
 unfolding between

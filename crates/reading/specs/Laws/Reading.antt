@@ -5,7 +5,7 @@ use mathlib.Core.Bool.{Bool, true, false}
 use native.Mathlib.Omega.{arith}
 use lib.Dec.{eqb}
 use borrow.Author.Tests.{eqb-true}
-use Rattle.pack.specs.Reading.{Reading, done, refused, pick, bind, mapped, Reply, gives, refuses, ended}
+use Rattle.reading.specs.Reading.{Reading, done, refused, pick, bind, mapped, Reply, gives, refuses, ended}
 
 pub mapped-mapped : {A B C : Type 0} (f : B → C) (g : A → B) (x : Reading A) → mapped f (mapped g x) ≡ mapped (λ a. f (g a)) x
 mapped-mapped f g (done a n) = refl
