@@ -9,3 +9,4 @@ pub mod Judging
 pub mod Writing
 pub mod Copying
 pub mod Ready
+pub mod Opening

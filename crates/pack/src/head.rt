@@ -1,54 +1,96 @@
 // The head of a pack: version, characters, fluents and their domain sizes.
+use crate::reader::moved;
+use crate::reader::new;
+use crate::reader::next;
 use reading::number::Checked;
 use reading::number::Number;
 use reading::number::read_between;
-ghost use Rattle.pack.specs.Answer.{DomainsRead, HeadRead};
+ghost use mathlib.Core.Path.{_≡_};
+ghost use Prim.Native.Nat.{_≤_};
+ghost use Rattle.reading.specs.Said.{said, answered};
+ghost use Rattle.pack.specs.Answer.{inTurn, openingAt, DomainsRead, HeadRead};
 
-// The domain sizes: the first `fluents` of these.
+// What a head begins with: how many characters and fluents there are.
+pub struct Opening {
+    pub answer: Checked,
+    pub characters: usize,
+    pub fluents: usize,
+}
+
+// What version, characters and fluents say together: the first refusal of the three stays.
+pub fn in_turn(version: Number, characters: Number, fluents: Number) -> Opening
+    ensures { λ r. ⌜ inTurn (said version) (said characters) (said fluents) ≡ answered (r .answer) (r .characters, r .fluents) ⌝ }
+{
+    let refused = match version {
+        Number::Refused(k, p) => Checked::Refused(k, p),
+        Number::Is(_, _) => match characters {
+            Number::Refused(k, p) => Checked::Refused(k, p),
+            Number::Is(characters, _) => match fluents {
+                Number::Refused(k, p) => Checked::Refused(k, p),
+                Number::Is(fluents, n) => {
+                    return Opening {
+                        answer: Checked::Passed(n),
+                        characters,
+                        fluents,
+                    };
+                }
+            },
+        },
+    };
+    Opening {
+        answer: refused,
+        characters: 0,
+        fluents: 0,
+    }
+}
+
+// The numbers that a head begins with, handed out one after the other by a reader of the bytes.
+pub fn read_opening(s: &[u8], at: usize) -> Opening
+    ensures { λ r. ⌜ openingAt (now (s .entry)) at ≡ answered (r .answer) (r .characters, r .fluents) ⌝ }
+{
+    let r = new(s, at);
+    let version = next(r, 1, 2, 3);
+    let r = moved(r, version);
+    let characters = next(r, 1, 7, 3);
+    let r = moved(r, characters);
+    let fluents = next(r, 1, 25, 3);
+    in_turn(version, characters, fluents)
+}
+
+// The domain sizes: as many of these as there are fluents.
 pub struct Domains {
     pub answer: Checked,
-    pub fluents: usize,
     pub sizes: [u8; 24],
 }
 
-// How many fluents there are, and each one's domain size.
-pub fn read_domains(s: &[u8], at: usize) -> Domains
-    ensures { λ r. ⌜ DomainsRead (now (s .entry)) at r ⌝ }
+// The domain size of each fluent.
+pub fn read_domains(s: &[u8], at: usize, fluents: usize) -> Domains
+    requires { ⌜ fluents ≤ 24 ⌝ }
+    ensures { λ r. ⌜ DomainsRead (now (s .entry)) at fluents r ⌝ }
 {
     let mut sizes = [0u8; 24];
-    match read_between(s, at, 1, 25, 3) {
-        Number::Refused(k, p) => Domains {
-            answer: Checked::Refused(k, p),
-            fluents: 0,
-            sizes,
-        },
-        Number::Is(fluents, first) => {
-            let mut i: usize = 0;
-            let mut n = first;
-            let mut left = fluents;
-            while 0 < left {
-                match read_between(s, n, 1, 129, 3) {
-                    Number::Refused(k, p) => {
-                        return Domains {
-                            answer: Checked::Refused(k, p),
-                            fluents: 0,
-                            sizes,
-                        };
-                    }
-                    Number::Is(v, next) => {
-                        sizes[i] = v as u8;
-                        i = i + 1;
-                        n = next;
-                        left = left - 1;
-                    }
-                }
+    let mut i: usize = 0;
+    let mut n = at;
+    let mut left = fluents;
+    while 0 < left {
+        match read_between(s, n, 1, 129, 3) {
+            Number::Refused(k, p) => {
+                return Domains {
+                    answer: Checked::Refused(k, p),
+                    sizes,
+                };
             }
-            Domains {
-                answer: Checked::Passed(n),
-                fluents,
-                sizes,
+            Number::Is(v, next) => {
+                sizes[i] = v as u8;
+                i = i + 1;
+                n = next;
+                left = left - 1;
             }
         }
+    }
+    Domains {
+        answer: Checked::Passed(n),
+        sizes,
     }
 }
 
@@ -63,31 +105,25 @@ pub struct Head {
 pub fn read_head(s: &[u8], at: usize) -> Head
     ensures { λ r. ⌜ HeadRead (now (s .entry)) at r ⌝ }
 {
-    match read_between(s, at, 1, 2, 3) {
-        Number::Refused(k, p) => Head {
+    let o = read_opening(s, at);
+    let answer = o.answer;
+    match answer {
+        Checked::Refused(k, p) => Head {
             answer: Checked::Refused(k, p),
             characters: 0,
             fluents: 0,
             sizes: [0u8; 24],
         },
-        Number::Is(_, n) => match read_between(s, n, 1, 7, 3) {
-            Number::Refused(k, p) => Head {
-                answer: Checked::Refused(k, p),
-                characters: 0,
-                fluents: 0,
-                sizes: [0u8; 24],
-            },
-            Number::Is(characters, n) => {
-                let d = read_domains(s, n);
-                let answer = d.answer;
-                let sizes = d.sizes;
-                Head {
-                    answer,
-                    characters,
-                    fluents: d.fluents,
-                    sizes,
-                }
+        Checked::Passed(n) => {
+            let d = read_domains(s, n, o.fluents);
+            let answer = d.answer;
+            let sizes = d.sizes;
+            Head {
+                answer,
+                characters: o.characters,
+                fluents: o.fluents,
+                sizes,
             }
-        },
+        }
     }
 }

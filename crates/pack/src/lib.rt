@@ -1,5 +1,6 @@
 // The pack layer: the bytes of a story pack are read or refused, and its parts are found and judged in place.
 // What each function reads is said by a parser of specs/: see specs/Grammar.antt. What is in which module:
+pub mod reader; // a reader that holds the bytes and a position, and hands out number after number
 pub mod head; // version, characters, domains
 pub mod node; // nodes, as a pack or a chart has them, and a whole chart
 pub mod plain; // tests with one byte a number, passed over at once

@@ -11,6 +11,11 @@ abbrev pub said : Number → Reading ℕ
 said (Is v n) = done v n
 said (Refused k p) = refused k p
 
+-- the place behind a number that was read; a refusal moves nothing
+abbrev pub behind : Number → ℕ → ℕ
+behind (Is v n) at = n
+behind (Refused k p) at = at
+
 -- the place after a part, or a refusal; a is what stands beside the answer
 abbrev pub answered : {A : Type 0} → Checked → A → Reading A
 answered (checked.Passed n) a = done a n

@@ -1,7 +1,7 @@
 // Numbers, and numbers with their limits.
 ghost use mathlib.Core.Path.{_≡_};
 ghost use Rattle.reading.specs.Number.{numberAt, between, item, beliefAt, risingAt};
-ghost use Rattle.reading.specs.Said.{said};
+ghost use Rattle.reading.specs.Said.{said, behind};
 
 // What reading a number finds: its value and the place after it, or a refusal's number and place.
 pub enum Number {
@@ -74,6 +74,16 @@ pub fn read_between(s: &[u8], at: usize, low: usize, limit: usize, number: u8) -
                 Number::Refused(number, at)
             }
         }
+    }
+}
+
+// The place behind a number that was read; a refusal moves nothing.
+pub fn place_after(n: Number, at: usize) -> usize
+    ensures { λ r. ⌜ r ≡ behind n at ⌝ }
+{
+    match n {
+        Number::Is(_, next) => next,
+        Number::Refused(_, _) => at,
     }
 }
 

@@ -1,0 +1,44 @@
+-- What a head begins with: handed out number after number it is what the grammar reads, and its limits. Assumes nothing.
+use Prim.Native.Nat.{ℕ, _≤_}
+use mathlib.Core.Path.{_≡_, ap, _∙_}
+use mathlib.Core.List.{List}
+use native.Mathlib.Omega.{arith}
+use Rattle.reading.specs.Reading.{done, bind, mapped, many}
+use Rattle.reading.specs.Number.{between}
+use Rattle.pack.specs.Grammar.{headAt}
+use Rattle.reading.specs.Said.{said, behind, answered}
+use Rattle.pack.specs.Answer.{dims, inTurn, openingAt}
+use Rattle.reading.specs.declared.number.Number.{Number}
+use Rattle.reading.specs.declared.number.Number.the-variants.{Is, Refused}
+use Rattle.reading.specs.declared.number.Checked.{Checked}
+use Rattle.reading.specs.declared.number.Checked.the-variants.{Passed}
+use Rattle.pack.specs.declared.head.Opening.{Opening}
+use Rattle.reading.specs.Laws.Reading.{mapped-bind, bind-mapped, bind-bind, both, unmapped}
+use Rattle.pack.proofs.Laws.{between-within}
+
+-- each number is read behind the one before it; behind a refusal it does not matter where
+pub opening-turns : (v c f : Number) (s : List ℕ) (at : ℕ) → between 1 2 3 s at ≡ said v → between 1 7 3 s (behind v at) ≡ said c → between 1 25 3 s (behind c (behind v at)) ≡ said f
+    → openingAt s at ≡ inTurn (said v) (said c) (said f)
+unfolding openingAt
+opening-turns (Is x n) (Is y m) f s at e g h = rw (e, g, h)
+opening-turns (Is x n) (Refused k p) f s at e g h = rw (e, g)
+opening-turns (Refused k p) c f s at e g h = rw e
+
+-- the domain sizes stand behind it
+pub head-opening : (s : List ℕ) (at : ℕ) → headAt s at ≡ bind (openingAt s at) (λ counts n. mapped (dims (counts .0)) (many (between 1 129 3) (counts .1) s n))
+unfolding headAt openingAt
+head-opening s at = simp (bind-bind, bind-mapped, mapped-bind)
+
+pub opening-within : (s : List ℕ) (at characters fluents n : ℕ) → openingAt s at ≡ done (characters, fluents) n → (characters ≤ 6) × (fluents ≤ 24)
+unfolding openingAt
+opening-within s at characters fluents n e =
+    let version = both (between 1 2 3 s at) _ _ _ e in
+    let c = both (between 1 7 3 s (version .place)) _ _ _ (version .right) in
+    let f = unmapped _ (between 1 25 3 s (c .place)) _ _ (c .right) in
+    let small = between-within 1 7 3 s (version .place) (c .value) (c .place) (c .left) in
+    let few = between-within 1 25 3 s (c .place) (f .value) n (f .left) in
+    (omega (arith, small .1, ap (λ (x : ℕ × ℕ). x .0) (f .right)), omega (arith, few .1, ap (λ (x : ℕ × ℕ). x .1) (f .right)))
+
+-- the limits, where the code has passed it
+pub opening-limits : (s : List ℕ) (at : ℕ) (o : Opening) (n : ℕ) → openingAt s at ≡ answered (o .answer) (o .characters, o .fluents) → o .answer ≡ Passed n → (o .characters ≤ 6) × (o .fluents ≤ 24)
+opening-limits s at o n e passed = opening-within s at (o .characters) (o .fluents) n (e ∙ ap (λ (a : Checked). answered a (o .characters, o .fluents)) passed)
