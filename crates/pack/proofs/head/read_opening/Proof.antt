@@ -42,7 +42,8 @@ use denote.Exit.{yes}
 use denote.Triple.Clauses.{ensured, lasts}
 use Rattle.reading.specs.Number.{between}
 use Rattle.reading.specs.Said.{behind, answered}
-use Rattle.pack.specs.Answer.{said as told, inTurn, openingAt}
+use Rattle.reading.specs.Said.{said as told}
+use Rattle.pack.specs.Answer.{inTurn, openingAt}
 use Rattle.pack.specs.declared.reader.Reader.{Reader}
 use Rattle.reading.specs.declared.number.Number.{Number}
 use Rattle.pack.specs.declared.head.Opening.{Opening}
