@@ -1,5 +1,6 @@
 -- The modules of `proofs/` that belong to no one function.
 pub mod Remembering
+pub mod Looking
 pub mod Telling
 pub mod Judging
 pub mod Laying

@@ -2,4 +2,5 @@
 pub mod Lists
 pub mod Memory
 pub mod Explain
+pub mod Look
 pub mod Search
