@@ -327,15 +327,14 @@ module _ (pack places : List ℕ) (triggers a : ℕ) (work : List ℕ) (t : Tabl
     test-end {k} e p x v g = test-ends (dimensions p) (small x) pack n v (g .end) (g .reads) k e .0
 
   -- a run of parts that can be looked at
-  module _ {A : Type 0} (part : Dimensions → Reader A) (tells : Seen → List A → Bool) where
-    abbrev run : Run A Seen
-    run = record { part = λ k. part (dimensions (k .0)); limit = 9; tells = tells }
-
-    pub look-next : {from n left : ℕ} → Lookable (λ d. counted 0 9 (part d)) pack places triggers a from work t → Rest run pack from n left → 0 < left → Lookable part pack places triggers a n work t
-    look-next {from} x i h = record { theory = x .theory; looking = x .looking; value = run-item run pack from i h (x .theory, x .looking) (x .value) (x .stands); stands = run-here run pack from i h (x .theory, x .looking) (x .value) (x .stands) }
-
+  module _ {A : Type 0} (part : Dimensions → Reader A) where
     pub look-inside : {from : ℕ} → Lookable (λ d. counted 0 9 (part d)) pack places triggers a from work t → from < length pack
-    look-inside {from} x = run-inside run pack from (omega arith) (x .theory, x .looking) (x .value) (x .stands)
+    look-inside {from} x = counted-starts 9 (part (dimensions (x .theory))) pack from (x .value) (x .stands .end) (omega arith) (x .stands .reads) (getD pack from 0) refl .1
+
+    pub look-next : {tells : Seen → List A → Bool} {from n left : ℕ} → Lookable (λ d. counted 0 9 (part d)) pack places triggers a from work t → Rest (record { part = λ k. part (dimensions (k .0)); limit = 9; tells = tells }) pack from n left → 0 < left → Lookable part pack places triggers a n work t
+    look-next {tells} {from} x i h =
+        let run : Run A Seen = record { part = λ k. part (dimensions (k .0)); limit = 9; tells = tells } in
+        record { theory = x .theory; looking = x .looking; value = run-item run pack from i h (x .theory, x .looking) (x .value) (x .stands); stands = run-here run pack from i h (x .theory, x .looking) (x .value) (x .stands) }
 
   pub look-readable : {A : Type 0} {part : Dimensions → Reader A} {at : ℕ} → Lookable part pack places triggers a at work t → Readable part pack at
   look-readable x = record { over = dimensions (x .theory); small = small (x .looking); value = x .value; end = x .stands .end; reads = x .stands .reads }
