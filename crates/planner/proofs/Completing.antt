@@ -143,6 +143,12 @@ module _ (th : Theory) (K e base : ℕ) (s : State) where
   best-no f [] v l q = absurd (omega (arith, l))
   best-no f (y ∷ list) v l (s′, (t, plays, agreed, leads), w) = f y (plays .there) (y ∷ list) v l (list, refl, (t, plays, agreed, (s′, leads, w)))
 
+  -- none by an action that is the last one and leaves no more than base
+  pub best-hopeless : {left : ℕ} (x : ℕ) → ((u : State) → Plays th s x u → (left ≡ 0) × (authorUtility th u ≤ base)) → (list : List ℕ) (v : ℕ) → length list ≡ suc left → ¬ EndsBy th K e base x s list v
+  unfolding Leads
+  best-hopeless x f list v l ([], is, (u, plays, agreed, (s′, q, (w, b)))) = let same : authorUtility th u ≡ authorUtility th s′ = ap (authorUtility th) q in omega (arith, same, w, b, f u plays .1)
+  best-hopeless x f list v l (y ∷ rest, is, (u, plays, agreed, r)) = omega (arith, l, ap length is, f u plays .0)
+
   -- an action that is played
   module _ (x : ℕ) {t : State} (plays : Plays th s x t) where
     same : {list : List ℕ} {v : ℕ} → EndsBy th K e base x s list v → (rest : List ℕ) × (list ≡ x ∷ rest) × Ends th K e base t rest v

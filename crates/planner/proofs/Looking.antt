@@ -5,7 +5,7 @@ use mathlib.Core.Bool.{Bool, true, false, _&&_, _||_}
 use mathlib.Core.List.{List, [], _∷_}
 use native.Mathlib.Omega.{arith}
 use lib.ListN.{length, getD}
-use lib.Dec.{eqb, ltb}
+use lib.Dec.{eqb}
 use borrow.Author.Count.{below-more}
 use borrow.Author.Tests.{eq-eqb, ne-eqb, lt-ltb, le-ltb}
 use Rattle.pack.specs.Syntax.{Effect, Trigger, Test, Condition, Rule, Theory}
@@ -20,7 +20,7 @@ use Rattle.pack.specs.Table.{stateOf, bytesAt}
 use Rattle.pack.specs.declared.table.Table.{Table}
 use Rattle.pack.proofs.Judging.{Left, Next, left-start, left-one, left-next, left-none, counted-starts, test-ends, RuleParts, rule-parts}
 use Rattle.pack.proofs.OneByte.{test-bytes, effect-bytes}
-use Rattle.transition.specs.Happening.{nothing, actionOf, Plays}
+use Rattle.transition.specs.Happening.{nothing, actionOf}
 use Rattle.transition.specs.Laws.Still.{writes, triggerWrites, plays-still, couldAt, couldPass, couldAll, couldHold, couldExceed, no-exceed}
 use Rattle.planner.specs.Inner.Look.{movedBy, Acting, Acted, Moved, Looking, Lookable, Looked, Tryable, Hopeless}
 
@@ -272,12 +272,6 @@ module _ (pack places : List ℕ) (triggers a : ℕ) (work : List ℕ) (t : Tabl
 
   small : {p : Theory} → Looking p pack places triggers a work t → Small (dimensions p)
   small x = x .acting .theorized .small
-
-  pub look-acted : {A : Type 0} {part : Dimensions → Reader A} {at : ℕ} → Lookable part pack places triggers a at work t → Acted pack places triggers a
-  look-acted x = record { theory = x .theory; acting = x .looking .acting }
-
-  pub look-judged : {A : Type 0} {part : Dimensions → Reader A} {at : ℕ} → Lookable part pack places triggers a at work t → Judged part pack at t work 0
-  look-judged x = record { table = x .looking .fits; there = x .looking .some; dimensions = dimensions (x .theory); over = x .looking .over; value = x .value; end = x .stands .end; reads = x .stands .reads }
 
   -- a test
   module _ (n : ℕ) where

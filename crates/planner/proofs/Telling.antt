@@ -10,12 +10,12 @@ use native.Mathlib.Omega.{arith}
 use lib.ListN.{length, getD}
 use lib.Dec.{ltb}
 use borrow.Author.Count.{below-more}
-use Rattle.pack.specs.Syntax.{Node, Theory, Rule, Condition}
+use Rattle.pack.specs.Syntax.{Node, Theory, Rule}
 use Rattle.pack.specs.State.{State, belief, meaning, target}
 use Rattle.reading.specs.Reading.{Reader, done, refused, pick, bind, mapped, runs}
 use Rattle.reading.specs.Number.{item, between, risingAt}
 use Rattle.pack.specs.Answer.{dims}
-use Rattle.pack.specs.Grammar.{Dimensions, conditionAt, consentersAt, rulesAt}
+use Rattle.pack.specs.Grammar.{Dimensions, consentersAt, rulesAt}
 use Rattle.pack.specs.Condition as condition
 use Rattle.pack.specs.Contents.{Gives}
 use Rattle.pack.specs.Judge.{Over, Judged, Small, Readable}
@@ -35,7 +35,6 @@ use Rattle.transition.specs.Laws.Settled.{plays-one, plays-refuses}
 use Rattle.transition.specs.Inner.Cause.{Tabled}
 use Rattle.transition.specs.Inner.Stage.{StageRoom, SlotOnly}
 use Rattle.transition.specs.Inner.Play.{Setting, Left, PlayedIn}
-use Rattle.transition.proofs.Playing.{play-judged, play-forbidden}
 use Rattle.transition.proofs.Changing.{tabled-same, small, row-inside, belief-is, belief-in as inside-table}
 use Rattle.planner.specs.declared.explain.Shape.{Shape}
 use Rattle.planner.specs.declared.memory.Key.{Key}
@@ -44,6 +43,7 @@ use Rattle.planner.specs.Inner.Lists.{slotTable, Other, AboveBy, AboveBy
 use Rattle.planner.specs.Inner.Lists as inner
 use Rattle.planner.specs.Inner.Memory.{Memory, Slotted, Fact}
 use Rattle.planner.specs.Inner.Explain.{Stage, Free, Told}
+use Rattle.planner.specs.Inner.Look.{Looking, Tryable, Hopeless}
 use Rattle.planner.proofs.Remembering.{memory-same, fact-same}
 
 -- Told: passed on
@@ -77,13 +77,16 @@ module _ {th : Theory} {T : List Node} {pack places : List ℕ} {h : Shape} {was
   pub stage-setting : Free slot 1 → Setting th T pack places (h .actions) (h .triggers) was t slot
   stage-setting f = record { theorized = x .theorized; tabled = x .tabled; room = record { source = omega (arith, x .behind, f); slot-room = omega (arith, f); room = x .room } }
 
-  -- an action's condition
-  module _ (f : Free slot 1) (root a : ℕ) (l : a < h .actions) (i : root < t .nodes) where
-    pub stage-condition : Judged conditionAt pack (getD places (9 * a) 0) t was root
-    stage-condition = play-judged (stage-setting f) l root i
+  -- an action that is looked at
+  module _ {a : ℕ} (l : a < h .actions) where
+    stage-looking : Looking th pack places (h .triggers) a was t
+    stage-looking = record { acting = record { actions = h .actions; theorized = x .theorized; there = l }; over = x .tabled .over; fits = x .tabled .fits; some = x .tabled .some }
 
-    pub stage-forbidden : {b : Bool} → ((d : Dimensions) → Over d t → (c : Condition) (n : ℕ) → conditionAt d pack (getD places (9 * a) 0) ≡ done c n → b ≡ condition.holds (stateOf t was root) c) → b ≡ false → (s : State) → Plays th (meaning C T root) a s → ⊥
-    stage-forbidden judged e s q = plays-refuses q (play-forbidden (stage-setting f) l root i judged e .refuses (λ z. omega (arith, z)))
+    pub stage-tryable : {whose : ℕ} → whose < C + 1 → Tryable pack places (h .triggers) a was t whose
+    stage-tryable i = record { theory = th; looking = stage-looking; rules = i }
+
+    pub stage-hopeless : (whose : ℕ) {left base : ℕ} → Hopeless pack places (h .triggers) a was t whose left base → (s : State) → Plays th (meaning C T 0) a s → (left ≡ 0) × (condition.utility s (getD (th .utilities) whose []) ≤ base)
+    stage-hopeless whose f s plays = f th stage-looking s (subst (λ (U : List Node). Plays th (meaning C U 0) a s) (sym (x .tabled .same)) plays)
 
   -- where utility rules are found
   pub stage-rules : (c root : ℕ) → c < C → root < t .nodes → (Judged rulesAt pack (getD places (321 + c) 0) t was root) × (321 + c < length places)
@@ -177,6 +180,14 @@ module _ (th : Theory) (K e c base : ℕ) where
   unfolding Leads
   reach-no-more s f ([], l, (s′, q, b)) = f (subst (λ (s : State). base < utilityTo th c s) (sym q) b)
   reach-no-more s f (x ∷ rest, l, r) = absurd (omega arith)
+
+  -- no way by an action that is the last one and leaves no more than base
+  pub by-hopeless : (left x : ℕ) (s : State) → ((u : State) → Plays th s x u → (left ≡ 0) × (condition.utility u (getD (th .utilities) (c + 1) []) ≤ base)) → AboveBy th K e c base (suc left) x s → ⊥
+  by-hopeless left x s f (u, plays, agreed, r) =
+      let (none, low) = f u plays in
+      let next : c + 1 ≡ suc c = omega arith in
+      let last : suc left ≡ 1 = omega (arith, none) in
+      reach-no-more u (λ l. omega (arith, l, ap (λ (k : ℕ). condition.utility u (getD (th .utilities) k [])) next, low)) (subst (λ (n : ℕ). Reach n u) last r)
 
   pub reach-by : (n x : ℕ) (s : State) → AboveBy th K e c base n x s → Reach (suc n) s
   unfolding Leads

@@ -1,9 +1,9 @@
 // Explanations: whether a character has a reason of their own for an action. A state is row `root` of a table; the slots of the work buffer from `slot` on are free.
+use crate::look::promising;
 use crate::memory::Key;
 use crate::memory::entry_of;
 use crate::memory::recall;
 use crate::memory::remember;
-use pack::judge::holds;
 use pack::judge::utility;
 use pack::table::Table;
 use pack::write::consenter;
@@ -182,8 +182,7 @@ pub fn via(
         characters: p.characters,
         width: p.fluents + p.characters,
     };
-    let may = holds(pack, places[9 * x], work, t, 0);
-    if !may {
+    if !promising(pack, places, p, work, t, x, c + 1, left, base) {
         return false;
     }
     let agreed = allowed(pack, places, p, work, t, 0, slot + 961, c, x, e, k);

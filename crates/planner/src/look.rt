@@ -1,4 +1,4 @@
-// A look before an action is tried: whether it may be, and whether a last one could leave anything above some utility. What effects may write, and what is believed, is left open.
+// A look before an action is tried: no step is made for one whose condition fails, nor for a last one after which no rule above some utility could hold. What effects may write, and what is believed, is left open.
 use crate::explain::Shape;
 use pack::judge::after_alternative;
 use pack::judge::after_condition;
@@ -8,7 +8,7 @@ use pack::number::Number;
 use pack::number::read_number;
 use pack::number::wide;
 use pack::table::Table;
-ghost use Prim.Native.Nat.{ℕ, _≤_};
+ghost use Prim.Native.Nat.{ℕ};
 ghost use mathlib.Core.Path.{_≡_};
 ghost use mathlib.Core.Bool.{Bool, false, _&&_};
 ghost use mathlib.Core.List.{List};
@@ -175,7 +175,7 @@ pub fn could_exceed(
     false
 }
 
-// Whether action x may lead from row 0 to a utility above base in at most `left` actions more: its condition holds, and a last action could exceed it. Whose the utility is: 0 the author's, else that of the character before.
+// Whether action x, with `left` actions behind it, is worth a try in row 0: its condition holds, and where it is the last one it could leave a utility above base. `whose` is 0 for the author and c + 1 for character c.
 pub fn promising(
     pack: &[u8],
     places: &[usize],

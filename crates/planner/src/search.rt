@@ -5,6 +5,7 @@ use crate::explain::Nesting;
 use crate::explain::Shape;
 use crate::explain::allowed;
 use crate::judge::within;
+use crate::look::promising;
 use crate::memory::Key;
 use crate::memory::entry_of;
 use crate::memory::entry_size;
@@ -17,7 +18,6 @@ use chart::call::unless_refused;
 use chart::start::merge_table;
 use pack::contents::read_pack;
 use pack::copy::copy_table;
-use pack::judge::holds;
 use pack::judge::utility;
 use pack::table::Table;
 use partition::bytes::clear;
@@ -187,8 +187,7 @@ pub fn completes_by(
         characters: p.characters,
         width: p.fluents + p.characters,
     };
-    let may = holds(pack, places[9 * x], work, t, 0);
-    if !may {
+    if !promising(pack, places, p, work, t, x, 0, left, base) {
         return 0;
     }
     let agreed = allowed(

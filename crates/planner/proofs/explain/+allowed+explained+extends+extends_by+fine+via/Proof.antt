@@ -19,7 +19,7 @@ use Rattle.planner.specs.Inner.Lists.{slotTable, AboveBy}
 use Rattle.planner.specs.Inner.Lists as inner
 use Rattle.planner.specs.Inner.Memory.{Memory}
 use Rattle.planner.specs.Inner.Explain.{Stage, Free}
-use Rattle.planner.proofs.Telling.{Content, told-none, told-by, told-no, told-yes, stage-same, stage-setting, stage-condition, stage-forbidden, stage-rules, stage-utility, step-low, step-high, step-memory, step-none, nextTable, next-plays, next-stage, reach-here, reach-no-more, by-from, by-to, explained-from, explained-to, explained-zero, explained-plays, agreed-all, content-of, content-more, one-less, stage-row, stage-believed, consentersOf, consent-place, consent-readable, consent-count, consent-each, slot-stage, slot-same, stage-slotted, known, note, extended, noted}
+use Rattle.planner.proofs.Telling.{Content, told-none, told-by, told-no, told-yes, stage-same, stage-setting, stage-tryable, stage-hopeless, stage-rules, stage-utility, step-low, step-high, step-memory, step-none, nextTable, next-plays, next-stage, reach-here, reach-no-more, by-hopeless, by-from, by-to, explained-from, explained-to, explained-zero, explained-plays, agreed-all, content-of, content-more, one-less, stage-row, stage-believed, consentersOf, consent-place, consent-readable, consent-count, consent-each, slot-stage, slot-same, stage-slotted, known, note, extended, noted}
 use borrow.Fn.Kinds.{In}
 use borrow.Fn.PlainCycle.{Measures, is, falls, and}
 use Rattle.planner.proofs.explain.allowed.Reads as allowed
@@ -40,12 +40,12 @@ use Rattle.planner.proofs.explain.+allowed+explained+extends+extends_by
 use Rattle.planner.proofs.explain.via.Reads as via
 use Rattle.planner.proofs.explain.via.Kinds as via-kinds
 use Rattle.planner.proofs.explain.+allowed+explained+extends+extends_by+fine+via.Lts-via as via-lts
-use Rattle.pack.proofs.judge.holds.Reads as holds-reads
 use Rattle.pack.proofs.judge.utility.Reads as utility-reads
 use Rattle.reading.proofs.number.wide.Reads as wide-reads
 use Rattle.pack.proofs.write.consenter.Reads as consenter-reads
 use Rattle.pack.proofs.write.consenters.Reads as consenters-reads
 use Rattle.planner.proofs.explain.mark.Reads as mark-reads
+use Rattle.planner.proofs.look.promising.Reads as promising-reads
 use Rattle.planner.proofs.memory.entry_of.Reads as entry-of-reads
 use Rattle.planner.proofs.memory.recall.Reads as recall-reads
 use Rattle.planner.proofs.memory.remember.Reads as remember-reads
@@ -121,7 +121,7 @@ allowed-Inv-loop pack places p work₀ t root slot who x e k at count i₀ work 
 abbrev allowed-μ-loop : allowed-lts.MeasureT-loop
 allowed-μ-loop pack places p work₀ t root slot who x e k at count i₀ work i = count - i
 
--- src/explain.rt:217:21
+-- src/explain.rt:216:21
 allowed-mul-at : (t : ℕ) → allowed-lts.Need-mul-at (
   consenters-reads.Asked,
   consenters-reads.Learnt,
@@ -132,7 +132,7 @@ allowed-mul-at : (t : ℕ) → allowed-lts.Need-mul-at (
 ) (allowed-at t) allowed.Post allowed-Inv-loop allowed-μ-loop
 allowed-mul-at t c = let (th, (T, (y, mem))) = c .before .before .before .pre .1 .0 in omega (arith, consent-place y _ (c .before .before .before .pre .1 .2))
 
--- src/explain.rt:217:21
+-- src/explain.rt:216:21
 allowed-add-at : (t : ℕ) → allowed-lts.Need-add-at (
   consenters-reads.Asked,
   consenters-reads.Learnt,
@@ -143,7 +143,7 @@ allowed-add-at : (t : ℕ) → allowed-lts.Need-add-at (
 ) (allowed-at t) allowed.Post allowed-Inv-loop allowed-μ-loop
 allowed-add-at t c = let (th, (T, (y, mem))) = c .before .before .before .pre .1 .0 in omega (arith, consent-place y _ (c .before .before .before .pre .1 .2))
 
--- src/explain.rt:217:14
+-- src/explain.rt:216:14
 allowed-mul-at-2 : (t : ℕ) → allowed-lts.Need-mul-at-2 (
   consenters-reads.Asked,
   consenters-reads.Learnt,
@@ -154,7 +154,7 @@ allowed-mul-at-2 : (t : ℕ) → allowed-lts.Need-mul-at-2 (
 ) (allowed-at t) allowed.Post allowed-Inv-loop allowed-μ-loop
 allowed-mul-at-2 t c = let (th, (T, (y, mem))) = c .before .before .before .pre .1 .0 in omega (arith, consent-place y _ (c .before .before .before .pre .1 .2))
 
--- src/explain.rt:217:14
+-- src/explain.rt:216:14
 allowed-shared-slice-read-at : (t : ℕ) → allowed-lts.Need-shared-slice-read-at (
   consenters-reads.Asked,
   consenters-reads.Learnt,
@@ -165,7 +165,7 @@ allowed-shared-slice-read-at : (t : ℕ) → allowed-lts.Need-shared-slice-read-
 ) (allowed-at t) allowed.Post allowed-Inv-loop allowed-μ-loop
 allowed-shared-slice-read-at t c = let (th, (T, (y, mem))) = c .before .before .before .before .pre .1 .0 in omega (arith, consent-place y _ (c .before .before .before .before .pre .1 .2))
 
--- src/explain.rt:218:9
+-- src/explain.rt:217:9
 allowed-consenters-requires : (t : ℕ) → allowed-lts.Need-consenters-requires (
   consenters-reads.Asked,
   consenters-reads.Learnt,
@@ -176,7 +176,7 @@ allowed-consenters-requires : (t : ℕ) → allowed-lts.Need-consenters-requires
 ) (allowed-at t) allowed.Post allowed-Inv-loop allowed-μ-loop
 allowed-consenters-requires t c κs = let (th, (T, (y, mem))) = c .before .before .before .before .pre .1 .0 in consent-readable y _ (c .before .before .before .before .pre .1 .2)
 
--- src/explain.rt:220:5
+-- src/explain.rt:219:5
 allowed-loop-holds : (t : ℕ) → allowed-lts.Need-loop-holds (
   consenters-reads.Asked,
   consenters-reads.Learnt,
@@ -187,7 +187,7 @@ allowed-loop-holds : (t : ℕ) → allowed-lts.Need-loop-holds (
 ) (allowed-at t) allowed.Post allowed-Inv-loop allowed-μ-loop
 allowed-loop-holds t c = (refl, λ q l. refl, λ q l. refl, λ th T y mem. (mem, λ j l. absurd (omega arith)))
 
--- src/explain.rt:221:13
+-- src/explain.rt:220:13
 allowed-consenter-requires : (t : ℕ) → allowed-lts.Need-consenter-requires (
   consenters-reads.Asked,
   consenters-reads.Learnt,
@@ -198,7 +198,7 @@ allowed-consenter-requires : (t : ℕ) → allowed-lts.Need-consenter-requires (
 ) (allowed-at t) allowed.Post allowed-Inv-loop allowed-μ-loop
 allowed-consenter-requires t c κs = let (th, (T, (y, mem))) = c .before .before .before .before .before .before .before .pre .1 .0 in (consent-readable y _ (c .before .before .before .before .before .before .before .pre .1 .2), omega (arith, c .loop-test .taken, consent-count y _ (c .before .before .before .before .before .before .before .pre .1 .2) (c .before .before .consenters .ensures)))
 
--- src/explain.rt:222:13
+-- src/explain.rt:221:13
 allowed-fine-requires : (t : ℕ) → allowed-lts.Need-fine-requires (
   consenters-reads.Asked,
   consenters-reads.Learnt,
@@ -214,7 +214,7 @@ allowed-fine-requires t c κs = let (m, P) = c .before .before .before .before .
     let d = consent-each y _ (P .2) {i = c .before .before .before .loop .i} (omega (arith, count, c .before .before .loop-test .taken)) (c .before .consenter .ensures) in
     (omega (arith, m), ((th, (T, (stage-same y low long, rest th T y mem .0))), P .1, d .1, P .2, P .3, P .4, P .5))
 
--- src/explain.rt:224:13
+-- src/explain.rt:223:13
 allowed-same-length : (t : ℕ) → allowed-lts.Need-same-length (
   consenters-reads.Asked,
   consenters-reads.Learnt,
@@ -225,7 +225,7 @@ allowed-same-length : (t : ℕ) → allowed-lts.Need-same-length (
 ) (allowed-at t) allowed.Post allowed-Inv-loop allowed-μ-loop
 allowed-same-length t c = c .before .before .before .fine .kept .1 .1 .1 .0 ∙ c .before .before .before .before .before .before .before .loop .inv .0
 
--- src/explain.rt:224:13
+-- src/explain.rt:223:13
 allowed-returns : (t : ℕ) → allowed-lts.Need-returns (
   consenters-reads.Asked,
   consenters-reads.Learnt,
@@ -247,7 +247,7 @@ allowed-returns t c = let P = c .before .before .before .before .before .before 
     told-no (λ q l. told .low q l ∙ low q l) (λ q l. told .high q l ∙ high q l) (told .memory)
     (λ agreed. told .complete (not-true (f .result) (c .if1 .taken)) (content-of th (a .k .0) (a .e .0) (a .who) (a .x) (meaning (a .t .characters) T (a .root)) agreed li (d .0)))
 
--- src/explain.rt:226:9
+-- src/explain.rt:225:9
 allowed-add-i : (t : ℕ) → allowed-lts.Need-add-i (
   consenters-reads.Asked,
   consenters-reads.Learnt,
@@ -258,7 +258,7 @@ allowed-add-i : (t : ℕ) → allowed-lts.Need-add-i (
 ) (allowed-at t) allowed.Post allowed-Inv-loop allowed-μ-loop
 allowed-add-i t c = search needs
 
--- src/explain.rt:220:5
+-- src/explain.rt:219:5
 allowed-loop-less : (t : ℕ) → allowed-lts.Need-loop-less (
   consenters-reads.Asked,
   consenters-reads.Learnt,
@@ -269,7 +269,7 @@ allowed-loop-less : (t : ℕ) → allowed-lts.Need-loop-less (
 ) (allowed-at t) allowed.Post allowed-Inv-loop allowed-μ-loop
 allowed-loop-less t c = search needs
 
--- src/explain.rt:220:5
+-- src/explain.rt:219:5
 allowed-loop-again : (t : ℕ) → allowed-lts.Need-loop-again (
   consenters-reads.Asked,
   consenters-reads.Learnt,
@@ -295,7 +295,7 @@ allowed-loop-again t c = let P = c .before .before .before .before .before .befo
           (told .memory, content-more th (a .k .0) (a .e .0) (a .who) (a .x) (meaning (a .t .characters) T (a .root)) (rest th T y mem .1) (d .0) (told .sound (not-false (f .result) (c .if1 .left)))),
     )
 
--- src/explain.rt:201:1
+-- src/explain.rt:200:1
 allowed-same-length-2 : (t : ℕ) → allowed-lts.Need-same-length-2 (
   consenters-reads.Asked,
   consenters-reads.Learnt,
@@ -306,7 +306,7 @@ allowed-same-length-2 : (t : ℕ) → allowed-lts.Need-same-length-2 (
 ) (allowed-at t) allowed.Post allowed-Inv-loop allowed-μ-loop
 allowed-same-length-2 t c = c .before .loop .inv .0
 
--- src/explain.rt:201:1
+-- src/explain.rt:200:1
 allowed-returns-2 : (t : ℕ) → allowed-lts.Need-returns-2 (
   consenters-reads.Asked,
   consenters-reads.Learnt,
@@ -1231,7 +1231,7 @@ fine-returns :
     (t : ℕ) → fine-lts.Need-returns (explained-below t, explained.Post) (fine-at t) fine.Post
 fine-returns t c = λ th T y mem. told-yes (λ q l. refl) (λ q l. refl) mem (λ o. absurd (o (c .if1 .taken)))
 
--- src/explain.rt:252:5
+-- src/explain.rt:251:5
 fine-explained-requires : (t : ℕ) → fine-lts.Need-explained-requires (
   explained-below t,
   explained.Post,
@@ -1249,11 +1249,11 @@ fine-returns-2 :
 fine-returns-2 t c = λ th T y mem. told-by (omega arith) (λ q l. refl) (λ q l. refl) (c .before .before .explained .ensures th T y mem) (λ z o. z) (λ f. f (c .before .before .before .before .if1 .left))
 
 -- src/explain.rt:179:15
-via-add-holds : (t : ℕ) → via-lts.Need-add-holds (
+via-add-promising : (t : ℕ) → via-lts.Need-add-promising (
   wide-reads.Asked,
   wide-reads.Learnt,
-  holds-reads.Asked,
-  holds-reads.Learnt,
+  promising-reads.Asked,
+  promising-reads.Learnt,
   allowed-below t,
   allowed.Post,
   step-slot-reads.Asked,
@@ -1261,14 +1261,14 @@ via-add-holds : (t : ℕ) → via-lts.Need-add-holds (
   extends-below t,
   extends.Post,
 ) (via-at t) via.Post
-via-add-holds t c = omega (arith, c .before .before .before .pre .1 .5)
+via-add-promising t c = omega (arith, c .before .before .before .pre .1 .5)
 
 -- src/explain.rt:180:21
 via-slice-read-wide : (t : ℕ) → via-lts.Need-slice-read-wide (
   wide-reads.Asked,
   wide-reads.Learnt,
-  holds-reads.Asked,
-  holds-reads.Learnt,
+  promising-reads.Asked,
+  promising-reads.Learnt,
   allowed-below t,
   allowed.Post,
   step-slot-reads.Asked,
@@ -1282,8 +1282,8 @@ via-slice-read-wide t c = let (th, (T, (y, mem))) = c .before .before .before .b
 via-wide-requires : (t : ℕ) → via-lts.Need-wide-requires (
   wide-reads.Asked,
   wide-reads.Learnt,
-  holds-reads.Asked,
-  holds-reads.Learnt,
+  promising-reads.Asked,
+  promising-reads.Learnt,
   allowed-below t,
   allowed.Post,
   step-slot-reads.Asked,
@@ -1294,11 +1294,11 @@ via-wide-requires : (t : ℕ) → via-lts.Need-wide-requires (
 via-wide-requires t c κs = search needs
 
 -- src/explain.rt:183:16
-via-add-holds-2 : (t : ℕ) → via-lts.Need-add-holds-2 (
+via-add-allowed : (t : ℕ) → via-lts.Need-add-allowed (
   wide-reads.Asked,
   wide-reads.Learnt,
-  holds-reads.Asked,
-  holds-reads.Learnt,
+  promising-reads.Asked,
+  promising-reads.Learnt,
   allowed-below t,
   allowed.Post,
   step-slot-reads.Asked,
@@ -1306,14 +1306,14 @@ via-add-holds-2 : (t : ℕ) → via-lts.Need-add-holds-2 (
   extends-below t,
   extends.Post,
 ) (via-at t) via.Post
-via-add-holds-2 t c = let (th, (T, (y, mem))) = c .before .before .before .before .before .before .pre .1 .0 in omega (arith, small (y .tabled))
+via-add-allowed t c = let (th, (T, (y, mem))) = c .before .before .before .before .before .before .pre .1 .0 in omega (arith, small (y .tabled))
 
--- src/explain.rt:185:34
-via-mul-holds : (t : ℕ) → via-lts.Need-mul-holds (
+-- src/explain.rt:185:48
+via-add-promising-2 : (t : ℕ) → via-lts.Need-add-promising-2 (
   wide-reads.Asked,
   wide-reads.Learnt,
-  holds-reads.Asked,
-  holds-reads.Learnt,
+  promising-reads.Asked,
+  promising-reads.Learnt,
   allowed-below t,
   allowed.Post,
   step-slot-reads.Asked,
@@ -1321,44 +1321,14 @@ via-mul-holds : (t : ℕ) → via-lts.Need-mul-holds (
   extends-below t,
   extends.Post,
 ) (via-at t) via.Post
-via-mul-holds t c = let (th, (T, (y, mem))) = c .before .before .before .before .before .before .pre .1 .0 in omega (arith, consent-place y _ (c .before .before .before .before .before .before .pre .1 .2))
-
--- src/explain.rt:185:27
-via-mul-holds-2 : (t : ℕ) → via-lts.Need-mul-holds-2 (
-  wide-reads.Asked,
-  wide-reads.Learnt,
-  holds-reads.Asked,
-  holds-reads.Learnt,
-  allowed-below t,
-  allowed.Post,
-  step-slot-reads.Asked,
-  step-slot-reads.Learnt,
-  extends-below t,
-  extends.Post,
-) (via-at t) via.Post
-via-mul-holds-2 t c = let (th, (T, (y, mem))) = c .before .before .before .before .before .before .pre .1 .0 in omega (arith, consent-place y _ (c .before .before .before .before .before .before .pre .1 .2))
-
--- src/explain.rt:185:27
-via-shared-slice-read-holds : (t : ℕ) → via-lts.Need-shared-slice-read-holds (
-  wide-reads.Asked,
-  wide-reads.Learnt,
-  holds-reads.Asked,
-  holds-reads.Learnt,
-  allowed-below t,
-  allowed.Post,
-  step-slot-reads.Asked,
-  step-slot-reads.Learnt,
-  extends-below t,
-  extends.Post,
-) (via-at t) via.Post
-via-shared-slice-read-holds t c = let (th, (T, (y, mem))) = c .before .before .before .before .before .before .before .pre .1 .0 in omega (arith, consent-place y _ (c .before .before .before .before .before .before .before .pre .1 .2))
+via-add-promising-2 t c = let (th, (T, (y, mem))) = c .before .before .before .before .before .before .before .pre .1 .0 in omega (arith, c .before .before .before .before .before .before .before .pre .1 .1, small (y .tabled))
 
 -- src/explain.rt:185:9
-via-holds-requires : (t : ℕ) → via-lts.Need-holds-requires (
+via-promising-requires : (t : ℕ) → via-lts.Need-promising-requires (
   wide-reads.Asked,
   wide-reads.Learnt,
-  holds-reads.Asked,
-  holds-reads.Learnt,
+  promising-reads.Asked,
+  promising-reads.Learnt,
   allowed-below t,
   allowed.Post,
   step-slot-reads.Asked,
@@ -1366,18 +1336,18 @@ via-holds-requires : (t : ℕ) → via-lts.Need-holds-requires (
   extends-below t,
   extends.Post,
 ) (via-at t) via.Post
-via-holds-requires t c κs = let P = c .before .before .before .before .before .before .before .before .pre .1 in
-    let a = c .before .before .before .before .before .before .before .before .args in
+via-promising-requires t c κs =
+    let P = c .before .before .before .before .before .before .before .pre .1 in
+    let a = c .before .before .before .before .before .before .before .args in
     let (th, (T, (y, mem))) = P .0 in
-    let z = slot-stage (a .p) (a .work .now) (a .slot) (c .before .before .before .wide .ensures) y in
-    stage-condition z (omega (arith, P .5)) 0 (a .x) (P .2) (z .tabled .some)
+    stage-tryable (slot-stage (a .p) (a .work .now) (a .slot) (c .before .before .wide .ensures) y) (P .2) (omega (arith, P .1))
 
--- src/explain.rt:187:9
+-- src/explain.rt:186:9
 via-same-length : (t : ℕ) → via-lts.Need-same-length (
   wide-reads.Asked,
   wide-reads.Learnt,
-  holds-reads.Asked,
-  holds-reads.Learnt,
+  promising-reads.Asked,
+  promising-reads.Learnt,
   allowed-below t,
   allowed.Post,
   step-slot-reads.Asked,
@@ -1387,12 +1357,12 @@ via-same-length : (t : ℕ) → via-lts.Need-same-length (
 ) (via-at t) via.Post
 via-same-length t c = search needs
 
--- src/explain.rt:187:9
+-- src/explain.rt:186:9
 via-returns : (t : ℕ) → via-lts.Need-returns (
   wide-reads.Asked,
   wide-reads.Learnt,
-  holds-reads.Asked,
-  holds-reads.Learnt,
+  promising-reads.Asked,
+  promising-reads.Learnt,
   allowed-below t,
   allowed.Post,
   step-slot-reads.Asked,
@@ -1400,19 +1370,20 @@ via-returns : (t : ℕ) → via-lts.Need-returns (
   extends-below t,
   extends.Post,
 ) (via-at t) via.Post
-via-returns t c = let P = c .before .before .before .before .before .before .before .before .before .before .pre .1 in
-    let a = c .before .before .before .before .before .before .before .before .before .before .args in
-    let h = c .before .holds in
+via-returns t c =
+    let P = c .before .before .before .before .before .before .before .before .before .pre .1 in
+    let a = c .before .before .before .before .before .before .before .before .before .args in
+    let w = c .before .promising in
     λ th T y mem.
-    let z = slot-stage (a .p) (a .work .now) (a .slot) (c .before .before .before .before .before .wide .ensures) y in
-    told-none _ mem (λ g. stage-forbidden z (omega (arith, P .5)) 0 (a .x) (P .2) (z .tabled .some) (h .ensures) (not-true (h .result) (c .if1 .taken)) (g .0) (g .1))
+    let z = slot-stage (a .p) (a .work .now) (a .slot) (c .before .before .before .before .wide .ensures) y in
+    told-none _ mem (by-hopeless th (a .k .0) (a .e .0) (a .c) (a .base) (a .left) (a .x) (meaning (a .p .characters) T 0) (stage-hopeless z (P .2) (a .c + 1) (w .ensures (not-true (w .result) (c .if1 .taken)))))
 
--- src/explain.rt:189:55
-via-add-allowed : (t : ℕ) → via-lts.Need-add-allowed (
+-- src/explain.rt:188:55
+via-add-allowed-2 : (t : ℕ) → via-lts.Need-add-allowed-2 (
   wide-reads.Asked,
   wide-reads.Learnt,
-  holds-reads.Asked,
-  holds-reads.Learnt,
+  promising-reads.Asked,
+  promising-reads.Learnt,
   allowed-below t,
   allowed.Post,
   step-slot-reads.Asked,
@@ -1420,14 +1391,14 @@ via-add-allowed : (t : ℕ) → via-lts.Need-add-allowed (
   extends-below t,
   extends.Post,
 ) (via-at t) via.Post
-via-add-allowed t c = omega (arith, c .before .before .before .before .before .before .before .before .before .before .before .pre .1 .5)
+via-add-allowed-2 t c = omega (arith, c .before .before .before .before .before .before .before .before .before .before .pre .1 .5)
 
--- src/explain.rt:189:9
+-- src/explain.rt:188:9
 via-allowed-requires : (t : ℕ) → via-lts.Need-allowed-requires (
   wide-reads.Asked,
   wide-reads.Learnt,
-  holds-reads.Asked,
-  holds-reads.Learnt,
+  promising-reads.Asked,
+  promising-reads.Learnt,
   allowed-below t,
   allowed.Post,
   step-slot-reads.Asked,
@@ -1435,18 +1406,19 @@ via-allowed-requires : (t : ℕ) → via-lts.Need-allowed-requires (
   extends-below t,
   extends.Post,
 ) (via-at t) via.Post
-via-allowed-requires t c κs = let (m, P) = c .before .before .before .before .before .before .before .before .before .before .before .pre in
-    let a = c .before .before .before .before .before .before .before .before .before .before .before .args in
+via-allowed-requires t c κs =
+    let (m, P) = c .before .before .before .before .before .before .before .before .before .before .pre in
+    let a = c .before .before .before .before .before .before .before .before .before .before .args in
     let (th, (T, (y, mem))) = P .0 in
-    let z = slot-stage (a .p) (a .work .now) (a .slot) (c .before .before .before .before .before .before .wide .ensures) y in
+    let z = slot-stage (a .p) (a .work .now) (a .slot) (c .before .before .before .before .before .wide .ensures) y in
     (omega (arith, m), ((th, (T, (z, mem))), z .tabled .some, P .2, P .3, P .4, omega (arith, P .5)))
 
--- src/explain.rt:191:9
+-- src/explain.rt:190:9
 via-same-length-2 : (t : ℕ) → via-lts.Need-same-length-2 (
   wide-reads.Asked,
   wide-reads.Learnt,
-  holds-reads.Asked,
-  holds-reads.Learnt,
+  promising-reads.Asked,
+  promising-reads.Learnt,
   allowed-below t,
   allowed.Post,
   step-slot-reads.Asked,
@@ -1456,12 +1428,12 @@ via-same-length-2 : (t : ℕ) → via-lts.Need-same-length-2 (
 ) (via-at t) via.Post
 via-same-length-2 t c = search needs
 
--- src/explain.rt:191:9
+-- src/explain.rt:190:9
 via-returns-2 : (t : ℕ) → via-lts.Need-returns-2 (
   wide-reads.Asked,
   wide-reads.Learnt,
-  holds-reads.Asked,
-  holds-reads.Learnt,
+  promising-reads.Asked,
+  promising-reads.Learnt,
   allowed-below t,
   allowed.Post,
   step-slot-reads.Asked,
@@ -1469,18 +1441,19 @@ via-returns-2 : (t : ℕ) → via-lts.Need-returns-2 (
   extends-below t,
   extends.Post,
 ) (via-at t) via.Post
-via-returns-2 t c = let a = c .before .before .before .before .before .before .before .before .before .before .before .before .before .before .before .args in
+via-returns-2 t c =
+    let a = c .before .before .before .before .before .before .before .before .before .before .before .before .before .before .args in
     let w = c .before .before .before .allowed in
     λ th T y mem.
-    let told = w .ensures th T (slot-stage (a .p) (a .work .now) (a .slot) (c .before .before .before .before .before .before .before .before .before .before .wide .ensures) y) mem in
+    let told = w .ensures th T (slot-stage (a .p) (a .work .now) (a .slot) (c .before .before .before .before .before .before .before .before .before .wide .ensures) y) mem in
     told-no (told .low) (told .high) (told .memory) (λ z. told .complete (not-true (w .result) (c .if2 .taken)) (z .2))
 
--- src/explain.rt:193:69
+-- src/explain.rt:192:69
 via-add-step-slot : (t : ℕ) → via-lts.Need-add-step-slot (
   wide-reads.Asked,
   wide-reads.Learnt,
-  holds-reads.Asked,
-  holds-reads.Learnt,
+  promising-reads.Asked,
+  promising-reads.Learnt,
   allowed-below t,
   allowed.Post,
   step-slot-reads.Asked,
@@ -1488,14 +1461,14 @@ via-add-step-slot : (t : ℕ) → via-lts.Need-add-step-slot (
   extends-below t,
   extends.Post,
 ) (via-at t) via.Post
-via-add-step-slot t c = let (th, (T, (y, mem))) = c .before .before .before .before .before .before .before .before .before .before .before .before .before .before .before .before .pre .1 .0 in omega (arith, small (y .tabled))
+via-add-step-slot t c = let (th, (T, (y, mem))) = c .before .before .before .before .before .before .before .before .before .before .before .before .before .before .before .pre .1 .0 in omega (arith, small (y .tabled))
 
--- src/explain.rt:193:9
+-- src/explain.rt:192:9
 via-step-slot-requires : (t : ℕ) → via-lts.Need-step-slot-requires (
   wide-reads.Asked,
   wide-reads.Learnt,
-  holds-reads.Asked,
-  holds-reads.Learnt,
+  promising-reads.Asked,
+  promising-reads.Learnt,
   allowed-below t,
   allowed.Post,
   step-slot-reads.Asked,
@@ -1503,20 +1476,21 @@ via-step-slot-requires : (t : ℕ) → via-lts.Need-step-slot-requires (
   extends-below t,
   extends.Post,
 ) (via-at t) via.Post
-via-step-slot-requires t c κs = let P = c .before .before .before .before .before .before .before .before .before .before .before .before .before .before .before .before .pre .1 in
-    let a = c .before .before .before .before .before .before .before .before .before .before .before .before .before .before .before .before .args in
+via-step-slot-requires t c κs =
+    let P = c .before .before .before .before .before .before .before .before .before .before .before .before .before .before .before .pre .1 in
+    let a = c .before .before .before .before .before .before .before .before .before .before .before .before .before .before .before .args in
     let (th, (T, (y, mem))) = P .0 in
-    let z = slot-stage (a .p) (a .work .now) (a .slot) (c .before .before .before .before .before .before .before .before .before .before .before .wide .ensures) y in
+    let z = slot-stage (a .p) (a .work .now) (a .slot) (c .before .before .before .before .before .before .before .before .before .before .wide .ensures) y in
     let w = c .before .before .before .before .allowed in
     let told = w .ensures th T z mem in
     (th, (T, (_, (stage-setting (stage-same z (told .low) (w .kept .1 .1 .1 .0)) (omega (arith, P .5)), P .2, z .tabled .some))))
 
--- src/explain.rt:195:9
+-- src/explain.rt:194:9
 via-same-length-3 : (t : ℕ) → via-lts.Need-same-length-3 (
   wide-reads.Asked,
   wide-reads.Learnt,
-  holds-reads.Asked,
-  holds-reads.Learnt,
+  promising-reads.Asked,
+  promising-reads.Learnt,
   allowed-below t,
   allowed.Post,
   step-slot-reads.Asked,
@@ -1526,12 +1500,12 @@ via-same-length-3 : (t : ℕ) → via-lts.Need-same-length-3 (
 ) (via-at t) via.Post
 via-same-length-3 t c = c .before .before .before .step-slot .kept .1 .1 .1 .1 .0 ∙ c .before .before .before .before .before .before .before .before .allowed .kept .1 .1 .1 .0
 
--- src/explain.rt:195:9
+-- src/explain.rt:194:9
 via-returns-3 : (t : ℕ) → via-lts.Need-returns-3 (
   wide-reads.Asked,
   wide-reads.Learnt,
-  holds-reads.Asked,
-  holds-reads.Learnt,
+  promising-reads.Asked,
+  promising-reads.Learnt,
   allowed-below t,
   allowed.Post,
   step-slot-reads.Asked,
@@ -1539,12 +1513,13 @@ via-returns-3 : (t : ℕ) → via-lts.Need-returns-3 (
   extends-below t,
   extends.Post,
 ) (via-at t) via.Post
-via-returns-3 t c = let P = c .before .before .before .before .before .before .before .before .before .before .before .before .before .before .before .before .before .before .before .before .pre .1 in
-    let a = c .before .before .before .before .before .before .before .before .before .before .before .before .before .before .before .before .before .before .before .before .args in
+via-returns-3 t c =
+    let P = c .before .before .before .before .before .before .before .before .before .before .before .before .before .before .before .before .before .before .before .pre .1 in
+    let a = c .before .before .before .before .before .before .before .before .before .before .before .before .before .before .before .before .before .before .before .args in
     let w = c .before .before .before .before .before .before .before .before .allowed in
     let s = c .before .before .before .step-slot in
     λ th T y mem.
-    let z = slot-stage (a .p) (a .work .now) (a .slot) (c .before .before .before .before .before .before .before .before .before .before .before .before .before .before .before .wide .ensures) y in
+    let z = slot-stage (a .p) (a .work .now) (a .slot) (c .before .before .before .before .before .before .before .before .before .before .before .before .before .before .wide .ensures) y in
     let told = w .ensures th T z mem in
     let z′ = stage-same z (told .low) (w .kept .1 .1 .1 .0) in
     let f : Free (a .slot + 961) 1 = omega (arith, P .5) in
@@ -1552,12 +1527,12 @@ via-returns-3 t c = let P = c .before .before .before .before .before .before .b
     let played = s .ensures th T _ (stage-setting z′ f) (P .2) (z .tabled .some) in
     told-no (λ q l. played .only .low q l ∙ told .low q l) (λ q l. step-high z′ 0 played f long q l ∙ told .high q l) (step-memory z′ 0 played f long (told .memory)) (λ g. step-none z′ 0 played f long (c .if3 .taken) (g .0) (g .1))
 
--- src/explain.rt:197:36
+-- src/explain.rt:196:36
 via-add-extends : (t : ℕ) → via-lts.Need-add-extends (
   wide-reads.Asked,
   wide-reads.Learnt,
-  holds-reads.Asked,
-  holds-reads.Learnt,
+  promising-reads.Asked,
+  promising-reads.Learnt,
   allowed-below t,
   allowed.Post,
   step-slot-reads.Asked,
@@ -1565,14 +1540,14 @@ via-add-extends : (t : ℕ) → via-lts.Need-add-extends (
   extends-below t,
   extends.Post,
 ) (via-at t) via.Post
-via-add-extends t c = omega (arith, c .before .before .before .before .before .before .before .before .before .before .before .before .before .before .before .before .before .before .before .before .before .pre .1 .5)
+via-add-extends t c = omega (arith, c .before .before .before .before .before .before .before .before .before .before .before .before .before .before .before .before .before .before .before .before .pre .1 .5)
 
--- src/explain.rt:197:5
+-- src/explain.rt:196:5
 via-extends-requires : (t : ℕ) → via-lts.Need-extends-requires (
   wide-reads.Asked,
   wide-reads.Learnt,
-  holds-reads.Asked,
-  holds-reads.Learnt,
+  promising-reads.Asked,
+  promising-reads.Learnt,
   allowed-below t,
   allowed.Post,
   step-slot-reads.Asked,
@@ -1580,12 +1555,13 @@ via-extends-requires : (t : ℕ) → via-lts.Need-extends-requires (
   extends-below t,
   extends.Post,
 ) (via-at t) via.Post
-via-extends-requires t c κs = let (m, P) = c .before .before .before .before .before .before .before .before .before .before .before .before .before .before .before .before .before .before .before .before .before .pre in
-    let a = c .before .before .before .before .before .before .before .before .before .before .before .before .before .before .before .before .before .before .before .before .before .args in
+via-extends-requires t c κs =
+    let (m, P) = c .before .before .before .before .before .before .before .before .before .before .before .before .before .before .before .before .before .before .before .before .pre in
+    let a = c .before .before .before .before .before .before .before .before .before .before .before .before .before .before .before .before .before .before .before .before .args in
     let (th, (T, (y, mem))) = P .0 in
     let w = c .before .before .before .before .before .before .before .before .before .allowed in
     let s = c .before .before .before .before .step-slot in
-    let z = slot-stage (a .p) (a .work .now) (a .slot) (c .before .before .before .before .before .before .before .before .before .before .before .before .before .before .before .before .wide .ensures) y in
+    let z = slot-stage (a .p) (a .work .now) (a .slot) (c .before .before .before .before .before .before .before .before .before .before .before .before .before .before .before .wide .ensures) y in
     let told = w .ensures th T z mem in
     let z′ = stage-same z (told .low) (w .kept .1 .1 .1 .0) in
     let f : Free (a .slot + 961) 1 = omega (arith, P .5) in
@@ -1598,8 +1574,8 @@ via-extends-requires t c κs = let (m, P) = c .before .before .before .before .b
 via-same-length-4 : (t : ℕ) → via-lts.Need-same-length-4 (
   wide-reads.Asked,
   wide-reads.Learnt,
-  holds-reads.Asked,
-  holds-reads.Learnt,
+  promising-reads.Asked,
+  promising-reads.Learnt,
   allowed-below t,
   allowed.Post,
   step-slot-reads.Asked,
@@ -1613,8 +1589,8 @@ via-same-length-4 t c = c .before .before .extends .kept .1 .1 .1 .0 ∙ c .befo
 via-returns-4 : (t : ℕ) → via-lts.Need-returns-4 (
   wide-reads.Asked,
   wide-reads.Learnt,
-  holds-reads.Asked,
-  holds-reads.Learnt,
+  promising-reads.Asked,
+  promising-reads.Learnt,
   allowed-below t,
   allowed.Post,
   step-slot-reads.Asked,
@@ -1622,15 +1598,16 @@ via-returns-4 : (t : ℕ) → via-lts.Need-returns-4 (
   extends-below t,
   extends.Post,
 ) (via-at t) via.Post
-via-returns-4 t c = let P = c .before .before .before .before .before .before .before .before .before .before .before .before .before .before .before .before .before .before .before .before .before .before .before .before .pre .1 in
-    let a = c .before .before .before .before .before .before .before .before .before .before .before .before .before .before .before .before .before .before .before .before .before .before .before .before .args in
+via-returns-4 t c =
+    let P = c .before .before .before .before .before .before .before .before .before .before .before .before .before .before .before .before .before .before .before .before .before .before .before .pre .1 in
+    let a = c .before .before .before .before .before .before .before .before .before .before .before .before .before .before .before .before .before .before .before .before .before .before .before .args in
     let w = c .before .before .before .before .before .before .before .before .before .before .before .before .allowed in
     let s = c .before .before .before .before .before .before .before .step-slot in
     let zero : s .result ≡ 0 = omega (arith, c .before .before .before .before .if3 .left) in
     let f : Free (a .slot + 961) 1 = omega (arith, P .5) in
     let long = s .kept .1 .1 .1 .1 .0 in
     λ th T y mem.
-    let z = slot-stage (a .p) (a .work .now) (a .slot) (c .before .before .before .before .before .before .before .before .before .before .before .before .before .before .before .before .before .before .before .wide .ensures) y in
+    let z = slot-stage (a .p) (a .work .now) (a .slot) (c .before .before .before .before .before .before .before .before .before .before .before .before .before .before .before .before .before .before .wide .ensures) y in
     let told = w .ensures th T z mem in
     let z′ = stage-same z (told .low) (w .kept .1 .1 .1 .0) in
     let played = s .ensures th T _ (stage-setting z′ f) (P .2) (z .tabled .some) in
@@ -1767,8 +1744,8 @@ pub +allowed+explained+extends+extends-by+fine+via-spec : {M : Type 1} → state
     λ t. via-lts.spec (
       wide-reads.Asked,
       wide-reads.Learnt,
-      holds-reads.Asked,
-      holds-reads.Learnt,
+      promising-reads.Asked,
+      promising-reads.Learnt,
       allowed-below t,
       allowed.Post,
       step-slot-reads.Asked,
@@ -1778,17 +1755,15 @@ pub +allowed+explained+extends+extends-by+fine+via-spec : {M : Type 1} → state
     )
     (via-at t)
     via.Post
-    (via-add-holds t)
+    (via-add-promising t)
     (via-slice-read-wide t)
     (via-wide-requires t)
-    (via-add-holds-2 t)
-    (via-mul-holds t)
-    (via-mul-holds-2 t)
-    (via-shared-slice-read-holds t)
-    (via-holds-requires t)
+    (via-add-allowed t)
+    (via-add-promising-2 t)
+    (via-promising-requires t)
     (via-same-length t)
     (via-returns t)
-    (via-add-allowed t)
+    (via-add-allowed-2 t)
     (via-allowed-requires t)
     (via-same-length-2 t)
     (via-returns-2 t)

@@ -2,7 +2,7 @@
 use mathlib.Core.Path.{_≡_, sym, _∙_}
 use native.Mathlib.Omega.{arith}
 use borrow.Author.Needs.{needs}
-use Rattle.planner.proofs.Looking.{look-acted, look-judged, test-inside, pass-open, pass-moved, pass-still}
+use Rattle.planner.proofs.Looking.{test-inside, pass-open, pass-moved, pass-still}
 use Rattle.planner.proofs.look.could_pass.Statement.{statement}
 use Rattle.planner.proofs.look.could_pass.Tie as tie
 

@@ -1,5 +1,4 @@
 -- Its condition fails, or it is the last action and nothing could exceed. Assumes nothing.
-use mathlib.Core.Path.{_≡_}
 use native.Mathlib.Omega.{arith}
 use borrow.Author.Needs.{needs}
 use borrow.Author.Tests.{not-true}

@@ -17,8 +17,8 @@ use Rattle.planner.specs.Inner.Lists.{slotTable, Ends, EndsBy}
 use Rattle.planner.specs.Inner.Memory.{Memory}
 use Rattle.planner.specs.Inner.Explain.{Stage, Free}
 use Rattle.planner.specs.Inner.Search.{Best, Trail}
-use Rattle.planner.proofs.Telling.{stage-same, stage-setting, stage-condition, stage-forbidden, step-high, step-memory, step-none, nextTable, next-plays, next-stage, consent-place, slot-stage, slot-same, stage-slotted, stage-state, known, note}
-use Rattle.planner.proofs.Completing.{best-none, best-noted, best-same, fact-of-none, trail-step, trail-same, trail-repeats, best-end, best-first, best-no, best-by, best-by-none, agreed-from, agreed-to}
+use Rattle.planner.proofs.Telling.{stage-same, stage-setting, stage-tryable, stage-hopeless, step-high, step-memory, step-none, nextTable, next-plays, next-stage, slot-stage, slot-same, stage-slotted, stage-state, known, note}
+use Rattle.planner.proofs.Completing.{best-none, best-noted, best-same, fact-of-none, trail-step, trail-same, trail-repeats, best-end, best-first, best-no, best-hopeless, best-by, best-by-none, agreed-from, agreed-to}
 use borrow.Fn.Kinds.{In}
 use borrow.Fn.PlainCycle.{Measures, is, falls, and}
 use Rattle.planner.proofs.search.completes.Reads as completes
@@ -30,9 +30,9 @@ use Rattle.planner.proofs.search.+completes+completes_after+completes_b
 use Rattle.planner.proofs.search.completes_by.Reads as completes-by
 use Rattle.planner.proofs.search.completes_by.Kinds as completes-by-kinds
 use Rattle.planner.proofs.search.+completes+completes_after+completes_by.Lts-completes_by as completes-by-lts
-use Rattle.pack.proofs.judge.holds.Reads as holds-reads
-use Rattle.reading.proofs.number.wide.Reads as wide-reads
+use Rattle.pack.proofs.number.wide.Reads as wide-reads
 use Rattle.planner.proofs.explain.allowed.Reads as allowed-reads
+use Rattle.planner.proofs.look.promising.Reads as promising-reads
 use Rattle.planner.proofs.memory.entry_of.Reads as entry-of-reads
 use Rattle.planner.proofs.memory.recall.Reads as recall-reads
 use Rattle.planner.proofs.memory.remember.Reads as remember-reads
@@ -551,11 +551,11 @@ completes-after-returns-2 t c = let a = c .before .before .before .before .befor
     (best-none (a .list .now) low high (rest th T y mem trail .0) (best-no th (a .k .0) (a .e .0) (a .base) s (λ x g. rest th T y mem trail .1 x (omega (arith, g, y .theorized .found .actions, c .if1 .left)))))
 
 -- src/search.rt:184:15
-completes-by-add-holds : (t : ℕ) → completes-by-lts.Need-add-holds (
+completes-by-add-allowed : (t : ℕ) → completes-by-lts.Need-add-allowed (
   wide-reads.Asked,
   wide-reads.Learnt,
-  holds-reads.Asked,
-  holds-reads.Learnt,
+  promising-reads.Asked,
+  promising-reads.Learnt,
   allowed-reads.Asked,
   allowed-reads.Learnt,
   step-slot-reads.Asked,
@@ -563,14 +563,14 @@ completes-by-add-holds : (t : ℕ) → completes-by-lts.Need-add-holds (
   completes-below t,
   completes.Post,
 ) (completes-by-at t) completes-by.Post
-completes-by-add-holds t c = omega (arith, c .before .before .before .before .pre .1 .4)
+completes-by-add-allowed t c = let (th, (T, (y, mem, trail))) = c .before .before .before .before .pre .1 .0 in omega (arith, small (y .tabled))
 
 -- src/search.rt:185:21
 completes-by-slice-read-wide : (t : ℕ) → completes-by-lts.Need-slice-read-wide (
   wide-reads.Asked,
   wide-reads.Learnt,
-  holds-reads.Asked,
-  holds-reads.Learnt,
+  promising-reads.Asked,
+  promising-reads.Learnt,
   allowed-reads.Asked,
   allowed-reads.Learnt,
   step-slot-reads.Asked,
@@ -584,8 +584,8 @@ completes-by-slice-read-wide t c = let (th, (T, (y, mem, trail))) = c .before .b
 completes-by-wide-requires : (t : ℕ) → completes-by-lts.Need-wide-requires (
   wide-reads.Asked,
   wide-reads.Learnt,
-  holds-reads.Asked,
-  holds-reads.Learnt,
+  promising-reads.Asked,
+  promising-reads.Learnt,
   allowed-reads.Asked,
   allowed-reads.Learnt,
   step-slot-reads.Asked,
@@ -596,11 +596,11 @@ completes-by-wide-requires : (t : ℕ) → completes-by-lts.Need-wide-requires (
 completes-by-wide-requires t c κs = search needs
 
 -- src/search.rt:188:16
-completes-by-add-holds-2 : (t : ℕ) → completes-by-lts.Need-add-holds-2 (
+completes-by-add-t21 : (t : ℕ) → completes-by-lts.Need-add-t21 (
   wide-reads.Asked,
   wide-reads.Learnt,
-  holds-reads.Asked,
-  holds-reads.Learnt,
+  promising-reads.Asked,
+  promising-reads.Learnt,
   allowed-reads.Asked,
   allowed-reads.Learnt,
   step-slot-reads.Asked,
@@ -608,59 +608,14 @@ completes-by-add-holds-2 : (t : ℕ) → completes-by-lts.Need-add-holds-2 (
   completes-below t,
   completes.Post,
 ) (completes-by-at t) completes-by.Post
-completes-by-add-holds-2 t c = let (th, (T, (y, mem, trail))) = c .before .before .before .before .before .before .before .pre .1 .0 in omega (arith, small (y .tabled))
-
--- src/search.rt:190:34
-completes-by-mul-holds : (t : ℕ) → completes-by-lts.Need-mul-holds (
-  wide-reads.Asked,
-  wide-reads.Learnt,
-  holds-reads.Asked,
-  holds-reads.Learnt,
-  allowed-reads.Asked,
-  allowed-reads.Learnt,
-  step-slot-reads.Asked,
-  step-slot-reads.Learnt,
-  completes-below t,
-  completes.Post,
-) (completes-by-at t) completes-by.Post
-completes-by-mul-holds t c = let (th, (T, (y, mem, trail))) = c .before .before .before .before .before .before .before .pre .1 .0 in omega (arith, consent-place y _ (c .before .before .before .before .before .before .before .pre .1 .1))
-
--- src/search.rt:190:27
-completes-by-mul-holds-2 : (t : ℕ) → completes-by-lts.Need-mul-holds-2 (
-  wide-reads.Asked,
-  wide-reads.Learnt,
-  holds-reads.Asked,
-  holds-reads.Learnt,
-  allowed-reads.Asked,
-  allowed-reads.Learnt,
-  step-slot-reads.Asked,
-  step-slot-reads.Learnt,
-  completes-below t,
-  completes.Post,
-) (completes-by-at t) completes-by.Post
-completes-by-mul-holds-2 t c = let (th, (T, (y, mem, trail))) = c .before .before .before .before .before .before .before .pre .1 .0 in omega (arith, consent-place y _ (c .before .before .before .before .before .before .before .pre .1 .1))
-
--- src/search.rt:190:27
-completes-by-shared-slice-read-holds : (t : ℕ) → completes-by-lts.Need-shared-slice-read-holds (
-  wide-reads.Asked,
-  wide-reads.Learnt,
-  holds-reads.Asked,
-  holds-reads.Learnt,
-  allowed-reads.Asked,
-  allowed-reads.Learnt,
-  step-slot-reads.Asked,
-  step-slot-reads.Learnt,
-  completes-below t,
-  completes.Post,
-) (completes-by-at t) completes-by.Post
-completes-by-shared-slice-read-holds t c = let (th, (T, (y, mem, trail))) = c .before .before .before .before .before .before .before .before .pre .1 .0 in omega (arith, consent-place y _ (c .before .before .before .before .before .before .before .before .pre .1 .1))
+completes-by-add-t21 t c = omega (arith, c .before .before .before .before .before .before .before .pre .1 .4)
 
 -- src/search.rt:190:9
-completes-by-holds-requires : (t : ℕ) → completes-by-lts.Need-holds-requires (
+completes-by-promising-requires : (t : ℕ) → completes-by-lts.Need-promising-requires (
   wide-reads.Asked,
   wide-reads.Learnt,
-  holds-reads.Asked,
-  holds-reads.Learnt,
+  promising-reads.Asked,
+  promising-reads.Learnt,
   allowed-reads.Asked,
   allowed-reads.Learnt,
   step-slot-reads.Asked,
@@ -668,18 +623,18 @@ completes-by-holds-requires : (t : ℕ) → completes-by-lts.Need-holds-requires
   completes-below t,
   completes.Post,
 ) (completes-by-at t) completes-by.Post
-completes-by-holds-requires t c κs = let P = c .before .before .before .before .before .before .before .before .before .pre .1 in
-    let a = c .before .before .before .before .before .before .before .before .before .args in
+completes-by-promising-requires t c κs =
+    let P = c .before .before .before .before .before .before .before .before .pre .1 in
+    let a = c .before .before .before .before .before .before .before .before .args in
     let (th, (T, (y, mem, trail))) = P .0 in
-    let z = slot-stage (a .p) (a .work .now) (a .slot) (c .before .before .before .wide .ensures) y in
-    stage-condition z (omega (arith, P .4)) 0 (a .x) (P .1) (z .tabled .some)
+    stage-tryable (slot-stage (a .p) (a .work .now) (a .slot) (c .before .before .wide .ensures) y) (P .1) (omega arith)
 
--- src/search.rt:192:9
+-- src/search.rt:191:9
 completes-by-same-length : (t : ℕ) → completes-by-lts.Need-same-length (
   wide-reads.Asked,
   wide-reads.Learnt,
-  holds-reads.Asked,
-  holds-reads.Learnt,
+  promising-reads.Asked,
+  promising-reads.Learnt,
   allowed-reads.Asked,
   allowed-reads.Learnt,
   step-slot-reads.Asked,
@@ -689,12 +644,12 @@ completes-by-same-length : (t : ℕ) → completes-by-lts.Need-same-length (
 ) (completes-by-at t) completes-by.Post
 completes-by-same-length t c = search needs
 
--- src/search.rt:192:9
+-- src/search.rt:191:9
 completes-by-returns : (t : ℕ) → completes-by-lts.Need-returns (
   wide-reads.Asked,
   wide-reads.Learnt,
-  holds-reads.Asked,
-  holds-reads.Learnt,
+  promising-reads.Asked,
+  promising-reads.Learnt,
   allowed-reads.Asked,
   allowed-reads.Learnt,
   step-slot-reads.Asked,
@@ -702,19 +657,20 @@ completes-by-returns : (t : ℕ) → completes-by-lts.Need-returns (
   completes-below t,
   completes.Post,
 ) (completes-by-at t) completes-by.Post
-completes-by-returns t c = let P = c .before .before .before .before .before .before .before .before .before .before .before .pre .1 in
-    let a = c .before .before .before .before .before .before .before .before .before .before .before .args in
-    let h = c .before .holds in
+completes-by-returns t c =
+    let P = c .before .before .before .before .before .before .before .before .before .before .pre .1 in
+    let a = c .before .before .before .before .before .before .before .before .before .before .args in
+    let w = c .before .promising in
     λ th T y mem trail.
-    let z = slot-stage (a .p) (a .work .now) (a .slot) (c .before .before .before .before .before .wide .ensures) y in
-    best-none _ (λ q l. refl) (λ q l. refl) mem (λ l v q g. stage-forbidden z (omega (arith, P .4)) 0 (a .x) (P .1) (z .tabled .some) (h .ensures) (not-true (h .result) (c .if1 .taken)) (g .2 .0) (g .2 .1))
+    let z = slot-stage (a .p) (a .work .now) (a .slot) (c .before .before .before .before .wide .ensures) y in
+    best-none _ (λ q l. refl) (λ q l. refl) mem (best-hopeless th (a .k .0) (a .e .0) (a .base) (meaning (a .p .characters) T 0) (a .x) (stage-hopeless z (P .1) 0 (w .ensures (not-true (w .result) (c .if1 .taken)))))
 
--- src/search.rt:201:9
-completes-by-add-allowed : (t : ℕ) → completes-by-lts.Need-add-allowed (
+-- src/search.rt:200:9
+completes-by-add-allowed-2 : (t : ℕ) → completes-by-lts.Need-add-allowed-2 (
   wide-reads.Asked,
   wide-reads.Learnt,
-  holds-reads.Asked,
-  holds-reads.Learnt,
+  promising-reads.Asked,
+  promising-reads.Learnt,
   allowed-reads.Asked,
   allowed-reads.Learnt,
   step-slot-reads.Asked,
@@ -722,14 +678,14 @@ completes-by-add-allowed : (t : ℕ) → completes-by-lts.Need-add-allowed (
   completes-below t,
   completes.Post,
 ) (completes-by-at t) completes-by.Post
-completes-by-add-allowed t c = omega (arith, c .before .before .before .before .before .before .before .before .before .before .before .before .pre .1 .4)
+completes-by-add-allowed-2 t c = omega (arith, c .before .before .before .before .before .before .before .before .before .before .before .pre .1 .4)
 
--- src/search.rt:194:9
+-- src/search.rt:193:9
 completes-by-allowed-requires : (t : ℕ) → completes-by-lts.Need-allowed-requires (
   wide-reads.Asked,
   wide-reads.Learnt,
-  holds-reads.Asked,
-  holds-reads.Learnt,
+  promising-reads.Asked,
+  promising-reads.Learnt,
   allowed-reads.Asked,
   allowed-reads.Learnt,
   step-slot-reads.Asked,
@@ -737,18 +693,19 @@ completes-by-allowed-requires : (t : ℕ) → completes-by-lts.Need-allowed-requ
   completes-below t,
   completes.Post,
 ) (completes-by-at t) completes-by.Post
-completes-by-allowed-requires t c κs = let P = c .before .before .before .before .before .before .before .before .before .before .before .before .pre .1 in
-    let a = c .before .before .before .before .before .before .before .before .before .before .before .before .args in
+completes-by-allowed-requires t c κs =
+    let P = c .before .before .before .before .before .before .before .before .before .before .before .pre .1 in
+    let a = c .before .before .before .before .before .before .before .before .before .before .before .args in
     let (th, (T, (y, mem, trail))) = P .0 in
-    let z = slot-stage (a .p) (a .work .now) (a .slot) (c .before .before .before .before .before .before .wide .ensures) y in
+    let z = slot-stage (a .p) (a .work .now) (a .slot) (c .before .before .before .before .before .wide .ensures) y in
     ((th, (T, (z, mem))), z .tabled .some, P .1, P .2, P .3, omega (arith, P .4))
 
--- src/search.rt:208:9
+-- src/search.rt:207:9
 completes-by-same-length-2 : (t : ℕ) → completes-by-lts.Need-same-length-2 (
   wide-reads.Asked,
   wide-reads.Learnt,
-  holds-reads.Asked,
-  holds-reads.Learnt,
+  promising-reads.Asked,
+  promising-reads.Learnt,
   allowed-reads.Asked,
   allowed-reads.Learnt,
   step-slot-reads.Asked,
@@ -758,12 +715,12 @@ completes-by-same-length-2 : (t : ℕ) → completes-by-lts.Need-same-length-2 (
 ) (completes-by-at t) completes-by.Post
 completes-by-same-length-2 t c = search needs
 
--- src/search.rt:208:9
+-- src/search.rt:207:9
 completes-by-returns-2 : (t : ℕ) → completes-by-lts.Need-returns-2 (
   wide-reads.Asked,
   wide-reads.Learnt,
-  holds-reads.Asked,
-  holds-reads.Learnt,
+  promising-reads.Asked,
+  promising-reads.Learnt,
   allowed-reads.Asked,
   allowed-reads.Learnt,
   step-slot-reads.Asked,
@@ -771,19 +728,20 @@ completes-by-returns-2 : (t : ℕ) → completes-by-lts.Need-returns-2 (
   completes-below t,
   completes.Post,
 ) (completes-by-at t) completes-by.Post
-completes-by-returns-2 t c = let P = c .before .before .before .before .before .before .before .before .before .before .before .before .before .before .before .before .pre .1 in
-    let a = c .before .before .before .before .before .before .before .before .before .before .before .before .before .before .before .before .args in
+completes-by-returns-2 t c =
+    let P = c .before .before .before .before .before .before .before .before .before .before .before .before .before .before .before .pre .1 in
+    let a = c .before .before .before .before .before .before .before .before .before .before .before .before .before .before .before .args in
     let w = c .before .before .before .allowed in
     λ th T y mem trail.
-    let told = w .ensures th T (slot-stage (a .p) (a .work .now) (a .slot) (c .before .before .before .before .before .before .before .before .before .before .wide .ensures) y) mem in
+    let told = w .ensures th T (slot-stage (a .p) (a .work .now) (a .slot) (c .before .before .before .before .before .before .before .before .before .wide .ensures) y) mem in
     best-none _ (told .low) (told .high) (told .memory) (λ l v q g. told .complete (not-true (w .result) (c .if2 .taken)) (agreed-to y (a .k .0) (a .e .0) (a .x) (P .1) (meaning (a .p .characters) T 0) (g .2 .2)))
 
--- src/search.rt:210:69
+-- src/search.rt:209:69
 completes-by-add-step-slot : (t : ℕ) → completes-by-lts.Need-add-step-slot (
   wide-reads.Asked,
   wide-reads.Learnt,
-  holds-reads.Asked,
-  holds-reads.Learnt,
+  promising-reads.Asked,
+  promising-reads.Learnt,
   allowed-reads.Asked,
   allowed-reads.Learnt,
   step-slot-reads.Asked,
@@ -791,14 +749,14 @@ completes-by-add-step-slot : (t : ℕ) → completes-by-lts.Need-add-step-slot (
   completes-below t,
   completes.Post,
 ) (completes-by-at t) completes-by.Post
-completes-by-add-step-slot t c = let (th, (T, (y, mem, trail))) = c .before .before .before .before .before .before .before .before .before .before .before .before .before .before .before .before .before .pre .1 .0 in omega (arith, small (y .tabled))
+completes-by-add-step-slot t c = let (th, (T, (y, mem, trail))) = c .before .before .before .before .before .before .before .before .before .before .before .before .before .before .before .before .pre .1 .0 in omega (arith, small (y .tabled))
 
--- src/search.rt:210:9
+-- src/search.rt:209:9
 completes-by-step-slot-requires : (t : ℕ) → completes-by-lts.Need-step-slot-requires (
   wide-reads.Asked,
   wide-reads.Learnt,
-  holds-reads.Asked,
-  holds-reads.Learnt,
+  promising-reads.Asked,
+  promising-reads.Learnt,
   allowed-reads.Asked,
   allowed-reads.Learnt,
   step-slot-reads.Asked,
@@ -806,20 +764,21 @@ completes-by-step-slot-requires : (t : ℕ) → completes-by-lts.Need-step-slot-
   completes-below t,
   completes.Post,
 ) (completes-by-at t) completes-by.Post
-completes-by-step-slot-requires t c κs = let P = c .before .before .before .before .before .before .before .before .before .before .before .before .before .before .before .before .before .pre .1 in
-    let a = c .before .before .before .before .before .before .before .before .before .before .before .before .before .before .before .before .before .args in
+completes-by-step-slot-requires t c κs =
+    let P = c .before .before .before .before .before .before .before .before .before .before .before .before .before .before .before .before .pre .1 in
+    let a = c .before .before .before .before .before .before .before .before .before .before .before .before .before .before .before .before .args in
     let (th, (T, (y, mem, trail))) = P .0 in
-    let z = slot-stage (a .p) (a .work .now) (a .slot) (c .before .before .before .before .before .before .before .before .before .before .before .wide .ensures) y in
+    let z = slot-stage (a .p) (a .work .now) (a .slot) (c .before .before .before .before .before .before .before .before .before .before .wide .ensures) y in
     let w = c .before .before .before .before .allowed in
     let told = w .ensures th T z mem in
     (th, (T, (_, (stage-setting (stage-same z (told .low) (w .kept .1 .1 .1 .0)) (omega (arith, P .4)), P .1, z .tabled .some))))
 
--- src/search.rt:212:9
+-- src/search.rt:211:9
 completes-by-same-length-3 : (t : ℕ) → completes-by-lts.Need-same-length-3 (
   wide-reads.Asked,
   wide-reads.Learnt,
-  holds-reads.Asked,
-  holds-reads.Learnt,
+  promising-reads.Asked,
+  promising-reads.Learnt,
   allowed-reads.Asked,
   allowed-reads.Learnt,
   step-slot-reads.Asked,
@@ -829,12 +788,12 @@ completes-by-same-length-3 : (t : ℕ) → completes-by-lts.Need-same-length-3 (
 ) (completes-by-at t) completes-by.Post
 completes-by-same-length-3 t c = c .before .before .before .step-slot .kept .1 .1 .1 .1 .0 ∙ c .before .before .before .before .before .before .before .before .allowed .kept .1 .1 .1 .0
 
--- src/search.rt:212:9
+-- src/search.rt:211:9
 completes-by-returns-3 : (t : ℕ) → completes-by-lts.Need-returns-3 (
   wide-reads.Asked,
   wide-reads.Learnt,
-  holds-reads.Asked,
-  holds-reads.Learnt,
+  promising-reads.Asked,
+  promising-reads.Learnt,
   allowed-reads.Asked,
   allowed-reads.Learnt,
   step-slot-reads.Asked,
@@ -842,12 +801,13 @@ completes-by-returns-3 : (t : ℕ) → completes-by-lts.Need-returns-3 (
   completes-below t,
   completes.Post,
 ) (completes-by-at t) completes-by.Post
-completes-by-returns-3 t c = let P = c .before .before .before .before .before .before .before .before .before .before .before .before .before .before .before .before .before .before .before .before .before .pre .1 in
-    let a = c .before .before .before .before .before .before .before .before .before .before .before .before .before .before .before .before .before .before .before .before .before .args in
+completes-by-returns-3 t c =
+    let P = c .before .before .before .before .before .before .before .before .before .before .before .before .before .before .before .before .before .before .before .before .pre .1 in
+    let a = c .before .before .before .before .before .before .before .before .before .before .before .before .before .before .before .before .before .before .before .before .args in
     let w = c .before .before .before .before .before .before .before .before .allowed in
     let s = c .before .before .before .step-slot in
     λ th T y mem trail.
-    let z = slot-stage (a .p) (a .work .now) (a .slot) (c .before .before .before .before .before .before .before .before .before .before .before .before .before .before .before .wide .ensures) y in
+    let z = slot-stage (a .p) (a .work .now) (a .slot) (c .before .before .before .before .before .before .before .before .before .before .before .before .before .before .wide .ensures) y in
     let told = w .ensures th T z mem in
     let z′ = stage-same z (told .low) (w .kept .1 .1 .1 .0) in
     let f : Free (a .slot + 961) 1 = omega (arith, P .4) in
@@ -855,12 +815,12 @@ completes-by-returns-3 t c = let P = c .before .before .before .before .before .
     let played = s .ensures th T _ (stage-setting z′ f) (P .1) (z .tabled .some) in
     best-none _ (λ q l. played .only .low q l ∙ told .low q l) (λ q l. step-high z′ 0 played f long q l ∙ told .high q l) (step-memory z′ 0 played f long (told .memory)) (λ l v q g. step-none z′ 0 played f long (c .if3 .taken) (g .2 .0) (g .2 .1))
 
--- src/search.rt:219:9
+-- src/search.rt:218:9
 completes-by-add-completes : (t : ℕ) → completes-by-lts.Need-add-completes (
   wide-reads.Asked,
   wide-reads.Learnt,
-  holds-reads.Asked,
-  holds-reads.Learnt,
+  promising-reads.Asked,
+  promising-reads.Learnt,
   allowed-reads.Asked,
   allowed-reads.Learnt,
   step-slot-reads.Asked,
@@ -868,14 +828,14 @@ completes-by-add-completes : (t : ℕ) → completes-by-lts.Need-add-completes (
   completes-below t,
   completes.Post,
 ) (completes-by-at t) completes-by.Post
-completes-by-add-completes t c = omega (arith, c .before .before .before .before .before .before .before .before .before .before .before .before .before .before .before .before .before .before .before .before .before .before .pre .1 .4)
+completes-by-add-completes t c = omega (arith, c .before .before .before .before .before .before .before .before .before .before .before .before .before .before .before .before .before .before .before .before .before .pre .1 .4)
 
--- src/search.rt:221:9
+-- src/search.rt:220:9
 completes-by-add-completes-2 : (t : ℕ) → completes-by-lts.Need-add-completes-2 (
   wide-reads.Asked,
   wide-reads.Learnt,
-  holds-reads.Asked,
-  holds-reads.Learnt,
+  promising-reads.Asked,
+  promising-reads.Learnt,
   allowed-reads.Asked,
   allowed-reads.Learnt,
   step-slot-reads.Asked,
@@ -883,14 +843,14 @@ completes-by-add-completes-2 : (t : ℕ) → completes-by-lts.Need-add-completes
   completes-below t,
   completes.Post,
 ) (completes-by-at t) completes-by.Post
-completes-by-add-completes-2 t c = omega (arith, c .before .before .before .before .before .before .before .before .before .before .before .before .before .before .before .before .before .before .before .before .before .before .before .pre .1 .5, c .before .before .before .before .before .before .before .before .before .before .before .before .before .before .before .before .before .before .before .before .before .before .before .good .1 .1 .1 .1 .1 .0 .0)
+completes-by-add-completes-2 t c = omega (arith, c .before .before .before .before .before .before .before .before .before .before .before .before .before .before .before .before .before .before .before .before .before .before .pre .1 .5, c .before .before .before .before .before .before .before .before .before .before .before .before .before .before .before .before .before .before .before .before .before .before .good .1 .1 .1 .1 .1 .0 .0)
 
--- src/search.rt:214:9
+-- src/search.rt:213:9
 completes-by-completes-requires : (t : ℕ) → completes-by-lts.Need-completes-requires (
   wide-reads.Asked,
   wide-reads.Learnt,
-  holds-reads.Asked,
-  holds-reads.Learnt,
+  promising-reads.Asked,
+  promising-reads.Learnt,
   allowed-reads.Asked,
   allowed-reads.Learnt,
   step-slot-reads.Asked,
@@ -898,12 +858,13 @@ completes-by-completes-requires : (t : ℕ) → completes-by-lts.Need-completes-
   completes-below t,
   completes.Post,
 ) (completes-by-at t) completes-by.Post
-completes-by-completes-requires t c κs = let (m, P) = c .before .before .before .before .before .before .before .before .before .before .before .before .before .before .before .before .before .before .before .before .before .before .before .pre in
-    let a = c .before .before .before .before .before .before .before .before .before .before .before .before .before .before .before .before .before .before .before .before .before .before .before .args in
+completes-by-completes-requires t c κs =
+    let (m, P) = c .before .before .before .before .before .before .before .before .before .before .before .before .before .before .before .before .before .before .before .before .before .before .pre in
+    let a = c .before .before .before .before .before .before .before .before .before .before .before .before .before .before .before .before .before .before .before .before .before .before .args in
     let (th, (T, (y, mem, trail))) = P .0 in
     let w = c .before .before .before .before .before .before .before .before .before .before .allowed in
     let s = c .before .before .before .before .before .step-slot in
-    let z = slot-stage (a .p) (a .work .now) (a .slot) (c .before .before .before .before .before .before .before .before .before .before .before .before .before .before .before .before .before .wide .ensures) y in
+    let z = slot-stage (a .p) (a .work .now) (a .slot) (c .before .before .before .before .before .before .before .before .before .before .before .before .before .before .before .before .wide .ensures) y in
     let told = w .ensures th T z mem in
     let z′ = stage-same z (told .low) (w .kept .1 .1 .1 .0) in
     let f : Free (a .slot + 961) 1 = omega (arith, P .4) in
@@ -915,12 +876,12 @@ completes-by-completes-requires t c κs = let (m, P) = c .before .before .before
     let next = trail-step (a .slot) y (a .k .0) (a .e .0) (a .base) trail (P .6) (omega (arith, P .4)) (s .last .1 .1 .1 .1 .0) (λ q l. played .only .low q l ∙ told .low q l) (long ∙ w .kept .1 .1 .1 .0) plays agreed in
     (omega (arith, m), ((th, (nextTable z′ 0 played f long zero, (next-stage z′ 0 played f long zero, step-memory z′ 0 played f long (told .memory), next))), P .2, P .3, omega (arith, P .4), omega (arith, P .5), omega (arith, P .6)))
 
--- src/search.rt:228:22
+-- src/search.rt:227:22
 completes-by-cast-list : (t : ℕ) → completes-by-lts.Need-cast-list (
   wide-reads.Asked,
   wide-reads.Learnt,
-  holds-reads.Asked,
-  holds-reads.Learnt,
+  promising-reads.Asked,
+  promising-reads.Learnt,
   allowed-reads.Asked,
   allowed-reads.Learnt,
   step-slot-reads.Asked,
@@ -928,14 +889,14 @@ completes-by-cast-list : (t : ℕ) → completes-by-lts.Need-cast-list (
   completes-below t,
   completes.Post,
 ) (completes-by-at t) completes-by.Post
-completes-by-cast-list t c = let (th, (T, (y, mem, trail))) = c .before .before .before .before .before .before .before .before .before .before .before .before .before .before .before .before .before .before .before .before .before .before .before .before .before .before .before .before .before .pre .1 .0 in omega (arith, c .before .before .before .before .before .before .before .before .before .before .before .before .before .before .before .before .before .before .before .before .before .before .before .before .before .before .before .before .before .pre .1 .1, y .theorized .found .mostActions)
+completes-by-cast-list t c = let (th, (T, (y, mem, trail))) = c .before .before .before .before .before .before .before .before .before .before .before .before .before .before .before .before .before .before .before .before .before .before .before .before .before .before .before .before .pre .1 .0 in omega (arith, c .before .before .before .before .before .before .before .before .before .before .before .before .before .before .before .before .before .before .before .before .before .before .before .before .before .before .before .before .pre .1 .1, y .theorized .found .mostActions)
 
--- src/search.rt:228:9
+-- src/search.rt:227:9
 completes-by-slice-write-list : (t : ℕ) → completes-by-lts.Need-slice-write-list (
   wide-reads.Asked,
   wide-reads.Learnt,
-  holds-reads.Asked,
-  holds-reads.Learnt,
+  promising-reads.Asked,
+  promising-reads.Learnt,
   allowed-reads.Asked,
   allowed-reads.Learnt,
   step-slot-reads.Asked,
@@ -943,14 +904,14 @@ completes-by-slice-write-list : (t : ℕ) → completes-by-lts.Need-slice-write-
   completes-below t,
   completes.Post,
 ) (completes-by-at t) completes-by.Post
-completes-by-slice-write-list t c = omega (arith, c .before .before .before .before .before .before .before .before .before .before .before .before .before .before .before .before .before .before .before .before .before .before .before .before .before .before .before .before .before .pre .1 .5, c .before .before .before .before .before .completes .kept .1 .1 .1 .1 .1 .0)
+completes-by-slice-write-list t c = omega (arith, c .before .before .before .before .before .before .before .before .before .before .before .before .before .before .before .before .before .before .before .before .before .before .before .before .before .before .before .before .pre .1 .5, c .before .before .before .before .before .completes .kept .1 .1 .1 .1 .1 .0)
 
 -- src/search.rt:166:1
 completes-by-same-length-4 : (t : ℕ) → completes-by-lts.Need-same-length-4 (
   wide-reads.Asked,
   wide-reads.Learnt,
-  holds-reads.Asked,
-  holds-reads.Learnt,
+  promising-reads.Asked,
+  promising-reads.Learnt,
   allowed-reads.Asked,
   allowed-reads.Learnt,
   step-slot-reads.Asked,
@@ -964,8 +925,8 @@ completes-by-same-length-4 t c = c .before .before .before .before .before .comp
 completes-by-same-length-5 : (t : ℕ) → completes-by-lts.Need-same-length-5 (
   wide-reads.Asked,
   wide-reads.Learnt,
-  holds-reads.Asked,
-  holds-reads.Learnt,
+  promising-reads.Asked,
+  promising-reads.Learnt,
   allowed-reads.Asked,
   allowed-reads.Learnt,
   step-slot-reads.Asked,
@@ -973,14 +934,14 @@ completes-by-same-length-5 : (t : ℕ) → completes-by-lts.Need-same-length-5 (
   completes-below t,
   completes.Post,
 ) (completes-by-at t) completes-by.Post
-completes-by-same-length-5 t c = length-set {A = ℕ} (c .before .before .before .before .before .completes .last .1 .1 .1 .1 .1 .0) (c .before .before .before .before .before .before .before .before .before .before .before .before .before .before .before .before .before .before .before .before .before .before .before .before .before .before .before .before .before .args .done) (c .before .before .before .before .before .before .before .before .before .before .before .before .before .before .before .before .before .before .before .before .before .before .before .before .before .before .before .before .before .args .x) ∙ c .before .before .before .before .before .completes .kept .1 .1 .1 .1 .1 .0
+completes-by-same-length-5 t c = length-set {A = ℕ} (c .before .before .before .before .before .completes .last .1 .1 .1 .1 .1 .0) (c .before .before .before .before .before .before .before .before .before .before .before .before .before .before .before .before .before .before .before .before .before .before .before .before .before .before .before .before .args .done) (c .before .before .before .before .before .before .before .before .before .before .before .before .before .before .before .before .before .before .before .before .before .before .before .before .before .before .before .before .args .x) ∙ c .before .before .before .before .before .completes .kept .1 .1 .1 .1 .1 .0
 
 -- src/search.rt:166:1
 completes-by-returns-4 : (t : ℕ) → completes-by-lts.Need-returns-4 (
   wide-reads.Asked,
   wide-reads.Learnt,
-  holds-reads.Asked,
-  holds-reads.Learnt,
+  promising-reads.Asked,
+  promising-reads.Learnt,
   allowed-reads.Asked,
   allowed-reads.Learnt,
   step-slot-reads.Asked,
@@ -988,8 +949,9 @@ completes-by-returns-4 : (t : ℕ) → completes-by-lts.Need-returns-4 (
   completes-below t,
   completes.Post,
 ) (completes-by-at t) completes-by.Post
-completes-by-returns-4 t c = let P = c .before .before .before .before .before .before .before .before .before .before .before .before .before .before .before .before .before .before .before .before .before .before .before .before .before .before .before .before .before .pre .1 in
-    let a = c .before .before .before .before .before .before .before .before .before .before .before .before .before .before .before .before .before .before .before .before .before .before .before .before .before .before .before .before .before .args in
+completes-by-returns-4 t c =
+    let P = c .before .before .before .before .before .before .before .before .before .before .before .before .before .before .before .before .before .before .before .before .before .before .before .before .before .before .before .before .pre .1 in
+    let a = c .before .before .before .before .before .before .before .before .before .before .before .before .before .before .before .before .before .before .before .before .before .before .before .before .before .before .before .before .args in
     let w = c .before .before .before .before .before .before .before .before .before .before .before .before .before .before .before .before .allowed in
     let s = c .before .before .before .before .before .before .before .before .before .before .before .step-slot in
     let d = c .before .before .before .before .before .completes in
@@ -997,7 +959,7 @@ completes-by-returns-4 t c = let P = c .before .before .before .before .before .
     let f : Free (a .slot + 961) 1 = omega (arith, P .4) in
     let long = s .kept .1 .1 .1 .1 .0 in
     λ th T y mem trail.
-    let z = slot-stage (a .p) (a .work .now) (a .slot) (c .before .before .before .before .before .before .before .before .before .before .before .before .before .before .before .before .before .before .before .before .before .before .before .wide .ensures) y in
+    let z = slot-stage (a .p) (a .work .now) (a .slot) (c .before .before .before .before .before .before .before .before .before .before .before .before .before .before .before .before .before .before .before .before .before .before .wide .ensures) y in
     let told = w .ensures th T z mem in
     let z′ = stage-same z (told .low) (w .kept .1 .1 .1 .0) in
     let played = s .ensures th T _ (stage-setting z′ f) (P .1) (z .tabled .some) in
@@ -1012,8 +974,8 @@ completes-by-returns-4 t c = let P = c .before .before .before .before .before .
 completes-by-same-length-6 : (t : ℕ) → completes-by-lts.Need-same-length-6 (
   wide-reads.Asked,
   wide-reads.Learnt,
-  holds-reads.Asked,
-  holds-reads.Learnt,
+  promising-reads.Asked,
+  promising-reads.Learnt,
   allowed-reads.Asked,
   allowed-reads.Learnt,
   step-slot-reads.Asked,
@@ -1027,8 +989,8 @@ completes-by-same-length-6 t c = c .before .before .before .before .before .comp
 completes-by-same-length-7 : (t : ℕ) → completes-by-lts.Need-same-length-7 (
   wide-reads.Asked,
   wide-reads.Learnt,
-  holds-reads.Asked,
-  holds-reads.Learnt,
+  promising-reads.Asked,
+  promising-reads.Learnt,
   allowed-reads.Asked,
   allowed-reads.Learnt,
   step-slot-reads.Asked,
@@ -1042,8 +1004,8 @@ completes-by-same-length-7 t c = c .before .before .before .before .before .comp
 completes-by-returns-5 : (t : ℕ) → completes-by-lts.Need-returns-5 (
   wide-reads.Asked,
   wide-reads.Learnt,
-  holds-reads.Asked,
-  holds-reads.Learnt,
+  promising-reads.Asked,
+  promising-reads.Learnt,
   allowed-reads.Asked,
   allowed-reads.Learnt,
   step-slot-reads.Asked,
@@ -1051,8 +1013,9 @@ completes-by-returns-5 : (t : ℕ) → completes-by-lts.Need-returns-5 (
   completes-below t,
   completes.Post,
 ) (completes-by-at t) completes-by.Post
-completes-by-returns-5 t c = let P = c .before .before .before .before .before .before .before .before .before .before .before .before .before .before .before .before .before .before .before .before .before .before .before .before .before .before .before .before .before .pre .1 in
-    let a = c .before .before .before .before .before .before .before .before .before .before .before .before .before .before .before .before .before .before .before .before .before .before .before .before .before .before .before .before .before .args in
+completes-by-returns-5 t c =
+    let P = c .before .before .before .before .before .before .before .before .before .before .before .before .before .before .before .before .before .before .before .before .before .before .before .before .before .before .before .before .pre .1 in
+    let a = c .before .before .before .before .before .before .before .before .before .before .before .before .before .before .before .before .before .before .before .before .before .before .before .before .before .before .before .before .args in
     let w = c .before .before .before .before .before .before .before .before .before .before .before .before .before .before .before .before .allowed in
     let s = c .before .before .before .before .before .before .before .before .before .before .before .step-slot in
     let d = c .before .before .before .before .before .completes in
@@ -1060,7 +1023,7 @@ completes-by-returns-5 t c = let P = c .before .before .before .before .before .
     let f : Free (a .slot + 961) 1 = omega (arith, P .4) in
     let long = s .kept .1 .1 .1 .1 .0 in
     λ th T y mem trail.
-    let z = slot-stage (a .p) (a .work .now) (a .slot) (c .before .before .before .before .before .before .before .before .before .before .before .before .before .before .before .before .before .before .before .before .before .before .before .wide .ensures) y in
+    let z = slot-stage (a .p) (a .work .now) (a .slot) (c .before .before .before .before .before .before .before .before .before .before .before .before .before .before .before .before .before .before .before .before .before .before .wide .ensures) y in
     let told = w .ensures th T z mem in
     let z′ = stage-same z (told .low) (w .kept .1 .1 .1 .0) in
     let played = s .ensures th T _ (stage-setting z′ f) (P .1) (z .tabled .some) in
@@ -1127,8 +1090,8 @@ pub +completes+completes-after+completes-by-spec : {M : Type 1} → statement M
     λ t. completes-by-lts.spec (
       wide-reads.Asked,
       wide-reads.Learnt,
-      holds-reads.Asked,
-      holds-reads.Learnt,
+      promising-reads.Asked,
+      promising-reads.Learnt,
       allowed-reads.Asked,
       allowed-reads.Learnt,
       step-slot-reads.Asked,
@@ -1138,17 +1101,14 @@ pub +completes+completes-after+completes-by-spec : {M : Type 1} → statement M
     )
     (completes-by-at t)
     completes-by.Post
-    (completes-by-add-holds t)
+    (completes-by-add-allowed t)
     (completes-by-slice-read-wide t)
     (completes-by-wide-requires t)
-    (completes-by-add-holds-2 t)
-    (completes-by-mul-holds t)
-    (completes-by-mul-holds-2 t)
-    (completes-by-shared-slice-read-holds t)
-    (completes-by-holds-requires t)
+    (completes-by-add-t21 t)
+    (completes-by-promising-requires t)
     (completes-by-same-length t)
     (completes-by-returns t)
-    (completes-by-add-allowed t)
+    (completes-by-add-allowed-2 t)
     (completes-by-allowed-requires t)
     (completes-by-same-length-2 t)
     (completes-by-returns-2 t)
