@@ -91,9 +91,6 @@ abbrev pub effectRun : ℕ → Run Effect Tiny
 effectRun fluent = record { part = λ k. effectAt (k .0); limit = 17; tells = λ k es. writes es fluent }
 
 module _ (s : List ℕ) (n : ℕ) (d : Dimensions) (small : Small d) (e : Effect) (g : Gives (effectAt d) s n e) (fluent : ℕ) where
-  pub effect-inside : n + 2 < length s
-  effect-inside = effect-bytes d small s n e (g .end) (g .reads) .inside
-
   pub effect-ends : g .end ≡ n + 3
   effect-ends = effect-bytes d small s n e (g .end) (g .reads) .ends
 
@@ -108,13 +105,9 @@ module _ (s : List ℕ) (n : ℕ) (d : Dimensions) (small : Small d) (e : Effect
       let y = effect-bytes d small s n e (g .end) (g .reads) in
       ap (λ (a : Bool). a && eqb (e .fluent) fluent) (sym (ne-eqb (e .whom) 0 (λ z. other (sym (y .whom) ∙ z))))
 
-  pub writes-here : {b : Bool} (rest : List Effect) → b ≡ (eqb (e .whom) 0 && eqb (e .fluent) fluent) → b ≡ true → writes (e ∷ rest) fluent ≡ true
+  pub writes-by : {b c : Bool} (rest : List Effect) → b ≡ (eqb (e .whom) 0 && eqb (e .fluent) fluent) → b ≡ c → writes (e ∷ rest) fluent ≡ (c || writes rest fluent)
   unfolding writes
-  writes-here rest q t = ap (λ (a : Bool). a || writes rest fluent) (sym q ∙ t)
-
-  pub writes-later : {b : Bool} (rest : List Effect) → b ≡ (eqb (e .whom) 0 && eqb (e .fluent) fluent) → b ≡ false → writes (e ∷ rest) fluent ≡ writes rest fluent
-  unfolding writes
-  writes-later rest q t = ap (λ (a : Bool). a || writes rest fluent) (sym q ∙ t)
+  writes-by rest q t = ap (λ (a : Bool). a || writes rest fluent) (sym q ∙ t)
 
 module _ {s : List ℕ} where
   pub effect-read : {n : ℕ} → Readable effectAt s n → n + 2 < length s
@@ -208,42 +201,30 @@ module _ (m : ℕ → Bool) (s : State) where
   unfolding couldAll
   all-none = refl
 
-  pub all-fails : (x : Test) (rest : List Test) {b : Bool} → b ≡ couldPass m s x → b ≡ false → couldAll m s (x ∷ rest) ≡ false
+  pub all-by : (x : Test) (rest : List Test) {b c : Bool} → b ≡ couldPass m s x → b ≡ c → couldAll m s (x ∷ rest) ≡ (c && couldAll m s rest)
   unfolding couldAll
-  all-fails x rest q e = ap (λ (b : Bool). b && couldAll m s rest) (sym q ∙ e)
-
-  pub all-next : (x : Test) (rest : List Test) {b : Bool} → b ≡ couldPass m s x → b ≡ true → couldAll m s (x ∷ rest) ≡ couldAll m s rest
-  unfolding couldAll
-  all-next x rest q e = ap (λ (b : Bool). b && couldAll m s rest) (sym q ∙ e)
+  all-by x rest q e = ap (λ (b : Bool). b && couldAll m s rest) (sym q ∙ e)
 
   pub some-none : couldHold m s [] ≡ false
   unfolding couldHold
   some-none = refl
 
-  pub some-holds : (x : List Test) (rest : Condition) {b : Bool} → b ≡ couldAll m s x → b ≡ true → couldHold m s (x ∷ rest) ≡ true
+  pub some-by : (x : List Test) (rest : Condition) {b c : Bool} → b ≡ couldAll m s x → b ≡ c → couldHold m s (x ∷ rest) ≡ (c || couldHold m s rest)
   unfolding couldHold
-  some-holds x rest q e = ap (λ (b : Bool). b || couldHold m s rest) (sym q ∙ e)
-
-  pub some-next : (x : List Test) (rest : Condition) {b : Bool} → b ≡ couldAll m s x → b ≡ false → couldHold m s (x ∷ rest) ≡ couldHold m s rest
-  unfolding couldHold
-  some-next x rest q e = ap (λ (b : Bool). b || couldHold m s rest) (sym q ∙ e)
+  some-by x rest q e = ap (λ (b : Bool). b || couldHold m s rest) (sym q ∙ e)
 
   pub exceed-none : (base : ℕ) → couldExceed m s base [] ≡ false
   unfolding couldExceed
   exceed-none base = refl
 
   module _ (base : ℕ) (x : Rule) (rest : List Rule) where
-    pub exceed-here : base < x .utility → {b : Bool} → b ≡ couldHold m s (x .condition) → b ≡ true → couldExceed m s base (x ∷ rest) ≡ true
+    pub exceed-by : base < x .utility → {b c : Bool} → b ≡ couldHold m s (x .condition) → b ≡ c → couldExceed m s base (x ∷ rest) ≡ (c || couldExceed m s base rest)
     unfolding couldExceed
-    exceed-here l q e = ap (λ (b : Bool). (b && couldHold m s (x .condition)) || couldExceed m s base rest) (lt-ltb base (x .utility) l) ∙ ap (λ (b : Bool). b || couldExceed m s base rest) (sym q ∙ e)
+    exceed-by l q e = ap (λ (b : Bool). (b && couldHold m s (x .condition)) || couldExceed m s base rest) (lt-ltb base (x .utility) l) ∙ ap (λ (b : Bool). b || couldExceed m s base rest) (sym q ∙ e)
 
     pub exceed-low : x .utility ≤ base → couldExceed m s base (x ∷ rest) ≡ couldExceed m s base rest
     unfolding couldExceed
     exceed-low l = ap (λ (b : Bool). (b && couldHold m s (x .condition)) || couldExceed m s base rest) (le-ltb base (x .utility) l)
-
-    pub exceed-not : base < x .utility → {b : Bool} → b ≡ couldHold m s (x .condition) → b ≡ false → couldExceed m s base (x ∷ rest) ≡ couldExceed m s base rest
-    unfolding couldExceed
-    exceed-not l q e = ap (λ (b : Bool). (b && couldHold m s (x .condition)) || couldExceed m s base rest) (lt-ltb base (x .utility) l) ∙ ap (λ (b : Bool). b || couldExceed m s base rest) (sym q ∙ e)
 
 -- a rule: its condition, and its number behind it
 module _ (pack : List ℕ) (n : ℕ) (p : Theory) (v : Rule) (g : Gives (ruleAt (dimensions p)) pack n v) where

@@ -17,7 +17,7 @@ pub struct Off {
 
 pub const NOTHING_OFF: Off = Off { name: "nothing", edits: &[] };
 
-pub const OFF: [Off; 5] = [
+pub const OFF: [Off; 6] = [
     Off {
         name: "memory of characters' lists",
         edits: &[
@@ -33,10 +33,8 @@ pub const OFF: [Off; 5] = [
         name: "repeats on the author's path",
         edits: &[("planner/search.rs", "if repeats(work, p, slot, done) {", "if false {")],
     },
-    Off {
-        name: "conditions before consenters",
-        edits: &[("planner/explain.rs", "if !may {", "if false {"), ("planner/search.rs", "if !may {", "if false {")],
-    },
+    Off { name: "conditions before consenters", edits: &[("planner/look.rs", "if !may {", "if false {")] },
+    Off { name: "look before a last action", edits: &[("planner/look.rs", "if 0 < left {", "if true {")] },
     Off {
         name: "all of them",
         edits: &[
@@ -44,8 +42,8 @@ pub const OFF: [Off; 5] = [
             ("planner/explain.rs", "if known == 2 {", "if known == 9 {"),
             ("planner/search.rs", "if recall(work, p, slot, at, key) == 3 {", "if false {"),
             ("planner/search.rs", "if repeats(work, p, slot, done) {", "if false {"),
-            ("planner/explain.rs", "if !may {", "if false {"),
-            ("planner/search.rs", "if !may {", "if false {"),
+            ("planner/look.rs", "if !may {", "if false {"),
+            ("planner/look.rs", "if 0 < left {", "if true {"),
         ],
     },
 ];

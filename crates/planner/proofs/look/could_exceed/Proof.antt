@@ -6,7 +6,7 @@ use borrow.Author.Needs.{needs}
 use Rattle.pack.specs.Answer.{said}
 use Rattle.pack.specs.Grammar.{ruleAt}
 use Rattle.pack.specs.Laws.Reading.{never, same-value, same-place}
-use Rattle.planner.proofs.Looking.{Rest, run-start, run-stop, run-on, run-none, ruleRun, rules-parts, exceed-told, look-next, look-inside, look-readable, rule-look, rule-condition, rule-number, exceed-here, exceed-low, exceed-not, exceed-none}
+use Rattle.planner.proofs.Looking.{Rest, run-start, run-stop, run-on, run-none, ruleRun, rules-parts, exceed-told, look-next, look-inside, look-readable, rule-look, rule-condition, rule-number, exceed-by, exceed-low, exceed-none}
 use Rattle.planner.proofs.look.could_exceed.Statement.{statement}
 use Rattle.planner.proofs.look.could_exceed.Tie as tie
 
@@ -21,7 +21,7 @@ returns-2 : tie.Need-returns-2 Inv-loop μ-loop
 returns-2 c =
     exceed-told _ _ _ _ _ _ _ (run-stop (ruleRun _ _ _ _ _ _ _) _ _ (c .before .before .before .before .before .before .before .before .before .loop .inv) (c .before .before .before .before .before .before .before .before .loop-test .taken) (λ k x rest g.
     let is = same-value (rule-number _ _ _ _ _ _ _ (c .before .before .before .before .before .before .before .after-condition .ensures) (c .before .before .before .before .before .before .read-number .ensures ∙ ap said (c .before .before .before .before .value .given .1)) (k .0) (k .1) x g) in
-    exceed-here _ _ _ x rest (omega (arith, is, c .before .before .if1 .taken)) (c .before .could-hold .ensures (k .0) (k .1) (x .condition) (rule-condition _ _ (k .0) x g)) (c .if2 .taken)))
+    exceed-by _ _ _ x rest (omega (arith, is, c .before .before .if1 .taken)) (c .before .could-hold .ensures (k .0) (k .1) (x .condition) (rule-condition _ _ (k .0) x g)) (c .if2 .taken)))
 
 -- src/look.rt:155:5
 loop-again : tie.Need-loop-again Inv-loop μ-loop
@@ -29,7 +29,7 @@ loop-again c =
     run-on (ruleRun _ _ _ _ _ _ _) _ _ (c .before .before .before .before .before .before .before .loop .inv) (c .before .before .before .before .before .before .loop-test .taken) _ (λ k x g. sym (same-place (rule-number _ _ _ _ _ _ _ (c .before .before .before .before .before .after-condition .ensures) (c .before .before .before .before .read-number .ensures ∙ ap said (c .before .before .value .given .1)) (k .0) (k .1) x g))) (λ k x rest g.
     let is = same-value (rule-number _ _ _ _ _ _ _ (c .before .before .before .before .before .after-condition .ensures) (c .before .before .before .before .read-number .ensures ∙ ap said (c .before .before .value .given .1)) (k .0) (k .1) x g) in
     ⊎-elim
-    (λ y. exceed-not _ _ _ x rest (omega (arith, is, y .0 .taken)) (y .1 .ensures (k .0) (k .1) (x .condition) (rule-condition _ _ (k .0) x g)) (y .2 .left))
+    (λ y. exceed-by _ _ _ x rest (omega (arith, is, y .0 .taken)) (y .1 .ensures (k .0) (k .1) (x .condition) (rule-condition _ _ (k .0) x g)) (y .2 .left))
     (λ y. exceed-low _ _ _ x rest (omega (arith, is, y .left)))
     (c .if1 .came))
 
