@@ -10,8 +10,8 @@ use borrow.Author.Count.{below-more}
 use borrow.Author.Tests.{eq-eqb, ne-eqb, lt-ltb, le-ltb}
 use Rattle.pack.specs.Syntax.{Effect, Trigger, Test, Condition, Rule, Theory}
 use Rattle.pack.specs.State.{State}
-use Rattle.pack.specs.Reading.{Reading, done, Reader, pick}
-use Rattle.pack.specs.Number.{counted, numberAt}
+use Rattle.reading.specs.Reading.{Reading, done, Reader, pick}
+use Rattle.reading.specs.Number.{counted, numberAt}
 use Rattle.pack.specs.Grammar.{Dimensions, dimensions, testAt, conditionAt, rulesAt, ruleAt, effectAt, effectsAt}
 use Rattle.pack.specs.Condition.{compares, passes, holds, utility}
 use Rattle.pack.specs.Contents.{Gives}

@@ -7,7 +7,7 @@ use lib.ListN.{getD}
 use Rattle.pack.specs.Syntax.{Theory}
 use Rattle.pack.specs.State.{State}
 use Rattle.pack.specs.Condition.{utility}
-use Rattle.pack.specs.Reading.{Reader}
+use Rattle.reading.specs.Reading.{Reader}
 use Rattle.pack.specs.Grammar.{Dimensions, dimensions}
 use Rattle.pack.specs.Contents.{Gives}
 use Rattle.pack.specs.Judge.{Over}

@@ -3,9 +3,9 @@ use mathlib.Core.Path.{sym, ap, _∙_}
 use mathlib.Core.Logic.{⊎-elim}
 use native.Mathlib.Omega.{arith}
 use borrow.Author.Needs.{needs}
-use Rattle.pack.specs.Answer.{said}
+use Rattle.reading.specs.Said.{said}
 use Rattle.pack.specs.Grammar.{ruleAt}
-use Rattle.pack.specs.Laws.Reading.{never, same-value, same-place}
+use Rattle.reading.specs.Laws.Reading.{never, same-value, same-place}
 use Rattle.planner.proofs.Looking.{Rest, run-start, run-stop, run-on, run-none, ruleRun, rules-parts, exceed-told, look-next, look-inside, look-readable, rule-look, rule-condition, rule-number, exceed-by, exceed-low, exceed-none}
 use Rattle.planner.proofs.look.could_exceed.Statement.{statement}
 use Rattle.planner.proofs.look.could_exceed.Tie as tie

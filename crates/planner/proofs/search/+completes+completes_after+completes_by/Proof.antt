@@ -30,7 +30,7 @@ use Rattle.planner.proofs.search.+completes+completes_after+completes_b
 use Rattle.planner.proofs.search.completes_by.Reads as completes-by
 use Rattle.planner.proofs.search.completes_by.Kinds as completes-by-kinds
 use Rattle.planner.proofs.search.+completes+completes_after+completes_by.Lts-completes_by as completes-by-lts
-use Rattle.pack.proofs.number.wide.Reads as wide-reads
+use Rattle.reading.proofs.number.wide.Reads as wide-reads
 use Rattle.planner.proofs.explain.allowed.Reads as allowed-reads
 use Rattle.planner.proofs.look.promising.Reads as promising-reads
 use Rattle.planner.proofs.memory.entry_of.Reads as entry-of-reads
