@@ -20,15 +20,15 @@ use Rattle.chart.specs.Earliest.{Before}
 use Rattle.partition.specs.Laws.Lists.{place}
 use Rattle.transition.specs.Happening.{nothing, Plays, actionOf}
 use Rattle.transition.specs.Laws.Settled.{plays-one}
-use Rattle.planner.specs.declared.explain.Shape.{Shape}
-use Rattle.planner.specs.Ending.{Leads, Explained, authorUtility}
-use Rattle.planner.specs.Inner.Lists.{slotTable, Agreed, All, Ends, EndsBy}
-use Rattle.planner.specs.Inner.Memory.{memoryAt, Fact}
-use Rattle.planner.specs.Inner.Explain.{Stage, Free}
+use Rattle.explanation.specs.declared.explain.Shape.{Shape}
+use Rattle.explanation.specs.Ending.{Leads, Explained, authorUtility}
+use Rattle.explanation.specs.Inner.Lists.{slotTable, Agreed, All, Ends, EndsBy}
+use Rattle.explanation.specs.Inner.Memory.{memoryAt, Fact}
+use Rattle.explanation.specs.Inner.Explain.{Stage, Free}
 use Rattle.planner.specs.Inner.Search.{Dry, Trail, Repeated, Put, Chosen, Best}
-use Rattle.planner.specs.Laws.Explaining.{Agreeing}
-use Rattle.planner.proofs.Remembering.{state-moved, extent-most}
-use Rattle.planner.proofs.Telling.{consenter-below, slot-same, stage-slotted, stage-state}
+use Rattle.explanation.specs.Laws.Explaining.{Agreeing}
+use Rattle.explanation.proofs.Remembering.{state-moved, extent-most}
+use Rattle.explanation.proofs.Telling.{consenter-below, slot-same, stage-slotted, stage-state}
 
 -- none found
 pub best-none : {M : List ℕ → Type 0} {Good : List ℕ → ℕ → Type 0} {n : ℕ} (was : List ℕ) {done slot : ℕ} {work work′ : List ℕ} → Below work work′ slot → Above work work′ workRoom → M work′ → ((list : List ℕ) (v : ℕ) → length list ≡ n → ¬ Good list v) → Best M Good n was was done slot work work′ 0

@@ -32,16 +32,16 @@ use Rattle.chart.proofs.Looking.{cleared-all}
 use Rattle.chart.proofs.Checking.{counted, lent, checks, Accepted, FirstRead, first-read, nodes-read, refused-by, accepted-by, left-alone, check-one}
 use Rattle.transition.proofs.Stepped.{short-pack}
 use Rattle.planner.specs.declared.Judged.the-variants as judged
-use Rattle.planner.specs.declared.explain.Shape.{Shape}
-use Rattle.planner.specs.Ending.{Explained}
+use Rattle.explanation.specs.declared.explain.Shape.{Shape}
+use Rattle.explanation.specs.Ending.{Explained}
 use Rattle.planner.specs.Answers.{explainedTable}
 use Rattle.planner.specs.Replies.{foresightLimit, nestingLimit, explainedReply}
 use Rattle.planner.specs.Promises.{Judgement}
 use Rattle.planner.specs.Laws.Answers.{explained-table-iff}
-use Rattle.planner.specs.Inner.Memory.{memoryAt, Memory}
-use Rattle.planner.proofs.Remembering.{laid-by, emptied, memory-clear}
-use Rattle.planner.proofs.Telling.{stage-same}
-use Rattle.planner.specs.Inner.Explain.{Stage, Free, Told, Judging, Judgeable, Verdict}
+use Rattle.explanation.specs.Inner.Memory.{memoryAt, Memory}
+use Rattle.explanation.proofs.Remembering.{laid-by, emptied, memory-clear}
+use Rattle.explanation.proofs.Telling.{stage-same}
+use Rattle.explanation.specs.Inner.Explain.{Stage, Free, Told, Judging, Judgeable, Verdict}
 
 module _ {th : Theory} {T : List Node} {pack places : List ℕ} {h : Shape} {chart : List ℕ} {nodes c a K e : ℕ} {work : List ℕ} (x : Judging th T pack places h chart nodes c a K e work) where
   abbrev f : ℕ

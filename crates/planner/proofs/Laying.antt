@@ -18,10 +18,10 @@ use Rattle.partition.specs.Chart.{Starts}
 use Rattle.partition.specs.Inner.Put.{Cleared, PartCopied}
 use Rattle.chart.specs.Inner.Start.{Mergeable, Merged}
 use Rattle.partition.proofs.Cells.{rows-same}
-use Rattle.planner.specs.declared.explain.Shape.{Shape}
-use Rattle.planner.specs.Inner.Memory.{memoryAt}
+use Rattle.explanation.specs.declared.explain.Shape.{Shape}
+use Rattle.explanation.specs.Inner.Memory.{memoryAt}
 use Rattle.planner.specs.Inner.Search.{Laying, LaidStart}
-use Rattle.planner.proofs.Remembering.{emptied}
+use Rattle.explanation.proofs.Remembering.{emptied}
 
 module _ {domains : List ℕ} {T : List Node} {pack : List ℕ} {first nodes : ℕ} {h : Shape} {work : List ℕ} (x : Laying domains T pack first nodes h work) where
   abbrev f : ℕ

@@ -1,7 +1,4 @@
 -- The modules of `proofs/` that belong to no one function.
-pub mod Remembering
-pub mod Looking
-pub mod Telling
 pub mod Judging
 pub mod Laying
 pub mod Completing

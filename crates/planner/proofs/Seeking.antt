@@ -39,20 +39,20 @@ use Rattle.chart.proofs.Looking.{cleared-all}
 use Rattle.transition.proofs.Stepped.{short-pack}
 use Rattle.planner.specs.declared.Found.{Found}
 use Rattle.planner.specs.declared.Found.the-variants as found
-use Rattle.planner.specs.declared.explain.Shape.{Shape}
+use Rattle.explanation.specs.declared.explain.Shape.{Shape}
 use Rattle.planner.specs.declared.search.Ended.{Ended}
-use Rattle.planner.specs.Ending.{Ending, authorUtility}
+use Rattle.explanation.specs.Ending.{Ending, authorUtility}
 use Rattle.planner.specs.Search.{Answer, ending, none, Sought, Searched}
 use Rattle.planner.specs.Answers.{searchTable}
 use Rattle.planner.specs.Replies.{storyLimit, foresightLimit, nestingLimit, Plan, answerReply, searchReply}
 use Rattle.planner.specs.Promises.{summary, Searching}
 use Rattle.planner.specs.Laws.Answers.{search-table-iff}
-use Rattle.planner.specs.Inner.Lists.{slotTable, Ends}
-use Rattle.planner.specs.Inner.Explain.{Stage}
-use Rattle.planner.specs.Inner.Memory.{Memory}
-use Rattle.planner.proofs.Remembering.{laid-by, memory-clear}
+use Rattle.explanation.specs.Inner.Lists.{slotTable, Ends}
+use Rattle.explanation.specs.Inner.Explain.{Stage}
+use Rattle.explanation.specs.Inner.Memory.{Memory}
+use Rattle.explanation.proofs.Remembering.{laid-by, memory-clear}
 use Rattle.planner.proofs.Laying.{lay-narrow}
-use Rattle.planner.proofs.Telling.{counted, slot-stage}
+use Rattle.explanation.proofs.Telling.{counted, slot-stage}
 use Rattle.planner.specs.Inner.Search.{Laying, LaidStart, Chosen, Best, Shortest, Seeking, Seekable, SearchPut}
 
 module _ {Good : List ℕ → ℕ → Type 0} where

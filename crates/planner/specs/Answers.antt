@@ -6,7 +6,7 @@ use Rattle.pack.specs.Syntax.{Node, Theory}
 use Rattle.pack.specs.State.{meaning}
 use Rattle.chart.specs.Laws.Tables.{onTable}
 use Rattle.planner.specs.Search.{Answer, none}
-use Rattle.planner.specs.Laws.Explaining.{explained?}
+use Rattle.explanation.specs.Laws.Explaining.{explained?}
 use Rattle.planner.specs.Laws.Searching.{searchOf}
 
 -- a decision as a Bool

@@ -1,5 +1,4 @@
 pub mod Leads
-pub mod Explaining
 pub mod Searching
 pub mod Answers
 pub mod Played

@@ -1,4 +1,3 @@
-pub mod Ending
 pub mod Search
 pub mod Laws
 pub mod Answers

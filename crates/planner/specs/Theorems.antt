@@ -26,7 +26,7 @@ use Rattle.transition.specs.Replies.{stepReply}
 use Rattle.transition.specs.Laws.Settled.{plays-refuses, plays-one}
 use Rattle.transition.specs.Laws.Stepping.{steps-one}
 use Rattle.transition.specs.Laws.Replies.{step-writes}
-use Rattle.planner.specs.Ending.{Explained, Ending}
+use Rattle.explanation.specs.Ending.{Explained, Ending}
 use Rattle.planner.specs.Search.{Sought, Answer, ending, none, Searched}
 use Rattle.planner.specs.Answers.{searchTable}
 use Rattle.planner.specs.Replies.{storyLimit, foresightLimit, nestingLimit, explainedReply, answerReply, searchReply}

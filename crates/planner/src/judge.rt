@@ -1,12 +1,12 @@
 // Explained: the checks, and the verdict on a chart.
 use crate::Judged;
-use crate::explain::Foresight;
-use crate::explain::Nesting;
-use crate::explain::Shape;
-use crate::explain::explained;
-use crate::memory::entry_size;
 use chart::call::check_lent;
 use chart::call::check_under;
+use explanation::explain::Foresight;
+use explanation::explain::Nesting;
+use explanation::explain::Shape;
+use explanation::explain::explained;
+use explanation::memory::entry_size;
 use pack::contents::read_pack;
 use pack::copy::copy_table;
 use pack::table::Table;
@@ -18,10 +18,10 @@ ghost use mathlib.Core.List.{List};
 ghost use lib.Dec.{ltb, leb};
 ghost use Rattle.pack.specs.Syntax.{Node, Theory};
 ghost use Rattle.pack.specs.State.{meaning};
-ghost use Rattle.planner.specs.Ending.{Explained};
+ghost use Rattle.explanation.specs.Ending.{Explained};
 ghost use Rattle.planner.specs.Replies.{foresightLimit, nestingLimit};
 ghost use Rattle.planner.specs.Promises.{Judgement};
-ghost use Rattle.planner.specs.Inner.Explain.{Judging, Judgeable, Verdict};
+ghost use Rattle.explanation.specs.Inner.Explain.{Judging, Judgeable, Verdict};
 
 // Whether a number is from low to high.
 pub fn within(x: usize, low: usize, high: usize) -> bool

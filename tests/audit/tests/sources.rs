@@ -39,7 +39,7 @@ fn definitions_are_reached() {
     let has = |end: &str| modules.iter().any(|module| module.path.ends_with(end) && module.lines > 0);
     for end in [
         "planner/specs/Promises.antt",
-        "planner/specs/Ending.antt",
+        "explanation/specs/Ending.antt",
         "transition/specs/Happening.antt",
         "partition/specs/Chart.antt",
         "chart/specs/Call.antt",
@@ -64,7 +64,7 @@ fn use_lines_are_read() {
 #[test]
 fn wrong_programs_have_their_edits() {
     let page = std::fs::read_to_string(repository().join("docs/CONTRACTS.md")).expect("the page");
-    let of = ["reading", "pack", "partition", "chart", "transition", "planner", "export", "ending"];
+    let of = ["reading", "pack", "partition", "chart", "transition", "explanation", "planner", "export", "ending"];
     let cited: Vec<&str> = page.split('`').skip(1).step_by(2).collect();
     let mut there = Vec::new();
     for name in of {

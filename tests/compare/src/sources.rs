@@ -7,7 +7,7 @@ use std::path::{Path, PathBuf};
 use std::process::Command;
 
 /// The crates, each over those before it.
-const CRATES: [&str; 6] = ["reading", "pack", "partition", "chart", "transition", "planner"];
+const CRATES: [&str; 7] = ["reading", "pack", "partition", "chart", "transition", "explanation", "planner"];
 
 /// Something that the search does without, by changed lines: the file, what it says, and what it is to say.
 pub struct Off {
@@ -21,8 +21,8 @@ pub const OFF: [Off; 6] = [
     Off {
         name: "memory of characters' lists",
         edits: &[
-            ("planner/explain.rs", "if known == 1 {", "if known == 9 {"),
-            ("planner/explain.rs", "if known == 2 {", "if known == 9 {"),
+            ("explanation/explain.rs", "if known == 1 {", "if known == 9 {"),
+            ("explanation/explain.rs", "if known == 2 {", "if known == 9 {"),
         ],
     },
     Off {
@@ -33,17 +33,17 @@ pub const OFF: [Off; 6] = [
         name: "repeats on the author's path",
         edits: &[("planner/search.rs", "if repeats(work, p, slot, done) {", "if false {")],
     },
-    Off { name: "conditions before consenters", edits: &[("planner/look.rs", "if !may {", "if false {")] },
-    Off { name: "look before a last action", edits: &[("planner/look.rs", "if 0 < left {", "if true {")] },
+    Off { name: "conditions before consenters", edits: &[("explanation/look.rs", "if !may {", "if false {")] },
+    Off { name: "look before a last action", edits: &[("explanation/look.rs", "if 0 < left {", "if true {")] },
     Off {
         name: "all of them",
         edits: &[
-            ("planner/explain.rs", "if known == 1 {", "if known == 9 {"),
-            ("planner/explain.rs", "if known == 2 {", "if known == 9 {"),
+            ("explanation/explain.rs", "if known == 1 {", "if known == 9 {"),
+            ("explanation/explain.rs", "if known == 2 {", "if known == 9 {"),
             ("planner/search.rs", "if recall(work, p, slot, at, key) == 3 {", "if false {"),
             ("planner/search.rs", "if repeats(work, p, slot, done) {", "if false {"),
-            ("planner/look.rs", "if !may {", "if false {"),
-            ("planner/look.rs", "if 0 < left {", "if true {"),
+            ("explanation/look.rs", "if !may {", "if false {"),
+            ("explanation/look.rs", "if 0 < left {", "if true {"),
         ],
     },
 ];

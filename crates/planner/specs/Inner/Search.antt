@@ -15,15 +15,15 @@ use Rattle.partition.specs.Chart.{Starts}
 use Rattle.chart.specs.Earliest.{Before}
 use Rattle.transition.specs.Inner.Play.{Theorized}
 use Rattle.planner.specs.declared.Found.{Found}
-use Rattle.planner.specs.declared.explain.Shape.{Shape}
+use Rattle.explanation.specs.declared.explain.Shape.{Shape}
 use Rattle.planner.specs.declared.search.Ended.{Ended}
 use Rattle.planner.specs.Search.{Answer, Searched}
 use Rattle.planner.specs.Replies.{answerReply}
 use Rattle.planner.specs.Promises.{searchSaid, summary}
-use Rattle.planner.specs.Inner.Lists.{slotTable, Ends}
-use Rattle.planner.specs.Inner.Memory.{memoryAt, Laid, Memory}
-use Rattle.planner.specs.Inner.Explain.{Stage}
-use Rattle.planner.specs.Ending.{authorUtility}
+use Rattle.explanation.specs.Inner.Lists.{slotTable, Ends}
+use Rattle.explanation.specs.Inner.Memory.{memoryAt, Laid, Memory}
+use Rattle.explanation.specs.Inner.Explain.{Stage}
+use Rattle.explanation.specs.Ending.{authorUtility}
 
 -- a list put down from `done` on
 pub record Put (was now : List ℕ) (done : ℕ) (list : List ℕ) : Type 0 where

@@ -8,7 +8,7 @@ use Rattle.pack.specs.State.{State, Valid}
 use Rattle.pack.specs.Syntax.{Theory}
 use Rattle.chart.specs.Laws.Earliest.{earliest-one}
 use Rattle.transition.specs.Laws.Settled.{plays-one}
-use Rattle.planner.specs.Ending.{Leads, Ending, Explained, authorUtility}
+use Rattle.explanation.specs.Ending.{Leads, Ending, Explained, authorUtility}
 use Rattle.planner.specs.Search.{Sought}
 
 module _ (p : Theory) (asked : ℕ → Type 0) (content : ℕ → ℕ → State → Type 0) where

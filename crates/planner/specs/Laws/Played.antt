@@ -14,7 +14,7 @@ use Rattle.transition.specs.Answers.{stepTable}
 use Rattle.transition.specs.Step.{Outcome, leaves, refused, Steps}
 use Rattle.transition.specs.Laws.Settled.{plays-one, plays-refuses}
 use Rattle.transition.specs.Laws.Step.{step-table-iff, step-leaves, leaves-only, IsLeaves}
-use Rattle.planner.specs.Ending.{Leads}
+use Rattle.explanation.specs.Ending.{Leads}
 
 then : Outcome → (List Node → Outcome) → Outcome
 then (leaves t) f = f t

@@ -17,7 +17,7 @@ use Rattle.partition.specs.Laws.Counted.{at-most}
 use Rattle.partition.specs.Laws.Unique.{ordered-reached}
 use Rattle.transition.specs.Happening.{Quiet, Settles, Plays, act, atRoot, firing, actionOf, change, observes}
 use Rattle.transition.specs.Laws.Changed.{Member, changed, all-told}
-use Rattle.planner.specs.Ending.{Explained, Ending, Leads}
+use Rattle.explanation.specs.Ending.{Explained, Ending, Leads}
 use Rattle.planner.specs.Search.{Sought}
 
 -- fluent 0 of the state itself is v

@@ -15,7 +15,7 @@ use Rattle.chart.specs.Call.{listRoom, workRoom, fits}
 use Rattle.chart.specs.Laws.Answers.{fits-table}
 use Rattle.chart.specs.Laws.Tables.{IsTable}
 use Rattle.chart.specs.Laws.Replies.{Given, Chart, given-fits, chart-fits, both-true, long-enough, call-none, call-one}
-use Rattle.planner.specs.Ending.{Explained}
+use Rattle.explanation.specs.Ending.{Explained}
 use Rattle.planner.specs.Search.{Answer, ending, none, Searched}
 use Rattle.planner.specs.Answers.{explainedTable, searchTable}
 use Rattle.planner.specs.Replies.{storyLimit, foresightLimit, nestingLimit, explainedReply, Plan, answerReply, searchReply}

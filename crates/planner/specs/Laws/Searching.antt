@@ -10,9 +10,9 @@ use Rattle.pack.specs.Syntax.{Theory}
 use Rattle.chart.specs.Earliest.{Earliest}
 use Rattle.chart.specs.Laws.Seek.{seek}
 use Rattle.chart.specs.Laws.Tabled.{Tabled}
-use Rattle.planner.specs.Ending.{Explained, Ending, authorUtility}
+use Rattle.explanation.specs.Ending.{Explained, Ending, authorUtility}
 use Rattle.planner.specs.Search.{Answer, ending, none, Searched}
-use Rattle.planner.specs.Laws.Explaining.{Led, along?, explained?}
+use Rattle.explanation.specs.Laws.Explaining.{Led, along?, explained?}
 use Rattle.planner.specs.Laws.Leads.{sought-one, leads-low}
 
 module _ (p : Theory) (K T E : ℕ) where

@@ -20,7 +20,7 @@ use Rattle.chart.specs.Laws.Replies.{Given, Chart, start-says, compare-says}
 use Rattle.transition.specs.Happening.{Refuses}
 use Rattle.transition.specs.Step.{leaves, refused, Steps}
 use Rattle.transition.specs.Laws.Replies.{step-says}
-use Rattle.planner.specs.Ending.{Explained}
+use Rattle.explanation.specs.Ending.{Explained}
 use Rattle.planner.specs.Search.{ending, none}
 use Rattle.planner.specs.Readings as row
 use Rattle.planner.specs.Readings.{starred, Says}

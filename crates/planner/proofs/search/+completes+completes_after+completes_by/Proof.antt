@@ -13,11 +13,11 @@ use Rattle.pack.specs.State.{meaning}
 use Rattle.pack.specs.Table.{Below, Above}
 use Rattle.chart.specs.Call.{workRoom}
 use Rattle.transition.proofs.Changing.{small}
-use Rattle.planner.specs.Inner.Lists.{slotTable, Ends, EndsBy}
-use Rattle.planner.specs.Inner.Memory.{Memory}
-use Rattle.planner.specs.Inner.Explain.{Stage, Free}
+use Rattle.explanation.specs.Inner.Lists.{slotTable, Ends, EndsBy}
+use Rattle.explanation.specs.Inner.Memory.{Memory}
+use Rattle.explanation.specs.Inner.Explain.{Stage, Free}
 use Rattle.planner.specs.Inner.Search.{Best, Trail}
-use Rattle.planner.proofs.Telling.{stage-same, stage-setting, stage-tryable, stage-hopeless, step-high, step-memory, step-none, nextTable, next-plays, next-stage, slot-stage, slot-same, stage-slotted, stage-state, known, note}
+use Rattle.explanation.proofs.Telling.{stage-same, stage-setting, stage-tryable, stage-hopeless, step-high, step-memory, step-none, nextTable, next-plays, next-stage, slot-stage, slot-same, stage-slotted, stage-state, known, note}
 use Rattle.planner.proofs.Completing.{best-none, best-noted, best-same, fact-of-none, trail-step, trail-same, trail-repeats, best-end, best-first, best-no, best-hopeless, best-by, best-by-none, agreed-from, agreed-to}
 use borrow.Fn.Kinds.{In}
 use borrow.Fn.PlainCycle.{Measures, is, falls, and}
@@ -31,11 +31,11 @@ use Rattle.planner.proofs.search.completes_by.Reads as completes-by
 use Rattle.planner.proofs.search.completes_by.Kinds as completes-by-kinds
 use Rattle.planner.proofs.search.+completes+completes_after+completes_by.Lts-completes_by as completes-by-lts
 use Rattle.reading.proofs.number.wide.Reads as wide-reads
-use Rattle.planner.proofs.explain.allowed.Reads as allowed-reads
-use Rattle.planner.proofs.look.promising.Reads as promising-reads
-use Rattle.planner.proofs.memory.entry_of.Reads as entry-of-reads
-use Rattle.planner.proofs.memory.recall.Reads as recall-reads
-use Rattle.planner.proofs.memory.remember.Reads as remember-reads
+use Rattle.explanation.proofs.explain.allowed.Reads as allowed-reads
+use Rattle.explanation.proofs.look.promising.Reads as promising-reads
+use Rattle.explanation.proofs.memory.entry_of.Reads as entry-of-reads
+use Rattle.explanation.proofs.memory.recall.Reads as recall-reads
+use Rattle.explanation.proofs.memory.remember.Reads as remember-reads
 use Rattle.planner.proofs.search.ends.Reads as ends-reads
 use Rattle.planner.proofs.search.repeats.Reads as repeats-reads
 use Rattle.transition.proofs.step.step_slot.Reads as step-slot-reads

@@ -3,7 +3,7 @@ use mathlib.Core.Path.{refl}
 use native.Mathlib.Omega.{arith}
 use borrow.Author.Needs.{needs}
 use Rattle.transition.proofs.Changing.{small}
-use Rattle.planner.proofs.Telling.{slot-stage}
+use Rattle.explanation.proofs.Telling.{slot-stage}
 use Rattle.planner.proofs.Completing.{author-rules, author-utility}
 use Rattle.planner.proofs.search.ends.Statement.{statement}
 use Rattle.planner.proofs.search.ends.Tie as tie

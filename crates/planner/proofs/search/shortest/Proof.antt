@@ -10,12 +10,12 @@ use Rattle.pack.specs.Syntax.{Node, Theory}
 use Rattle.pack.specs.State.{meaning}
 use Rattle.pack.specs.Table.{Below, Above}
 use Rattle.chart.specs.Call.{workRoom}
-use Rattle.planner.specs.Ending.{authorUtility}
-use Rattle.planner.specs.Inner.Lists.{slotTable, Ends}
-use Rattle.planner.specs.Inner.Memory.{Memory}
-use Rattle.planner.specs.Inner.Explain.{Stage}
+use Rattle.explanation.specs.Ending.{authorUtility}
+use Rattle.explanation.specs.Inner.Lists.{slotTable, Ends}
+use Rattle.explanation.specs.Inner.Memory.{Memory}
+use Rattle.explanation.specs.Inner.Explain.{Stage}
 use Rattle.planner.specs.Inner.Search.{Shortest}
-use Rattle.planner.proofs.Telling.{slot-same}
+use Rattle.explanation.proofs.Telling.{slot-same}
 use Rattle.planner.proofs.Completing.{trail-none}
 use Rattle.planner.proofs.Seeking.{shorter, shortest-found, shortest-none}
 use Rattle.planner.proofs.search.shortest.Statement.{statement}

@@ -1,0 +1,355 @@
+-- Explanations over the slots of the work buffer: what each function is told by those it calls. Assumes nothing.
+use Prim.Native.Nat.{ℕ, zero, suc, _+_, _*_, _-_, _<_, _≤_}
+use mathlib.Core.Path.{_≡_, refl, sym, ap, _∙_, subst}
+use mathlib.Core.Bool.{Bool, true, false}
+use mathlib.Core.Logic.{_≢_, by-cases}
+use mathlib.Core.List.{List, [], _∷_, List·Memᴰ}
+use native.Mathlib.Decide.{ℕ-discrete}
+use native.Mathlib.Nat.{mul-suc, mul-le-mul-left, mul-le-mul-right}
+use native.Mathlib.Omega.{arith}
+use lib.ListN.{length, getD}
+use lib.Dec.{ltb}
+use borrow.Author.Count.{below-more}
+use Rattle.pack.specs.Syntax.{Node, Theory, Rule}
+use Rattle.pack.specs.State.{State, belief, meaning, target}
+use Rattle.reading.specs.Reading.{Reader, done, refused, pick, bind, mapped, runs}
+use Rattle.reading.specs.Number.{item, between, risingAt}
+use Rattle.pack.specs.Answer.{dims}
+use Rattle.pack.specs.Grammar.{Dimensions, consentersAt, rulesAt}
+use Rattle.pack.specs.Condition as condition
+use Rattle.pack.specs.Contents.{Gives}
+use Rattle.pack.specs.Judge.{Over, Judged, Small, Readable}
+use Rattle.pack.specs.Table.{rowsAt, tableOf, stateOf, Below, Above}
+use Rattle.reading.specs.Laws.Reading.{both, unmapped, failed}
+use Rattle.pack.specs.Laws.Table.{belief-in}
+use Rattle.pack.specs.declared.table.Table.{Table}
+use Rattle.pack.proofs.Laws.{between-within}
+use Rattle.pack.proofs.OneByte.{consenter-bytes}
+use Rattle.pack.proofs.Tables.{rows-length}
+use Rattle.chart.specs.Call.{workRoom}
+use Rattle.partition.specs.Chart.{Starts}
+use Rattle.partition.specs.Laws.Lists.{stands, place}
+use Rattle.partition.specs.Laws.Unique.{some}
+use Rattle.transition.specs.Happening.{nothing, actionOf, Plays, Refuses}
+use Rattle.transition.specs.Laws.Settled.{plays-one, plays-refuses}
+use Rattle.transition.specs.Inner.Cause.{Tabled}
+use Rattle.transition.specs.Inner.Stage.{StageRoom, SlotOnly}
+use Rattle.transition.specs.Inner.Play.{Setting, Left, PlayedIn}
+use Rattle.transition.proofs.Changing.{tabled-same, small, row-inside, belief-is, belief-in as inside-table}
+use Rattle.explanation.specs.declared.explain.Shape.{Shape}
+use Rattle.explanation.specs.declared.memory.Key.{Key}
+use Rattle.explanation.specs.Ending.{Leads, Explained, utilityTo}
+use Rattle.explanation.specs.Inner.Lists.{slotTable, Other, AboveBy, AboveBySome, Agreed}
+use Rattle.explanation.specs.Inner.Lists as inner
+use Rattle.explanation.specs.Inner.Memory.{Memory, Slotted, Fact}
+use Rattle.explanation.specs.Inner.Explain.{Stage, Free, Told}
+use Rattle.explanation.specs.Inner.Look.{Looking, Tryable, Hopeless}
+use Rattle.explanation.proofs.Remembering.{memory-same, fact-same}
+
+-- Told: passed on
+pub told-none : {M : List ℕ → Type 0} {slot : ℕ} (was : List ℕ) {P : Type 0} → M was → (P → ⊥) → Told M slot was was false P
+told-none was m f = record { memory = m; sound = λ e. let z : _≡_ {A = ℕ} 0 1 = ap (λ (b : Bool). pick b 1 0) e in absurd (omega arith); complete = λ e x. f x; low = λ q l. refl; high = λ q l. refl }
+
+pub told-by : {M : List ℕ → Type 0} {slot slot′ : ℕ} {was mid now : List ℕ} {r : Bool} {P Q : Type 0} → slot ≤ slot′ → Below was mid slot → Above was mid workRoom → Told M slot′ mid now r P → (P → Q) → (Q → P) → Told M slot was now r Q
+told-by le low high t f g = record { memory = t .memory; sound = λ e. f (t .sound e); complete = λ e x. t .complete e (g x); low = λ q l. t .low q (omega arith) ∙ low q l; high = λ q l. t .high q l ∙ high q l }
+
+pub told-no : {M : List ℕ → Type 0} {slot : ℕ} {was now : List ℕ} {P : Type 0} → Below was now slot → Above was now workRoom → M now → (P → ⊥) → Told M slot was now false P
+told-no low high m f = record { memory = m; sound = λ e. let z : _≡_ {A = ℕ} 0 1 = ap (λ (b : Bool). pick b 1 0) e in absurd (omega arith); complete = λ e x. f x; low = low; high = high }
+
+pub told-yes : {M : List ℕ → Type 0} {slot : ℕ} {was now : List ℕ} {P : Type 0} → Below was now slot → Above was now workRoom → M now → P → Told M slot was now true P
+told-yes low high m x = record { memory = m; sound = λ e. x; complete = λ e y. let z : _≡_ {A = ℕ} 0 1 = ap (λ (b : Bool). pick b 0 1) e in omega arith; low = low; high = high }
+
+module _ {th : Theory} {T : List Node} {pack places : List ℕ} {h : Shape} {was : List ℕ} {t : Table} {slot : ℕ} (x : Stage th T pack places h was t slot) where
+  abbrev C : ℕ
+  C = t .characters
+
+  pub stage-same : {now : List ℕ} → Below was now slot → length now ≡ length was → Stage th T pack places h now t slot
+  stage-same low long = record {
+    theorized = x .theorized;
+    tabled = tabled-same (x .tabled) (λ q l. low q (omega (arith, x .behind))) long;
+    same-fluents = x .same-fluents;
+    same-characters = x .same-characters;
+    behind = x .behind;
+    room = omega (arith, long, x .room);
+    laid = x .laid;
+  }
+
+  pub stage-setting : Free slot 1 → Setting th T pack places (h .actions) (h .triggers) was t slot
+  stage-setting f = record { theorized = x .theorized; tabled = x .tabled; room = record { source = omega (arith, x .behind, f); slot-room = omega (arith, f); room = x .room } }
+
+  -- an action that is looked at
+  module _ {a : ℕ} (l : a < h .actions) where
+    stage-looking : Looking th pack places (h .triggers) a was t
+    stage-looking = record { acting = record { actions = h .actions; theorized = x .theorized; there = l }; over = x .tabled .over; fits = x .tabled .fits; some = x .tabled .some }
+
+    pub stage-tryable : {whose : ℕ} → whose < C + 1 → Tryable pack places (h .triggers) a was t whose
+    stage-tryable i = record { theory = th; looking = stage-looking; rules = i }
+
+    pub stage-hopeless : (whose : ℕ) {left base : ℕ} → Hopeless pack places (h .triggers) a was t whose left base → (s : State) → Plays th (meaning C T 0) a s → (left ≡ 0) × (condition.utility s (getD (th .utilities) whose []) ≤ base)
+    stage-hopeless whose f s plays = f th stage-looking s (subst (λ (U : List Node). Plays th (meaning C U 0) a s) (sym (x .tabled .same)) plays)
+
+  -- where utility rules are found
+  pub stage-rules : (c root : ℕ) → c < C → root < t .nodes → (Judged rulesAt pack (getD places (321 + c) 0) t was root) × (321 + c < length places)
+  stage-rules c root l i =
+      let d = dims (th .characters) (th .domains) in
+      let place : 320 + (c + 1) ≡ 321 + c = omega arith in
+      let g = x .theorized .found .rules (c + 1) (omega (arith, x .tabled .over .characters)) in (
+        record { table = x .tabled .fits; there = i; dimensions = d; over = x .tabled .over; value = getD (th .utilities) (c + 1) []; end = g .end; reads = ap (λ (k : ℕ). rulesAt d pack (getD places k 0)) (sym place) ∙ g .reads },
+        omega (arith, x .theorized .marked, small (x .tabled)),
+      )
+
+  pub stage-utility : {r : ℕ} (c root : ℕ) → c < C → ((d : Dimensions) → Over d t → (rules : List Rule) (n : ℕ) → rulesAt d pack (getD places (321 + c) 0) ≡ done rules n → r ≡ condition.utility (stateOf t was root) rules) → r ≡ utilityTo th c (meaning C T root)
+  stage-utility {r} c root l f =
+      let d = dims (th .characters) (th .domains) in
+      let place : 320 + (c + 1) ≡ 321 + c = omega arith in
+      let next : c + 1 ≡ suc c = omega arith in
+      let g = x .theorized .found .rules (c + 1) (omega (arith, x .tabled .over .characters)) in
+      f d (x .tabled .over) (getD (th .utilities) (c + 1) []) (g .end) (ap (λ (k : ℕ). rulesAt d pack (getD places k 0)) (sym place) ∙ g .reads)
+      ∙ ap (λ (U : List Node). condition.utility (meaning C U root) (getD (th .utilities) (c + 1) [])) (x .tabled .same) ∙ ap (λ (k : ℕ). condition.utility (meaning C T root) (getD (th .utilities) k [])) next
+
+  -- a step into the first free slot
+  module _ (root : ℕ) {now : List ℕ} {a r : ℕ} (y : PlayedIn th (meaning C T root) a t was now slot r) (f : Free slot 1) (long : length now ≡ length was) where
+    pub step-low : Below was now slot
+    step-low = y .only .low
+
+    pub step-high : Above was now workRoom
+    step-high q l = y .only .high q (omega arith)
+
+    pub step-memory : {K : ℕ} → Memory th K h was → Memory th K h now
+    step-memory {K} m = memory-same h th K (λ q l g. y .only .high q l) m
+
+    pub step-none : r ≢ 0 → (s : State) → Plays th (meaning C T root) a s → ⊥
+    step-none n s q = plays-refuses q (y .refuses n)
+
+    module _ (e : r ≡ 0) where
+      abbrev pub nextTable : List Node
+      nextTable = tableOf (slotTable h now slot) now
+
+      left : Left (y .plays e .0) t now slot
+      left = y .plays e .2
+
+      starts : Starts C (y .plays e .0) nextTable
+      starts =
+          subst (λ (w : ℕ). Starts C (y .plays e .0) (rowsAt now w (h .fluents) (h .characters) (slot + 1) (getD now slot 0))) (sym (x .tabled .fits .wide) ∙ ap (λ (k : ℕ). k + t .characters) (sym (x .same-fluents)) ∙ ap (λ (k : ℕ). h .fluents + k) (sym (x .same-characters)))
+          (subst (λ (k : ℕ). Starts C (y .plays e .0) (rowsAt now (t .width) (h .fluents) k (slot + 1) (getD now slot 0))) (sym (x .same-characters))
+          (subst (λ (k : ℕ). Starts C (y .plays e .0) (rowsAt now (t .width) k C (slot + 1) (getD now slot 0))) (sym (x .same-fluents)) (left .starts)))
+
+      pub next-state : meaning (h .characters) nextTable 0 ≡ y .plays e .0
+      next-state = ap (λ (c : ℕ). meaning c nextTable 0) (x .same-characters) ∙ starts .1
+
+      pub next-plays : Plays th (meaning C T root) a (meaning (h .characters) nextTable 0)
+      next-plays = subst (Plays th (meaning C T root) a) (sym next-state) (y .plays e .1)
+
+      rows-small : getD now slot 0 * (h .fluents + h .characters) ≤ 960
+      rows-small =
+          let slim : h .fluents + h .characters ≤ 30 = omega (arith, small (x .tabled), x .same-fluents, x .same-characters) in
+          omega (arith, mul-le-mul-left (getD now slot 0) slim, mul-le-mul-right 30 (left .few))
+
+      pub next-stage : Stage th nextTable pack places h now (slotTable h now slot) (slot + 961)
+      next-stage = record {
+        theorized = x .theorized;
+        tabled = record {
+          over = record { small = x .tabled .over .small; characters = x .tabled .over .characters ∙ sym (x .same-characters); fluents = x .tabled .over .fluents ∙ sym (x .same-fluents) };
+          fits = record {
+            wide = refl;
+            inside = omega (arith, rows-small, f, long, x .room);
+            closed = subst (λ (c : ℕ). Rattle.pack.specs.State.Closed c nextTable) (sym (x .same-characters)) (starts .0 .ordered .closed);
+          };
+          same = refl;
+          few = left .few;
+          some = omega (arith, some nextTable (starts .0 .ordered .whole), rows-length now (h .fluents + h .characters) (h .fluents) (h .characters) (slot + 1) (getD now slot 0));
+        };
+        same-fluents = refl;
+        same-characters = refl;
+        behind = omega (arith, rows-small);
+        room = omega (arith, long, x .room);
+        laid = x .laid;
+      }
+
+-- What is explained, and what lists reach, by what is found out of their parts
+module _ (th : Theory) (K e c base : ℕ) where
+  abbrev Reach : ℕ → State → Type 0
+  Reach n s = inner.Above th K e c base n s
+
+  -- the state itself is above
+  pub reach-here : (n : ℕ) (s : State) → base < utilityTo th c s → Reach (suc n) s
+  unfolding Leads
+  reach-here n s l = ([], omega arith, (s, refl, l))
+
+  pub reach-no-more : (s : State) → (base < utilityTo th c s → ⊥) → Reach 1 s → ⊥
+  unfolding Leads
+  reach-no-more s f ([], l, (s′, q, b)) = f (subst (λ (s : State). base < utilityTo th c s) (sym q) b)
+  reach-no-more s f (x ∷ rest, l, r) = absurd (omega arith)
+
+  -- no way by an action that is the last one and leaves no more than base
+  pub by-hopeless : (left x : ℕ) (s : State) → ((u : State) → Plays th s x u → (left ≡ 0) × (condition.utility u (getD (th .utilities) (c + 1) []) ≤ base)) → AboveBy th K e c base (suc left) x s → ⊥
+  by-hopeless left x s f (u, plays, agreed, r) =
+      let (none, low) = f u plays in
+      let next : c + 1 ≡ suc c = omega arith in
+      let last : suc left ≡ 1 = omega (arith, none) in
+      reach-no-more u (λ l. omega (arith, l, ap (λ (k : ℕ). condition.utility u (getD (th .utilities) k [])) next, low)) (subst (λ (n : ℕ). Reach n u) last r)
+
+  pub reach-by : (n x : ℕ) (s : State) → AboveBy th K e c base n x s → Reach (suc n) s
+  unfolding Leads
+  reach-by n x s (t, plays, agreed, (rest, l, (s′, leads, b))) = (x ∷ rest, omega arith, (s′, (t, plays, agreed, leads), b))
+
+  pub reach-not : (n : ℕ) (s : State) → (base < utilityTo th c s → ⊥) → ((x : ℕ) → x < length (th .actions) → AboveBy th K e c base n x s → ⊥) → Reach (suc n) s → ⊥
+  unfolding Leads
+  reach-not n s f g ([], l, (s′, q, b)) = f (subst (λ (s : State). base < utilityTo th c s) (sym q) b)
+  reach-not n s f g (x ∷ rest, l, (s′, (t, plays, agreed, leads), b)) = g x (plays .there) (t, plays, agreed, (rest, omega arith, (s′, leads, b)))
+
+  -- an action whose step is known
+  pub by-from : (n x : ℕ) (s t : State) → Plays th s x t → Agreed th K e c x s → Reach n t → AboveBy th K e c base n x s
+  by-from n x s t plays agreed r = (t, plays, agreed, r)
+
+  pub by-to : (n x : ℕ) (s t : State) → Plays th s x t → AboveBy th K e c base n x s → Reach n t
+  by-to n x s t plays (u, q, agreed, r) = subst (Reach n) (plays-one q plays) r
+
+-- the explanation itself
+module _ (th : Theory) (K e c a : ℕ) (s t : State) (base : ℕ) (b : base ≡ utilityTo th c (belief s c)) (plays : Plays th (belief s c) a t) (k : ℕ) (same : suc k ≡ K) where
+  pub explained-from : inner.Above th K e c base (suc k) t → Explained th K (suc e) c a s
+  unfolding Explained
+  explained-from (rest, l, (s′, leads, above)) = (rest, t, s′, omega arith, plays, leads, omega arith)
+
+  pub explained-to : Explained th K (suc e) c a s → inner.Above th K e c base (suc k) t
+  unfolding Explained
+  explained-to (rest, u, s′, l, q, leads, above) = (rest, omega arith, (s′, subst (λ (u : State). Leads th (Other c) (Explained th K e) u rest s′) (plays-one q plays) leads, omega arith))
+
+pub explained-zero : (th : Theory) (K c a : ℕ) (s : State) → Explained th K 0 c a s → ⊥
+unfolding Explained
+explained-zero th K c a s x = x
+
+pub explained-plays : (th : Theory) (K e c a : ℕ) (s : State) → ((t : State) → Plays th (belief s c) a t → ⊥) → Explained th K e c a s → ⊥
+unfolding Explained
+explained-plays th K zero c a s f x = x
+explained-plays th K (suc e) c a s f (rest, t, s′, l, plays, leads, b) = f t plays
+
+-- consenters one after the other
+module _ (th : Theory) (K e who x : ℕ) (s : State) where
+  abbrev cs : List ℕ
+  cs = actionOf th x .consenters
+
+  abbrev pub Content : ℕ → Type 0
+  Content i = Other who (getD cs i 0) → Explained th K e (getD cs i 0) x s
+
+  pub agreed-all : {n : ℕ} → length cs ≤ n → ((i : ℕ) → i < n → Content i) → Agreed th K e who x s
+  agreed-all l f d m q =
+      let (i, li, g) = place cs 0 d m in
+      subst (λ (d : ℕ). Explained th K e d x s) g (f i (omega arith) (λ z. q (sym g ∙ z)))
+
+  pub agreed-each : Agreed th K e who x s → (i : ℕ) → i < length cs → Content i
+  agreed-each f i l q = f (getD cs i 0) (stands cs 0 i l) q
+
+  -- of a consenter that is read
+  pub content-of : {d i : ℕ} → Agreed th K e who x s → i < length cs → d ≡ getD cs i 0 → Other who d → Explained th K e d x s
+  content-of {d} {i} f l q o = subst (λ (d : ℕ). Explained th K e d x s) (sym q) (agreed-each f i l (λ z. o (q ∙ z)))
+
+  pub content-more : {d i : ℕ} → ((j : ℕ) → j < i → Content j) → d ≡ getD cs i 0 → (Other who d → Explained th K e d x s) → (j : ℕ) → j < i + 1 → Content j
+  content-more {d} {i} f q g = below-more Content i f (λ o. subst (λ (d : ℕ). Explained th K e d x s) q (g (λ z. o (sym q ∙ z))))
+
+-- what is read after one another keeps a property
+runs-each : {S A : Type 0} (p : S → Reader A) (next : S → A → S) (P : A → Type 0) (s : List ℕ) → ((z : S) (at : ℕ) (a : A) (n : ℕ) → p z s at ≡ done a n → P a)
+    → (k : ℕ) (z : S) (at : ℕ) (xs : List A) (n : ℕ) → runs p next z k s at ≡ done xs n → (y : A) (i : ℕ) → i < length xs → P (getD xs i y)
+unfolding runs
+runs-each p next P s f zero z at xs n e y i l = let q = Rattle.reading.specs.Laws.Reading.same-value e in absurd (omega (arith, ap length q))
+runs-each {A = A} p next P s f (suc k) z at xs n e y i l =
+    let b = both (p z s at) (λ a n. mapped (λ rest. a ∷ rest) (runs p next (next z a) k s n)) xs n e in
+    let u = unmapped (λ rest. b .value ∷ rest) (runs p next (next z (b .value)) k s (b .place)) xs n (b .right) in
+    go i l (b .value) (u .value) (u .right) (f z at (b .value) (b .place) (b .left)) (λ j h. runs-each p next P s f k (next z (b .value)) (b .place) (u .value) n (u .left) y j h)
+  where
+    go : (i : ℕ) → i < length xs → (a : A) (l : List A) → a ∷ l ≡ xs → P a → ((j : ℕ) → j < length l → P (getD l j y)) → P (getD xs i y)
+    go zero h a l e pa f = subst (λ (xs : List A). P (getD xs 0 y)) e pa
+    go (suc i) h a l e pa f = subst (λ (xs : List A). P (getD xs (suc i) y)) e (f i (omega (arith, ap length e)))
+
+-- each consenter is a character
+pub consenter-below : (d : Dimensions) (s : List ℕ) (at : ℕ) (cs : List ℕ) (n : ℕ) → consentersAt d s at ≡ done cs n → (i : ℕ) → i < length cs → getD cs i 0 < d .characters
+unfolding consentersAt risingAt
+consenter-below d s at cs n e i l =
+    let b = both (between 0 7 3 s at) _ cs n e in
+    runs-each (risingAt (d .characters)) (λ least v. v + 1) (λ v. v < d .characters) s
+    (λ z at a n e. let c = both (item (d .characters) s at) (λ v n. pick (ltb v z) (refused 6 at) (done v n)) a n e in
+    let (low, g) = failed (ltb (c .value) z) 6 at (done (c .value) (c .place)) a n (c .right) in
+    omega (arith, between-within 0 (d .characters) 4 s at (c .value) (c .place) (c .left), Rattle.reading.specs.Laws.Reading.same-value g))
+    (b .value) 0 (b .place) cs n (b .right) 0 i l
+
+pub one-less : (k e : ℕ) → 0 < e → k * e ≡ k * (e - 1) + k
+one-less k e l = let s : e ≡ suc (e - 1) = omega arith in ap (λ (e : ℕ). k * e) s ∙ mul-suc k (e - 1)
+
+-- the row that a character believes in, and the consenters of an action
+module _ {th : Theory} {T : List Node} {pack places : List ℕ} {h : Shape} {was : List ℕ} {t : Table} {slot : ℕ} (x : Stage th T pack places h was t slot) where
+  pub stage-row : (root c : ℕ) → root < t .nodes → c < t .characters → (t .rows + root * t .width + t .fluents + c < slot) × (slot ≤ 28832 → slot < length was)
+  stage-row root c i l = (omega (arith, row-inside (x .tabled) root i, x .behind), λ g. omega (arith, x .room))
+
+  pub stage-believed : {q : ℕ} (root c : ℕ) → root < t .nodes → c < t .characters → getD was (t .rows + root * t .width + t .fluents + c) 0 ≡ q → (belief (meaning (t .characters) T root) c ≡ meaning (t .characters) T q) × (q < t .nodes)
+  stage-believed {q} root c i l e =
+      let is : q ≡ target T root c = sym e ∙ belief-is (x .tabled) root c i l in
+      (belief-in (t .characters) T root c l ∙ ap (meaning (t .characters) T) (sym is), omega (arith, is, inside-table (x .tabled) root c i l))
+
+  module _ (a : ℕ) (l : a < h .actions) where
+    abbrev pub consentersOf : List ℕ
+    consentersOf = actionOf th a .consenters
+
+    stand : Gives (consentersAt (dims (th .characters) (th .domains))) pack (getD places (9 * a + 2) 0) consentersOf
+    stand = x .theorized .found .action a l nothing .consenters
+
+    pub consent-place : (9 * a + 2 < 327) × (327 ≤ length places)
+    consent-place = (omega (arith, x .theorized .found .mostActions), x .theorized .marked)
+
+    pub consent-readable : Readable consentersAt pack (getD places (9 * a + 2) 0)
+    consent-readable = record { over = dims (th .characters) (th .domains); small = x .theorized .small; value = consentersOf; end = stand .end; reads = stand .reads }
+
+    pub consent-count : {r : ℕ} → ((d : Dimensions) → Small d → (cs : List ℕ) (n : ℕ) → consentersAt d pack (getD places (9 * a + 2) 0) ≡ done cs n → r ≡ length cs) → (r ≡ length consentersOf) × (r ≡ getD pack (getD places (9 * a + 2) 0) 0)
+    consent-count f =
+        let e = f (dims (th .characters) (th .domains)) (x .theorized .small) consentersOf (stand .end) (stand .reads) in
+        (e, e ∙ consenter-bytes (dims (th .characters) (th .domains)) (x .theorized .small) pack (getD places (9 * a + 2) 0) consentersOf (stand .end) (stand .reads) .long)
+
+    pub consent-each : {r i : ℕ} → i < length consentersOf → ((d : Dimensions) → Small d → (cs : List ℕ) (n : ℕ) → consentersAt d pack (getD places (9 * a + 2) 0) ≡ done cs n → r ≡ getD cs i 0) → (r ≡ getD consentersOf i 0) × (r < t .characters)
+    consent-each {r} {i} li f =
+        let e = f (dims (th .characters) (th .domains)) (x .theorized .small) consentersOf (stand .end) (stand .reads) in
+        (e, omega (arith, e, consenter-below (dims (th .characters) (th .domains)) pack (getD places (9 * a + 2) 0) consentersOf (stand .end) (stand .reads) i li, x .tabled .over .characters))
+
+-- the table in a slot, its count read
+module _ (h : Shape) (work : List ℕ) (slot : ℕ) {n : ℕ} (e : getD work slot 0 ≡ n) where
+  abbrev pub counted : ℕ → Table
+  counted n = record { rows = slot + 1; nodes = n; fluents = h .fluents; characters = h .characters; width = h .fluents + h .characters }
+
+  pub slot-stage : {th : Theory} {T : List Node} {pack places : List ℕ} {free : ℕ} → Stage th T pack places h work (slotTable h work slot) free → Stage th T pack places h work (counted n) free
+  slot-stage {th} {T} {pack} {places} {free} x = subst (λ (n : ℕ). Stage th T pack places h work (counted n) free) e x
+
+-- the table in a slot stays where its bytes do
+pub slot-same : {th : Theory} {T : List Node} {pack places : List ℕ} {h : Shape} {was now : List ℕ} (slot : ℕ) → Stage th T pack places h was (slotTable h was slot) (slot + 961) → Below was now (slot + 961) → length now ≡ length was
+    → Stage th T pack places h now (slotTable h now slot) (slot + 961)
+slot-same {th} {T} {pack} {places} {h} {was} {now} slot x low long =
+    let same : getD was slot 0 ≡ getD now slot 0 = sym (low slot (omega arith)) in
+    subst (λ (n : ℕ). Stage th T pack places h now (record { rows = slot + 1; nodes = n; fluents = h .fluents; characters = h .characters; width = h .fluents + h .characters }) (slot + 961)) same (stage-same x low long)
+
+-- the table in a slot, as the memory has it
+module _ {th : Theory} {T : List Node} {pack places : List ℕ} {h : Shape} {work : List ℕ} (slot : ℕ) (x : Stage th T pack places h work (slotTable h work slot) (slot + 961)) where
+  pub stage-slotted : Free slot 1 → Slotted h work slot
+  stage-slotted f = record { laid = x .laid; narrow = omega (arith, small (x .tabled)); few = x .tabled .few; before = omega (arith, f); room = x .room }
+
+  pub stage-state : stateOf (slotTable h work slot) work 0 ≡ meaning (h .characters) T 0
+  stage-state = ap (λ (U : List Node). meaning (h .characters) U 0) (x .tabled .same)
+
+  pub known : {K m : ℕ} {k : Key} → Fact th K m k (stateOf (slotTable h work slot) work 0) → Fact th K m k (meaning (h .characters) T 0)
+  known {K} f = fact-same h th K refl refl stage-state f
+
+  pub note : {K m : ℕ} {k : Key} → Fact th K m k (meaning (h .characters) T 0) → Fact th K m k (stateOf (slotTable h work slot) work 0)
+  note {K} f = fact-same h th K refl refl (sym stage-state) f
+
+-- a state that is not above itself, by what follows it
+module _ (th : Theory) (K e c base left : ℕ) (s : State) (some : 0 < left) (here : base < utilityTo th c s → ⊥) {M : List ℕ → Type 0} {slot : ℕ} {was now : List ℕ} {r : Bool} (told : Told M slot was now r (AboveBySome th K e c base (suc (left - 1)) s)) where
+  up : suc (suc (left - 1)) ≡ suc left
+  up = omega arith
+
+  pub extended : Told M slot was now r (inner.Above th K e c base (suc left) s)
+  extended = record {
+    sound = λ z. let (x, by) = told .sound z in subst (λ (n : ℕ). inner.Above th K e c base n s) up (reach-by th K e c base (suc (left - 1)) x s by);
+    complete = λ z g. reach-not th K e c base (suc (left - 1)) s here (λ x l by. told .complete z (x, by)) (subst (λ (n : ℕ). inner.Above th K e c base n s) (sym up) g);
+    low = told .low;
+    high = told .high;
+    memory = told .memory;
+  }
+
+  pub noted : {m : ℕ} → (m ≡ 1 → r ≡ false) × (m ≡ 2 → r ≡ true) × (m < 3) → Fact th K m (record { who = c; nesting = e; left = left; base = base }) s
+  noted (f, g, few) = record { no = λ z. extended .complete (f z); yes = λ z. extended .sound (g z); none = λ z. absurd (omega (arith, z, few)) }

@@ -1,0 +1,56 @@
+-- No rule so far is above base and could hold. Assumes nothing.
+use mathlib.Core.Path.{sym, ap, _∙_}
+use mathlib.Core.Logic.{⊎-elim}
+use native.Mathlib.Omega.{arith}
+use borrow.Author.Needs.{needs}
+use Rattle.reading.specs.Said.{said}
+use Rattle.pack.specs.Grammar.{ruleAt}
+use Rattle.reading.specs.Laws.Reading.{never, same-value, same-place}
+use Rattle.explanation.proofs.Looking.{Rest, run-start, run-stop, run-on, run-none, ruleRun, rules-parts, exceed-told, look-next, look-inside, look-readable, rule-look, rule-condition, rule-number, exceed-by, exceed-low, exceed-none}
+use Rattle.explanation.proofs.look.could_exceed.Statement.{statement}
+use Rattle.explanation.proofs.look.could_exceed.Tie as tie
+
+abbrev Inv-loop : tie.InvT-loop
+Inv-loop pack places triggers x at work t base n₀ left₀ n left = Rest (ruleRun pack places triggers x work t base) pack at n left
+
+abbrev μ-loop : tie.MeasureT-loop
+μ-loop pack places triggers x at work t base n₀ left₀ n left = left
+
+-- src/look.rt:163:25
+returns-2 : tie.Need-returns-2 Inv-loop μ-loop
+returns-2 c =
+    exceed-told _ _ _ _ _ _ _ (run-stop (ruleRun _ _ _ _ _ _ _) _ _ (c .before .before .before .before .before .before .before .before .before .loop .inv) (c .before .before .before .before .before .before .before .before .loop-test .taken) (λ k x rest g.
+    let is = same-value (rule-number _ _ _ _ _ _ _ (c .before .before .before .before .before .before .before .after-condition .ensures) (c .before .before .before .before .before .before .read-number .ensures ∙ ap said (c .before .before .before .before .value .given .1)) (k .0) (k .1) x g) in
+    exceed-by _ _ _ x rest (omega (arith, is, c .before .before .if1 .taken)) (c .before .could-hold .ensures (k .0) (k .1) (x .condition) (rule-condition _ _ (k .0) x g)) (c .if2 .taken)))
+
+-- src/look.rt:155:5
+loop-again : tie.Need-loop-again Inv-loop μ-loop
+loop-again c =
+    run-on (ruleRun _ _ _ _ _ _ _) _ _ (c .before .before .before .before .before .before .before .loop .inv) (c .before .before .before .before .before .before .loop-test .taken) _ (λ k x g. sym (same-place (rule-number _ _ _ _ _ _ _ (c .before .before .before .before .before .after-condition .ensures) (c .before .before .before .before .read-number .ensures ∙ ap said (c .before .before .value .given .1)) (k .0) (k .1) x g))) (λ k x rest g.
+    let is = same-value (rule-number _ _ _ _ _ _ _ (c .before .before .before .before .before .after-condition .ensures) (c .before .before .before .before .read-number .ensures ∙ ap said (c .before .before .value .given .1)) (k .0) (k .1) x g) in
+    ⊎-elim
+    (λ y. exceed-by _ _ _ x rest (omega (arith, is, y .0 .taken)) (y .1 .ensures (k .0) (k .1) (x .condition) (rule-condition _ _ (k .0) x g)) (y .2 .left))
+    (λ y. exceed-low _ _ _ x rest (omega (arith, is, y .left)))
+    (c .if1 .came))
+
+pub could-exceed-spec : {M : Type 1} → statement M
+could-exceed-spec =
+    tie.close
+    (tie.spec
+    Inv-loop
+    μ-loop
+    (λ c. omega (arith, look-inside _ _ _ _ _ _ ruleAt (rules-parts _ _ _ _ _ _ (c .before .before .before .pre))))
+    (λ c. look-inside _ _ _ _ _ _ ruleAt (rules-parts _ _ _ _ _ _ (c .before .before .before .before .pre)))
+    (λ c κs. search needs)
+    (λ c. run-start (ruleRun _ _ _ _ _ _ _) _ _ (omega arith) _ (c .wide .ensures))
+    (λ c κs. look-readable _ _ _ _ _ _ (rule-look _ _ _ _ _ _ _ (look-next _ _ _ _ _ _ ruleAt (rules-parts _ _ _ _ _ _ (c .before .before .before .before .before .before .before .pre)) (c .before .loop .inv) (c .loop-test .taken))))
+    (λ c κs. search needs)
+    (λ c. search needs)
+    (λ c. exceed-told _ _ _ _ _ _ _ (run-stop (ruleRun _ _ _ _ _ _ _) _ _ (c .before .before .before .before .before .loop .inv) (c .before .before .before .before .loop-test .taken) (λ k x rest g. never (rule-number _ _ _ _ _ _ _ (c .before .before .before .after-condition .ensures) (c .before .before .read-number .ensures ∙ ap said (c .enum-told .given .1)) (k .0) (k .1) x g))))
+    (λ c. search needs)
+    (λ c κs. rule-look _ _ _ _ _ _ _ (look-next _ _ _ _ _ _ ruleAt (rules-parts _ _ _ _ _ _ (c .before .before .before .before .before .before .before .before .before .before .before .before .before .pre)) (c .before .before .before .before .before .before .before .loop .inv) (c .before .before .before .before .before .before .loop-test .taken)))
+    returns-2
+    (λ c. search needs)
+    (λ c. search needs)
+    loop-again
+    (λ c. exceed-told _ _ _ _ _ _ _ (run-none (ruleRun _ _ _ _ _ _ _) _ _ (c .before .loop .inv) (c .loop-test .left) (λ k. exceed-none _ _ _))))

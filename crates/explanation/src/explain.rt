@@ -1,0 +1,252 @@
+// Explanations: whether a character has a reason of their own for an action. A state is row `root` of a table; the slots of the work buffer from `slot` on are free.
+use crate::look::promising;
+use crate::memory::Key;
+use crate::memory::entry_of;
+use crate::memory::recall;
+use crate::memory::remember;
+use pack::judge::utility;
+use pack::table::Table;
+use pack::write::consenter;
+use pack::write::consenters;
+use reading::number::wide;
+use transition::step::step_slot;
+ghost use mathlib.Core.Path.{_≡_};
+ghost use mathlib.Core.Bool.{true, false};
+ghost use mathlib.Core.List.{List};
+ghost use Prim.Native.Nat.{suc, _+_, _*_, _<_, _≤_};
+ghost use Rattle.pack.specs.Syntax.{Node, Theory};
+ghost use Rattle.pack.specs.State.{meaning};
+ghost use Rattle.explanation.specs.Ending.{Explained};
+ghost use Rattle.explanation.specs.Inner.Lists.{slotTable, Other, Above, AboveBy, AboveBySome, Agreed};
+ghost use Rattle.explanation.specs.Inner.Memory.{Memory};
+ghost use Rattle.explanation.specs.Inner.Explain.{Stage, Prepared, Free, Told};
+
+// The foresight limit K, and the nesting limit E.
+pub struct Foresight(pub usize);
+
+pub struct Nesting(pub usize);
+
+// A pack's counts; how many entries the memory has, and how many bytes each.
+pub struct Shape {
+    pub actions: usize,
+    pub triggers: usize,
+    pub fluents: usize,
+    pub characters: usize,
+    pub entries: usize,
+    pub entry: usize,
+}
+
+// Whether character c's action a is explained.
+pub fn explained(
+    pack: &[u8],
+    places: &[usize],
+    p: Shape,
+    work: &mut [u8],
+    t: Table,
+    root: usize,
+    slot: usize,
+    c: usize,
+    a: usize,
+    e: Nesting,
+    k: Foresight,
+) -> bool
+    requires { ⌜ Prepared (k .0) (now pack) (now places) p (now work) t slot × (root < t .nodes) × (c < t .characters) × (a < p .actions) × (0 < k .0) × (k .0 ≤ 6) × Free slot (k .0 * e .0) ⌝ }
+    ensures { λ r. ⌜ ((th : Theory) (T : List Node) → Stage th T (now (pack .entry)) (now (places .entry)) p (now (work .entry)) t slot → Memory th (k .0) p (now (work .entry)) → Told (Memory th (k .0) p) slot (now (work .entry)) (now (work .exit)) r (Explained th (k .0) (e .0) c a (meaning (t .characters) T root))) ⌝ }
+{
+    if e.0 == 0 {
+        return false;
+    }
+    let q = wide(work[t.rows + root * t.width + t.fluents + c]);
+    let number = step_slot(pack, places, p.triggers, a, work, t, q, slot);
+    if number != 0 {
+        return false;
+    }
+    let base = utility(pack, places[321 + c], work, t, q);
+    extends(
+        pack,
+        places,
+        p,
+        work,
+        slot,
+        c,
+        Nesting(e.0 - 1),
+        k,
+        k.0 - 1,
+        base,
+    )
+}
+
+// Whether some list of at most `left` actions from the state in a slot ends with c's utility above base.
+pub fn extends(
+    pack: &[u8],
+    places: &[usize],
+    p: Shape,
+    work: &mut [u8],
+    slot: usize,
+    c: usize,
+    e: Nesting,
+    k: Foresight,
+    left: usize,
+    base: usize,
+) -> bool
+    requires { ⌜ Prepared (k .0) (now pack) (now places) p (now work) (slotTable p (now work) slot) (slot + 961) × (c < p .characters) × (0 < k .0) × (k .0 ≤ 6) × Free slot (1 + left + k .0 * e .0) ⌝ }
+    ensures { λ r. ⌜ ((th : Theory) (T : List Node) → Stage th T (now (pack .entry)) (now (places .entry)) p (now (work .entry)) (slotTable p (now (work .entry)) slot) (slot + 961) → Memory th (k .0) p (now (work .entry)) → Told (Memory th (k .0) p) (slot + 961) (now (work .entry)) (now (work .exit)) r (Above th (k .0) (e .0) c base (suc left) (meaning (p .characters) T 0))) ⌝ }
+{
+    let t = Table {
+        rows: slot + 1,
+        nodes: wide(work[slot]),
+        fluents: p.fluents,
+        characters: p.characters,
+        width: p.fluents + p.characters,
+    };
+    if base < utility(pack, places[321 + c], work, t, 0) {
+        return true;
+    }
+    if left == 0 {
+        return false;
+    }
+    let key = Key {
+        who: c,
+        nesting: e.0,
+        left,
+        base,
+    };
+    let at = entry_of(work, p, slot, key);
+    let known = recall(work, p, slot, at, key);
+    if known == 1 {
+        return false;
+    }
+    if known == 2 {
+        return true;
+    }
+    let found = extends_by(pack, places, p, work, slot, c, e, k, left - 1, base);
+    remember(work, p, slot, at, mark(found), key);
+    found
+}
+
+// How the memory marks whether there is a list.
+pub fn mark(found: bool) -> u8
+    ensures { λ r. ⌜ (r ≡ 1 → found ≡ false) × (r ≡ 2 → found ≡ true) × (r < 3) ⌝ }
+{
+    if found { 2 } else { 1 }
+}
+
+// Whether some action, and then some list of at most `left` actions, leads from the state in a slot to c's utility above base.
+pub fn extends_by(
+    pack: &[u8],
+    places: &[usize],
+    p: Shape,
+    work: &mut [u8],
+    slot: usize,
+    c: usize,
+    e: Nesting,
+    k: Foresight,
+    left: usize,
+    base: usize,
+) -> bool
+    requires { ⌜ Prepared (k .0) (now pack) (now places) p (now work) (slotTable p (now work) slot) (slot + 961) × (c < p .characters) × (0 < k .0) × (k .0 ≤ 6) × Free slot (2 + left + k .0 * e .0) ⌝ }
+    ensures { λ r. ⌜ ((th : Theory) (T : List Node) → Stage th T (now (pack .entry)) (now (places .entry)) p (now (work .entry)) (slotTable p (now (work .entry)) slot) (slot + 961) → Memory th (k .0) p (now (work .entry)) → Told (Memory th (k .0) p) (slot + 961) (now (work .entry)) (now (work .exit)) r (AboveBySome th (k .0) (e .0) c base (suc left) (meaning (p .characters) T 0))) ⌝ }
+{
+    let mut x = 0;
+    while x < p.actions {
+        let found = via(pack, places, p, work, slot, c, x, e, k, left, base);
+        if found {
+            return true;
+        }
+        x += 1;
+    }
+    false
+}
+
+// Whether action x, and then some list of at most `left` actions, leads from the state in a slot to c's utility above base.
+pub fn via(
+    pack: &[u8],
+    places: &[usize],
+    p: Shape,
+    work: &mut [u8],
+    slot: usize,
+    c: usize,
+    x: usize,
+    e: Nesting,
+    k: Foresight,
+    left: usize,
+    base: usize,
+) -> bool
+    requires { ⌜ Prepared (k .0) (now pack) (now places) p (now work) (slotTable p (now work) slot) (slot + 961) × (c < p .characters) × (x < p .actions) × (0 < k .0) × (k .0 ≤ 6) × Free slot (2 + left + k .0 * e .0) ⌝ }
+    ensures { λ r. ⌜ ((th : Theory) (T : List Node) → Stage th T (now (pack .entry)) (now (places .entry)) p (now (work .entry)) (slotTable p (now (work .entry)) slot) (slot + 961) → Memory th (k .0) p (now (work .entry)) → Told (Memory th (k .0) p) (slot + 961) (now (work .entry)) (now (work .exit)) r (AboveBy th (k .0) (e .0) c base (suc left) x (meaning (p .characters) T 0))) ⌝ }
+{
+    let t = Table {
+        rows: slot + 1,
+        nodes: wide(work[slot]),
+        fluents: p.fluents,
+        characters: p.characters,
+        width: p.fluents + p.characters,
+    };
+    if !promising(pack, places, p, work, t, x, c + 1, left, base) {
+        return false;
+    }
+    let agreed = allowed(pack, places, p, work, t, 0, slot + 961, c, x, e, k);
+    if !agreed {
+        return false;
+    }
+    let number = step_slot(pack, places, p.triggers, x, work, t, 0, slot + 961);
+    if number != 0 {
+        return false;
+    }
+    extends(pack, places, p, work, slot + 961, c, e, k, left, base)
+}
+
+// Whether action x is explained to each of its consenters other than `who`.
+pub fn allowed(
+    pack: &[u8],
+    places: &[usize],
+    p: Shape,
+    work: &mut [u8],
+    t: Table,
+    root: usize,
+    slot: usize,
+    who: usize,
+    x: usize,
+    e: Nesting,
+    k: Foresight,
+) -> bool
+    requires { ⌜ Prepared (k .0) (now pack) (now places) p (now work) t slot × (root < t .nodes) × (x < p .actions) × (0 < k .0) × (k .0 ≤ 6) × Free slot (k .0 * e .0) ⌝ }
+    ensures { λ r. ⌜ ((th : Theory) (T : List Node) → Stage th T (now (pack .entry)) (now (places .entry)) p (now (work .entry)) t slot → Memory th (k .0) p (now (work .entry)) → Told (Memory th (k .0) p) slot (now (work .entry)) (now (work .exit)) r (Agreed th (k .0) (e .0) who x (meaning (t .characters) T root))) ⌝ }
+{
+    let at = places[9 * x + 2];
+    let count = consenters(pack, at);
+    let mut i = 0;
+    while i < count {
+        let d = consenter(pack, at, i);
+        let content = fine(pack, places, p, work, t, root, slot, who, d, x, e, k);
+        if !content {
+            return false;
+        }
+        i += 1;
+    }
+    true
+}
+
+// Whether d, if it is another than `who`, has action x explained to it.
+pub fn fine(
+    pack: &[u8],
+    places: &[usize],
+    p: Shape,
+    work: &mut [u8],
+    t: Table,
+    root: usize,
+    slot: usize,
+    who: usize,
+    d: usize,
+    x: usize,
+    e: Nesting,
+    k: Foresight,
+) -> bool
+    requires { ⌜ Prepared (k .0) (now pack) (now places) p (now work) t slot × (root < t .nodes) × (d < t .characters) × (x < p .actions) × (0 < k .0) × (k .0 ≤ 6) × Free slot (k .0 * e .0) ⌝ }
+    ensures { λ r. ⌜ ((th : Theory) (T : List Node) → Stage th T (now (pack .entry)) (now (places .entry)) p (now (work .entry)) t slot → Memory th (k .0) p (now (work .entry)) → Told (Memory th (k .0) p) slot (now (work .entry)) (now (work .exit)) r (Other who d → Explained th (k .0) (e .0) d x (meaning (t .characters) T root))) ⌝ }
+{
+    if d == who {
+        return true;
+    }
+    explained(pack, places, p, work, t, root, slot, d, x, e, k)
+}

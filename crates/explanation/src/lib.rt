@@ -1,0 +1,4 @@
+// The planner layer below its calls: whether an action is explained to a character, and what is known of states.
+pub mod explain;
+pub mod look;
+pub mod memory;
