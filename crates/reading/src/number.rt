@@ -122,14 +122,16 @@ pub fn read_belief(s: &[u8], at: usize, nodes: usize) -> Number
 pub fn read_rising(s: &[u8], at: usize, characters: usize, least: usize) -> Number
     ensures { λ r. ⌜ risingAt characters least (now (s .entry)) at ≡ said r ⌝ }
 {
-    match read_between(s, at, 0, characters, 4) {
+    match read_number(s, at) {
         Number::Refused(k, p) => Number::Refused(k, p),
         Number::Is(v, n) => {
-            if v < least {
-                Number::Refused(6, at)
-            } else {
-                Number::Is(v, n)
+            if characters <= v {
+                return Number::Refused(4, at);
             }
+            if v < least {
+                return Number::Refused(6, at);
+            }
+            Number::Is(v, n)
         }
     }
 }
