@@ -79,8 +79,8 @@ pub fn holds(s: &[u8], at: usize, buffer: &[u8], t: Table, node: usize) -> bool
     let mut n = at + 1;
     let mut left = wide(s[at]);
     while 0 < left {
-        let passed = all_pass(s, n, buffer, t, node);
-        if passed {
+        let met = all_pass(s, n, buffer, t, node);
+        if met {
             return true;
         }
         n = after_alternative(s, n);

@@ -2,6 +2,7 @@
 use borrow.Author.Needs.{needs}
 use native.Mathlib.Omega.{arith}
 use Prim.Native.Nat.{ℕ}
+use mathlib.Core.Bool.{true}
 use mathlib.Core.Path.{_≡_, refl, sym, _∙_}
 use Rattle.pack.specs.Table.{stateOf}
 use Rattle.pack.specs.Judge.{alternativeAt, Over}
@@ -42,8 +43,9 @@ holds-spec =
     record { table = start .pre .table; there = start .pre .there; dimensions = (start .pre .dimensions); over = start .pre .over; value = x .item; end = x .place; reads = x .here })
     (λ c.
     let start = c .before .before .before .before .before .before .before .before in
+    let met : c .before .all-pass .result ≡ true = c .if1 .taken in
     λ d over xs end e. let x = left-one _ _ _ _ _ _ _ (c .before .before .before .loop .inv d over xs end e) (c .before .before .loop-test .taken) in
-    sym (x .same ∙ some-holds (stateOf (start .args .t) (start .args .buffer .now) (start .args .node)) (x .item) (x .rest) (sym (c .before .all-pass .ensures d over (x .item) (x .place) (x .here)) ∙ c .if1 .taken)))
+    sym (x .same ∙ some-holds (stateOf (start .args .t) (start .args .buffer .now) (start .args .node)) (x .item) (x .rest) (sym (c .before .all-pass .ensures d over (x .item) (x .place) (x .here)) ∙ met)))
     (λ c κs.
     let start = c .before .before .before .before .before .before .before .before in
     let x = (left-one _ _ _ _ _ _ _ (c .before .before .before .loop .inv (start .pre .dimensions) (start .pre .over) (start .pre .value) (start .pre .end) (start .pre .reads)) (c .before .before .loop-test .taken)) in
