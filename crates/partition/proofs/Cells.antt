@@ -1,9 +1,11 @@
 -- Bytes and rows of a buffer: their number, each of them, one more, and the same where the bytes are. Assumes nothing.
 use mathlib.Core.Path.{_≡_, refl, _∙_, ap, ap₂}
 use mathlib.Core.List.{List, [], _∷_, _++_}
-use Prim.Native.Nat.{ℕ, zero, suc, _+_, _*_, _<_, _≤_}
+use mathlib.Core.Logic.{by-cases}
+use Prim.Native.Nat.{ℕ, zero, suc, _+_, _*_, _-_, _<_, _≤_}
 use native.Mathlib.Nat.{suc-mul, mul-le-mul-right}
 use native.Mathlib.Numerals.{add-one}
+use native.Mathlib.Decide.{decLt}
 use native.Mathlib.Omega.{arith}
 use lib.ListN.{length, getD, set}
 use lib.Seq.{getD-set-same, getD-set-other}
@@ -72,6 +74,20 @@ cleared-more was now a k c l = record {
   clear = below-more (λ q. getD (set now (a + k) 0) (a + q) 0 ≡ 0) k (λ q h. getD-set-other now (a + k) (a + q) 0 0 (omega arith) ∙ c .clear q h) (getD-set-same now (a + k) 0 0 l);
   low = λ p h. getD-set-other now (a + k) p 0 0 (omega arith) ∙ c .low p h;
   high = λ p h. getD-set-other now (a + k) p 0 0 (omega arith) ∙ c .high p (omega arith);
+}
+
+-- bytes that are 0 need no clearing
+pub cleared-already : (was : List ℕ) (a k : ℕ) → ((q : ℕ) → q < k → getD was (a + q) 0 ≡ 0) → Cleared was was a k
+cleared-already was a k h = record { clear = h; low = λ p l. refl; high = λ p l. refl }
+
+-- one part cleared behind another
+pub cleared-on : (was mid now : List ℕ) (a i k : ℕ) → Cleared was mid a i → Cleared mid now (a + i) k → Cleared was now a (i + k)
+cleared-on was mid now a i k c d = record {
+  clear = λ q h. by-cases (decLt q i)
+      (λ l. d .low (a + q) (omega arith) ∙ c .clear q l)
+      (λ g. let e : a + q ≡ a + i + (q - i) = omega arith in ap (λ (p : ℕ). getD now p 0) e ∙ d .clear (q - i) (omega arith));
+  low = λ p h. d .low p (omega arith) ∙ c .low p h;
+  high = λ p h. d .high p (omega arith) ∙ c .high p (omega arith);
 }
 
 -- what stands behind the first f bytes of a part

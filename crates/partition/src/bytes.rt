@@ -1,7 +1,8 @@
 // Bytes of a lent buffer: cleared, and copied from a lower part to a higher one.
 ghost use mathlib.Core.Path.{_≡_};
-ghost use Prim.Native.Nat.{_+_, _≤_};
-ghost use lib.ListN.{length};
+ghost use mathlib.Core.Bool.{false};
+ghost use Prim.Native.Nat.{ℕ, _+_, _<_, _≤_};
+ghost use lib.ListN.{length, getD};
 ghost use Rattle.partition.specs.Inner.Put.{PartCopied, Cleared};
 
 pub fn wide(x: u8) -> usize
@@ -11,7 +12,7 @@ pub fn wide(x: u8) -> usize
 }
 
 // Sets the k bytes from a on to 0.
-pub fn clear(work: &mut [u8], a: usize, k: usize)
+pub fn zero(work: &mut [u8], a: usize, k: usize)
     requires { ⌜ a + k ≤ length (now work) ⌝ }
     ensures { λ _. ⌜ Cleared (now (work .entry)) (now (work .exit)) a k ⌝ }
 {
@@ -20,6 +21,43 @@ pub fn clear(work: &mut [u8], a: usize, k: usize)
         work[a + i] = 0;
         i += 1;
     }
+}
+
+// Whether one of the k bytes from a on is not 0.
+pub fn any_set(work: &[u8], a: usize, k: usize) -> bool
+    requires { ⌜ a + k ≤ length (now work) ⌝ }
+    ensures { λ r. ⌜ (r ≡ false → (q : ℕ) → q < k → getD (now (work .entry)) (a + q) 0 ≡ 0) ⌝ }
+{
+    let mut seen: u8 = 0;
+    let mut i = 0;
+    while i < k {
+        seen = seen | work[a + i];
+        i += 1;
+    }
+    0 < seen
+}
+
+// Sets them to 0 where one is not.
+pub fn clear_part(work: &mut [u8], a: usize, k: usize)
+    requires { ⌜ a + k ≤ length (now work) ⌝ }
+    ensures { λ _. ⌜ Cleared (now (work .entry)) (now (work .exit)) a k ⌝ }
+{
+    if any_set(work, a, k) {
+        zero(work, a, k);
+    }
+}
+
+// Sets the k bytes from a on to 0, part by part: of a work buffer that a call has left, most are 0 already, and looking is quicker than writing.
+pub fn clear(work: &mut [u8], a: usize, k: usize)
+    requires { ⌜ a + k ≤ length (now work) ⌝ }
+    ensures { λ _. ⌜ Cleared (now (work .entry)) (now (work .exit)) a k ⌝ }
+{
+    let mut i = 0;
+    while 512 <= k - i {
+        clear_part(work, a + i, 512);
+        i += 512;
+    }
+    zero(work, a + i, k - i);
 }
 
 // Copies the f bytes from a on to b, past them.
