@@ -7,6 +7,7 @@ ghost use mathlib.Core.Path.{_≡_};
 ghost use Rattle.reading.specs.Number.{between};
 ghost use Rattle.reading.specs.Said.{said, behind};
 
+// The bytes, and the place of the number that comes next.
 pub struct Reader<'a> {
     pub src: &'a [u8],
     pub at: usize,
