@@ -9,3 +9,4 @@ pub mod Stepping
 pub mod Step
 pub mod Replies
 pub mod Missing
+pub mod Met
