@@ -31,3 +31,16 @@ pub fn files(folder: &Path, end: &str) -> Result<Vec<PathBuf>> {
     found.sort();
     Ok(found)
 }
+
+/// The files that a cell of a table names: a whole path, and behind it names in the same folder.
+pub fn paths(cell: &str) -> Vec<String> {
+    let mut found: Vec<String> = Vec::new();
+    for word in cell.split('`').skip(1).step_by(2) {
+        let folder = found.last().and_then(|path| path.rsplit_once('/')).map(|(folder, _)| folder.to_string());
+        found.push(match folder {
+            Some(folder) if !word.contains('/') => format!("{folder}/{word}"),
+            _ => word.to_string(),
+        });
+    }
+    found
+}

@@ -80,3 +80,40 @@ fn wrong_programs_have_their_edits() {
     let gone: Vec<_> = edits.filter(|word| !there.iter().any(|edit| edit == *word)).collect();
     assert!(gone.is_empty(), "on the page and not there: {gone:?}");
 }
+
+/// Every file of definitions that a public contract reaches is in the table of what shows that it is not empty, and each law named there is declared in a file that its row names.
+#[test]
+fn definitions_are_met() {
+    let page = std::fs::read_to_string(repository().join("docs/CONTRACTS.md")).expect("the page");
+    let (_, section) = page.split_once("## Each definition is met by something").expect("the section");
+    let mut named = Vec::new();
+    for row in section.lines().filter(|line| line.starts_with("| `")) {
+        let cells: Vec<&str> = row.split('|').collect();
+        named.extend(audit::paths(cells[1]));
+        let words: Vec<&str> = cells[2].split('`').skip(1).step_by(2).collect();
+        let (files, laws): (Vec<&str>, Vec<&str>) = words.into_iter().partition(|word| word.contains('/'));
+        let text: String = files.iter().map(|file| source(file)).collect();
+        for law in laws {
+            assert!(text.lines().any(|line| declares(line, law)), "{law} is not declared in {files:?}");
+        }
+    }
+    for module in believed::reached(&repository()).expect("the sources") {
+        let path = module.path.to_string_lossy().into_owned();
+        let known = path.contains("/Laws/") || named.iter().any(|name| path.ends_with(&format!("crates/{name}.antt")));
+        assert!(known, "{path} is not in the table");
+    }
+}
+
+fn source(path: &str) -> String {
+    std::fs::read_to_string(repository().join(format!("crates/{path}.antt"))).expect(path)
+}
+
+fn declares(line: &str, law: &str) -> bool {
+    line.trim_start().strip_prefix("pub ").is_some_and(|rest| rest.starts_with(&format!("{law} :")))
+}
+
+#[test]
+fn paths_in_a_cell_are_read() {
+    assert_eq!(audit::paths(" `pack/specs/State`, `Condition` "), ["pack/specs/State", "pack/specs/Condition"]);
+    assert!(declares("  pub starts-one : (C : ℕ)", "starts-one") && !declares("pub starts-one-more : ℕ", "starts-one"));
+}
