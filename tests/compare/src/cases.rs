@@ -44,6 +44,19 @@ pub fn repeated<'a>(
     }
 }
 
+/// The same call again and again, the work buffer full of other bytes before each.
+pub fn refilled<'a>(
+    by: &'a mut impl Implementation,
+    call: &'a Call,
+    buffers: &'a RefCell<(Vec<u8>, Vec<u8>)>,
+) -> impl FnMut() + 'a {
+    let mut run = repeated(by, call, buffers);
+    move || {
+        buffers.borrow_mut().1.fill(0xa5);
+        run()
+    }
+}
+
 /// Medians of the library's, the tuned engine's and the readable reference's time, in nanoseconds; all three must answer
 /// the same.
 pub fn medians(call: &Call) -> [f64; 3] {

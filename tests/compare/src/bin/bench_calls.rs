@@ -1,7 +1,7 @@
 //! How long the calls take in the proved library, in the tuned engine and in the readable reference. A word given as an
 //! argument measures only the cases that have it in their names.
 
-use compare::cases::{answer, pair, query, repeated, start};
+use compare::cases::{answer, pair, query, refilled, repeated, start};
 use compare::library::Library;
 use compare::tables::{early, late, parting, stepping, TRIGGERS};
 use compare::timing::{compare, Way, ROUNDS};
@@ -20,8 +20,12 @@ fn main() {
         "All three are lent the same buffers and set the first 49,152 bytes of the work buffer to 0 in every call;"
     );
     println!(
-        "nothing is cleared between calls. The tuned engine keeps its memory; the readable reference allocates.\n"
+        "nothing is cleared between calls, so each finds it as the one before has left it. The tuned engine keeps its"
     );
+    println!(
+        "memory; the readable reference allocates. Where it says so the work buffer is filled with other bytes before each"
+    );
+    println!("call, and the filling counts.\n");
     for characters in [2, 6] {
         for count in [2, 8, 32] {
             let size = format!("{count} nodes, {characters} characters");
@@ -32,8 +36,31 @@ fn main() {
             measure(&format!("Compare, {size}, the same"), &pair(characters, same));
             measure(&format!("Compare, {size}, that part late"), &pair(characters, parting(characters, count)));
             steps(&size, characters, &early(characters, count));
+            unclean(&size, characters, &early(characters, count));
         }
     }
+}
+
+/// A step in a work buffer that is full of other bytes.
+fn unclean(size: &str, characters: usize, nodes: &[Node]) {
+    let name = format!("Step, {size}, work buffer filled before each call");
+    let pack = draft::bytes(&stepping(characters, nodes.to_vec(), false));
+    let call = Call::new(pack, Ask::Step { chart: chart::bytes(nodes), action: 0 });
+    if !wanted(&name) {
+        return;
+    }
+    println!("{name}: {} bytes handed in", call.handed().concat().len());
+    let (mut library, mut engine) = (Library::new(), Engine::new());
+    let buffers = RefCell::new((lent(call.result), lent(call.work)));
+    compare(&mut [
+        Way::new("library", refilled(&mut library, &call, &buffers)),
+        Way::new("tuned", refilled(&mut engine, &call, &buffers)),
+        Way::new("filling", || buffers.borrow_mut().1.fill(0xa5)),
+    ]);
+}
+
+fn wanted(name: &str) -> bool {
+    std::env::args().skip(1).all(|word| name.contains(&word))
 }
 
 /// A step with and without triggers, beside the same call with an action whose condition fails: the difference is what
@@ -54,8 +81,7 @@ fn measure(name: &str, call: &Call) {
 
 /// Measures a call, if it is wanted and the library has it; and in turn with it one that is refused as 10, if given.
 fn measure_beside(name: &str, call: &Call, refused: Option<&Call>) {
-    let wanted = std::env::args().skip(1).all(|word| name.contains(&word));
-    if !wanted || !Library::has(&call.ask) {
+    if !wanted(name) || !Library::has(&call.ask) {
         return;
     }
     let expected = answer(&mut Reference, call);
