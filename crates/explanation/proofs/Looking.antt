@@ -20,7 +20,7 @@ use Rattle.pack.specs.Table.{stateOf, bytesAt}
 use Rattle.pack.specs.declared.table.Table.{Table}
 use Rattle.pack.proofs.Judging.{Left, Next, left-start, left-one, left-next, left-none, counted-starts, test-ends, RuleParts, rule-parts}
 use Rattle.pack.proofs.OneByte.{test-bytes, effect-bytes}
-use Rattle.transition.specs.Happening.{nothing, actionOf}
+use Rattle.change.specs.Happening.{nothing, actionOf}
 use Rattle.transition.specs.Laws.Still.{writes, triggerWrites, plays-still, couldAt, couldPass, couldAll, couldHold, couldExceed, no-exceed}
 use Rattle.explanation.specs.Inner.Look.{movedBy, Acting, Acted, Moved, Looking, Lookable, Looked, Tryable, Hopeless}
 

@@ -30,12 +30,12 @@ use Rattle.chart.specs.Call.{workRoom}
 use Rattle.partition.specs.Chart.{Starts}
 use Rattle.partition.specs.Laws.Lists.{stands, place}
 use Rattle.partition.specs.Laws.Unique.{some}
-use Rattle.transition.specs.Happening.{nothing, actionOf, Plays, Refuses}
+use Rattle.change.specs.Happening.{nothing, actionOf, Plays, Refuses}
 use Rattle.transition.specs.Laws.Settled.{plays-one, plays-refuses}
-use Rattle.transition.specs.Inner.Cause.{Tabled}
+use Rattle.change.specs.Inner.Cause.{Tabled}
 use Rattle.transition.specs.Inner.Stage.{StageRoom, SlotOnly}
 use Rattle.transition.specs.Inner.Play.{Setting, Left, PlayedIn}
-use Rattle.transition.proofs.Changing.{tabled-same, small, row-inside, belief-is, belief-in as inside-table}
+use Rattle.change.proofs.Changing.{tabled-same, small, row-inside, belief-is, belief-in as inside-table}
 use Rattle.explanation.specs.declared.explain.Shape.{Shape}
 use Rattle.explanation.specs.declared.memory.Key.{Key}
 use Rattle.explanation.specs.Ending.{Leads, Explained, utilityTo}

@@ -6,7 +6,7 @@ use lib.ListN.{getD, length}
 use Rattle.pack.specs.Syntax.{Theory}
 use Rattle.pack.specs.State.{State, belief}
 use Rattle.pack.specs.Condition.{utility}
-use Rattle.transition.specs.Happening.{Plays, actionOf}
+use Rattle.change.specs.Happening.{Plays, actionOf}
 
 -- "worths, the author's first, then each character's"
 abbrev pub authorUtility : Theory → State → ℕ

@@ -18,7 +18,7 @@ use Rattle.pack.specs.declared.table.Table.{Table}
 use Rattle.chart.specs.Call.{workRoom}
 use Rattle.chart.specs.Earliest.{Before}
 use Rattle.partition.specs.Laws.Lists.{place}
-use Rattle.transition.specs.Happening.{nothing, Plays, actionOf}
+use Rattle.change.specs.Happening.{nothing, Plays, actionOf}
 use Rattle.transition.specs.Laws.Settled.{plays-one}
 use Rattle.explanation.specs.declared.explain.Shape.{Shape}
 use Rattle.explanation.specs.Ending.{Leads, Explained, authorUtility}

@@ -20,7 +20,7 @@ use Rattle.chart.specs.Call.{fits}
 use Rattle.chart.specs.Replies.{startReply, queryReply, compareReply}
 use Rattle.chart.specs.Laws.Answers.{one-meaning, fits-table}
 use Rattle.chart.specs.Laws.Replies.{Given, Chart, given-fits, both-true, long-enough, call-ranged, start-writes, query-says, compare-says, compare-chain, charts-equal, chart-means, chart-bounded}
-use Rattle.transition.specs.Happening.{Plays, Refuses}
+use Rattle.change.specs.Happening.{Plays, Refuses}
 use Rattle.transition.specs.Step.{Outcome, Steps}
 use Rattle.transition.specs.Replies.{stepReply}
 use Rattle.transition.specs.Laws.Settled.{plays-refuses, plays-one}

@@ -11,14 +11,14 @@ use Rattle.pack.specs.State.{meaning}
 use Rattle.pack.specs.Answer.{dims}
 use Rattle.pack.specs.Contents.{ActionStands}
 use Rattle.pack.specs.declared.table.Table.{Table}
-use Rattle.transition.specs.declared.change.Change.{Change}
-use Rattle.transition.specs.Happening.{nothing, actionOf, observes, act}
-use Rattle.transition.specs.Inner.Cause.{told, EffectsAt, Telling}
-use Rattle.transition.specs.Inner.Change.{Scene, Stands, Kinds}
+use Rattle.change.specs.declared.change.Change.{Change}
+use Rattle.change.specs.Happening.{nothing, actionOf, observes, act}
+use Rattle.change.specs.Inner.Cause.{told, EffectsAt, Telling}
+use Rattle.change.specs.Inner.Change.{Scene, Stands, Kinds}
 use Rattle.transition.specs.Inner.Stage.{Staged}
 use Rattle.transition.specs.Inner.Play.{Untold, Setting, Acted}
 use Rattle.transition.proofs.Firing.{effects-inside}
-use Rattle.transition.proofs.Changing.{small}
+use Rattle.change.proofs.Changing.{small}
 
 -- true is not false
 pub clash : {B : Type 0} {b : Bool} → b ≡ true → b ≡ false → B

@@ -17,8 +17,8 @@ use Rattle.pack.specs.Judge.{Over, Judged}
 use Rattle.pack.specs.Table.{stateOf}
 use Rattle.pack.specs.declared.table.Table.{Table}
 use Rattle.pack.proofs.Judging.{counted-starts}
-use Rattle.transition.specs.Happening.{firing, effectsOf}
-use Rattle.transition.specs.Inner.Cause.{Tabled}
+use Rattle.change.specs.Happening.{firing, effectsOf}
+use Rattle.change.specs.Inner.Cause.{Tabled}
 use Rattle.transition.specs.Inner.Fire.{Triggered, FireIs, Firable, Fires, FiredBelow}
 
 -- what stands for a trigger that isn't there

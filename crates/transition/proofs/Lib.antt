@@ -1,7 +1,4 @@
 -- The modules of `proofs/` that belong to no one function.
-pub mod Causing
-pub mod Changing
-pub mod Rowing
 pub mod Firing
 pub mod Staging
 pub mod Acting

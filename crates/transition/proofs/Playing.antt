@@ -15,7 +15,7 @@ use Rattle.pack.specs.Judge.{Over, Judged}
 use Rattle.pack.specs.Table.{rowsAt, stateOf}
 use Rattle.pack.specs.declared.table.Table.{Table}
 use Rattle.partition.specs.States.{AtMost}
-use Rattle.transition.specs.Happening.{nothing, actionOf, act, Settles, Stops, Refuses}
+use Rattle.change.specs.Happening.{nothing, actionOf, act, Settles, Stops, Refuses}
 use Rattle.transition.specs.Inner.Play.{Setting, Slotted, Acted, SettledIn, PlayedIn}
 use Rattle.transition.proofs.Settling.{only-none, only-then, tableIn, slot-small}
 

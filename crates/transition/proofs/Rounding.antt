@@ -25,17 +25,17 @@ use Rattle.partition.specs.Laws.Counted.{at-most}
 use Rattle.partition.specs.Laws.Unique.{ordered-reached, some}
 use Rattle.partition.proofs.Cells.{cells-same, row-in, rows-node, rows-same}
 use Rattle.partition.proofs.Merging.{classed-apart}
-use Rattle.transition.specs.declared.change.Change.{Change}
-use Rattle.transition.specs.Happening.{change}
-use Rattle.transition.specs.Laws.Changed as changed
-use Rattle.transition.specs.Laws.Changed.{acted, There}
-use Rattle.transition.specs.Inner.Cause.{told, Telling, Tellable, ToldWritten}
-use Rattle.transition.specs.Inner.Change.{Scene, Stands, at}
+use Rattle.change.specs.declared.change.Change.{Change}
+use Rattle.change.specs.Happening.{change}
+use Rattle.change.specs.Laws.Changed as changed
+use Rattle.change.specs.Laws.Changed.{acted, There}
+use Rattle.change.specs.Inner.Cause.{told, Telling, Tellable, ToldWritten}
+use Rattle.change.specs.Inner.Change.{Scene, Stands, at}
 use Rattle.transition.specs.Inner.Stage.{StageRoom, SlotOnly, InSlot, Staged}
 use Rattle.transition.specs.Inner.Play.{Slotted, Acted}
 use Rattle.transition.specs.Inner.Round.{Silent, Caused, Rewritten, SlotTable, Everyone}
-use Rattle.transition.proofs.Causing.{untold-write}
-use Rattle.transition.proofs.Changing.{small}
+use Rattle.change.proofs.Causing.{untold-write}
+use Rattle.change.proofs.Changing.{small}
 use Rattle.transition.proofs.Staging.{put-down}
 use Rattle.transition.proofs.Settling.{only-then}
 

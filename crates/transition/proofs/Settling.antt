@@ -18,16 +18,16 @@ use Rattle.partition.specs.Chart.{Starts}
 use Rattle.partition.specs.States.{AtMost}
 use Rattle.partition.specs.Laws.Counted.{counted}
 use Rattle.partition.specs.Laws.Unique.{ordered-reached, some}
-use Rattle.transition.specs.declared.change.Change.{Change}
-use Rattle.transition.specs.Happening.{Quiet, Settles, Stops, firing, fires, round}
+use Rattle.change.specs.declared.change.Change.{Change}
+use Rattle.change.specs.Happening.{Quiet, Settles, Stops, firing, fires, round}
 use Rattle.transition.specs.Laws.Quiet.{quiet}
 use Rattle.transition.specs.Laws.Settled.{Going, going-start, going-on}
-use Rattle.transition.specs.Inner.Cause.{Tabled}
-use Rattle.transition.specs.Inner.Change.{Scene, Stands}
+use Rattle.change.specs.Inner.Cause.{Tabled}
+use Rattle.change.specs.Inner.Change.{Scene, Stands}
 use Rattle.transition.specs.Inner.Fire.{Triggered, Firable, FiredBelow}
 use Rattle.transition.specs.Inner.Stage.{StageRoom, SlotOnly, InSlot, Staged}
 use Rattle.transition.specs.Inner.Play.{Theorized, Setting, Slotted, Left, SettledIn}
-use Rattle.transition.proofs.Changing.{small}
+use Rattle.change.proofs.Changing.{small}
 use Rattle.transition.proofs.Acting.{clash}
 
 -- a state with a written chart of at most 32 rows

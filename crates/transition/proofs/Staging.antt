@@ -25,11 +25,11 @@ use Rattle.partition.specs.Laws.Merged.{classes, grows}
 use Rattle.partition.specs.Laws.Unique.{ordered-reached, some}
 use Rattle.partition.proofs.Cells.{rows-same}
 use Rattle.partition.proofs.Numbering.{pigeons}
-use Rattle.transition.specs.declared.change.Change.{Change}
-use Rattle.transition.specs.Happening.{change}
-use Rattle.transition.specs.Inner.Change.{Scene, Stands, at, Laid, ChangeMade}
+use Rattle.change.specs.declared.change.Change.{Change}
+use Rattle.change.specs.Happening.{change}
+use Rattle.change.specs.Inner.Change.{Scene, Stands, at, Laid, ChangeMade}
 use Rattle.transition.specs.Inner.Stage.{StageRoom, SlotOnly, InSlot, Staged}
-use Rattle.transition.proofs.Changing.{small}
+use Rattle.change.proofs.Changing.{small}
 
 pub down-more : {was now : List ℕ} {a b k : ℕ} → PartCopied was now a b k → b + k < length now → b + k < a + k → PartCopied was (set now (b + k) (getD now (a + k) 0)) a b (k + 1)
 down-more {was} {now} {a} {b} {k} c l apart = let v = getD now (a + k) 0 in record {

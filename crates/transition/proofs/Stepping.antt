@@ -26,7 +26,7 @@ use Rattle.chart.specs.Laws.Answers.{fits-table}
 use Rattle.chart.proofs.Charting.{chart-out}
 use Rattle.chart.proofs.Looking.{cleared-all}
 use Rattle.partition.proofs.Merging.{ordered-sound}
-use Rattle.transition.specs.Happening.{Plays, Refuses, Stops}
+use Rattle.change.specs.Happening.{Plays, Refuses, Stops}
 use Rattle.transition.specs.Step.{Outcome, leaves, refused, Steps}
 use Rattle.transition.specs.Answers.{stepTable}
 use Rattle.transition.specs.Replies.{outcomeReply}

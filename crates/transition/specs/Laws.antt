@@ -1,4 +1,3 @@
-pub mod Changed
 pub mod Quiet
 pub mod Settled
 pub mod Tabled

@@ -1,4 +1,3 @@
-pub mod Happening
 pub mod Step
 pub mod Laws
 pub mod Answers

@@ -5,7 +5,7 @@ use lib.ListN.{length}
 use Rattle.pack.specs.Syntax.{Node, Theory}
 use Rattle.pack.specs.State.{State, meaning}
 use Rattle.partition.specs.Chart.{Written}
-use Rattle.transition.specs.Happening.{Plays, Refuses}
+use Rattle.change.specs.Happening.{Plays, Refuses}
 
 -- a chart, or a number
 pub data Outcome : Type 0 where

@@ -1,7 +1,5 @@
 // The transition layer: what actions and triggers make of a state. What it promises stands in specs/; Step hands back chart's `Charted`.
 pub mod act;
-pub mod cause;
-pub mod change;
 pub mod fire;
 pub mod round;
 pub mod settle;

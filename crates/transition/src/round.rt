@@ -1,8 +1,8 @@
 // A round of triggers in a slot. Where it tells nobody anything, every belief stays where it was: the values change in place, and rows that have become the same are merged.
-use crate::cause::write_told;
-use crate::change::Change;
 use crate::stage::copy_down;
 use crate::stage::stage;
+use change::cause::write_told;
+use change::change::Change;
 use pack::table::Table;
 use partition::merge::write_merged;
 use partition::partition::partition;
@@ -16,8 +16,8 @@ ghost use Rattle.pack.specs.Syntax.{Effect};
 ghost use Rattle.pack.specs.Grammar.{Dimensions};
 ghost use Rattle.pack.specs.Judge.{Small};
 ghost use Rattle.pack.specs.Table.{tableOf, stateOf};
-ghost use Rattle.transition.specs.Inner.Cause.{EffectsAt, Telling};
-ghost use Rattle.transition.specs.Inner.Change.{Scene, Stands, Scened};
+ghost use Rattle.change.specs.Inner.Cause.{EffectsAt, Telling};
+ghost use Rattle.change.specs.Inner.Change.{Scene, Stands, Scened};
 ghost use Rattle.transition.specs.Inner.Stage.{StageRoom, Staged};
 ghost use Rattle.transition.specs.Inner.Play.{Slotted, Acted};
 ghost use Rattle.transition.specs.Inner.Round.{Silent, Caused, CausedSome, Rewritten, SlotTable, Everyone};

@@ -1,7 +1,7 @@
 // Rounds of triggers, until none holds anywhere.
-use crate::change::Change;
 use crate::fire::fire_all;
 use crate::round::round;
+use change::change::Change;
 use pack::table::Table;
 ghost use mathlib.Core.List.{List};
 ghost use Prim.Native.Nat.{ℕ};

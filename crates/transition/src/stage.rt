@@ -1,13 +1,13 @@
 // A stage of Step, part 1 or a round: the pass, the partition, and the merged table, which is put into a slot of the work buffer.
-use crate::change::Change;
-use crate::change::change_table;
+use change::change::Change;
+use change::change::change_table;
 use pack::table::Table;
 use partition::merge::write_merged;
 use partition::partition::partition;
 ghost use Prim.Native.Nat.{_+_, _≤_};
 ghost use lib.ListN.{length};
 ghost use Rattle.partition.specs.Inner.Put.{PartCopied};
-ghost use Rattle.transition.specs.Inner.Change.{Scene, Stands, Scened};
+ghost use Rattle.change.specs.Inner.Change.{Scene, Stands, Scened};
 ghost use Rattle.transition.specs.Inner.Stage.{StageRoom, Staged};
 
 // Copies the k bytes from a on to b, below them.

@@ -10,7 +10,7 @@ use Rattle.pack.specs.Table as table
 use Rattle.pack.specs.declared.table.Table.{Table}
 use Rattle.chart.specs.Call.{workRoom, cleared}
 use Rattle.chart.specs.Inner.Look.{NodesRead}
-use Rattle.transition.specs.Inner.Cause.{Tabled}
+use Rattle.change.specs.Inner.Cause.{Tabled}
 use Rattle.transition.specs.Inner.Play.{Theorized}
 use Rattle.explanation.specs.declared.explain.Shape.{Shape}
 use Rattle.explanation.specs.Inner.Memory.{Laid, Memory}

@@ -6,7 +6,7 @@ use lib.ListN.{getD}
 use Rattle.pack.specs.Syntax.{Theory}
 use Rattle.pack.specs.State.{State}
 use Rattle.pack.specs.declared.table.Table.{Table}
-use Rattle.transition.specs.Happening.{actionOf}
+use Rattle.change.specs.Happening.{actionOf}
 use Rattle.explanation.specs.declared.explain.Shape.{Shape}
 use Rattle.explanation.specs.Ending.{Explained, utilityTo, authorUtility}
 use Rattle.explanation.specs.Laws.Explaining as explaining

@@ -13,7 +13,7 @@ use Rattle.pack.specs.Contents.{Gives}
 use Rattle.pack.specs.Judge.{Over}
 use Rattle.pack.specs.Table.{stateOf, TableFits}
 use Rattle.pack.specs.declared.table.Table.{Table}
-use Rattle.transition.specs.Happening.{Plays, actionOf}
+use Rattle.change.specs.Happening.{Plays, actionOf}
 use Rattle.transition.specs.Laws.Still.{writes, triggerWrites}
 use Rattle.transition.specs.Inner.Play.{Theorized}
 

@@ -10,7 +10,7 @@ use Rattle.pack.specs.State.{State, belief}
 use Rattle.pack.specs.Syntax.{Theory}
 use Rattle.partition.specs.Laws.Count.{any}
 use Rattle.chart.specs.Laws.Tabled.{Tabled, tabled-belief}
-use Rattle.transition.specs.Happening.{Plays, actionOf}
+use Rattle.change.specs.Happening.{Plays, actionOf}
 use Rattle.transition.specs.Laws.Decided.{play?}
 use Rattle.transition.specs.Laws.Settled.{plays-one}
 use Rattle.explanation.specs.Ending.{Leads, Explained, utilityTo}

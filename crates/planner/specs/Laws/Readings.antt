@@ -15,8 +15,8 @@ use Rattle.chart.specs.Compare.{Differ}
 use Rattle.chart.specs.Earliest.{Before}
 use Rattle.partition.specs.Laws.Counted.{at-most}
 use Rattle.partition.specs.Laws.Unique.{ordered-reached}
-use Rattle.transition.specs.Happening.{Quiet, Settles, Plays, act, atRoot, firing, actionOf, change, observes}
-use Rattle.transition.specs.Laws.Changed.{Member, changed, all-told}
+use Rattle.change.specs.Happening.{Quiet, Settles, Plays, act, atRoot, firing, actionOf, change, observes}
+use Rattle.change.specs.Laws.Changed.{Member, changed, all-told}
 use Rattle.explanation.specs.Ending.{Explained, Ending, Leads}
 use Rattle.planner.specs.Search.{Sought}
 

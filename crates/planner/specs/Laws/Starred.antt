@@ -17,7 +17,7 @@ use Rattle.pack.specs.Laws.Exact.{Bytes}
 use Rattle.chart.specs.Compare.{same, differ}
 use Rattle.chart.specs.Replies.{allBelow}
 use Rattle.chart.specs.Laws.Replies.{Given, Chart, start-says, compare-says}
-use Rattle.transition.specs.Happening.{Refuses}
+use Rattle.change.specs.Happening.{Refuses}
 use Rattle.transition.specs.Step.{leaves, refused, Steps}
 use Rattle.transition.specs.Laws.Replies.{step-says}
 use Rattle.explanation.specs.Ending.{Explained}

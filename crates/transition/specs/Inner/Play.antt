@@ -23,8 +23,8 @@ use Rattle.reading.specs.Reading as reading
 use Rattle.transition.specs.Step.{Outcome, leaves}
 use Rattle.transition.specs.Answers.{stepTable}
 use Rattle.transition.specs.Replies.{outcomeReply}
-use Rattle.transition.specs.Happening.{Settles, Stops, Plays, Refuses}
-use Rattle.transition.specs.Inner.Cause.{told, Tabled}
+use Rattle.change.specs.Happening.{Settles, Stops, Plays, Refuses}
+use Rattle.change.specs.Inner.Cause.{told, Tabled}
 use Rattle.transition.specs.Inner.Stage.{StageRoom, SlotOnly, InSlot}
 
 -- a theory, found in a pack

@@ -11,9 +11,9 @@ use Rattle.pack.specs.Table.{cells, tableOf}
 use Rattle.pack.specs.declared.table.Table.{Table}
 use Rattle.chart.specs.Call.{workRoom}
 use Rattle.partition.specs.Chart.{Ordered}
-use Rattle.transition.specs.declared.change.Change.{Change}
-use Rattle.transition.specs.Inner.Cause.{told, EffectsAt, Tabled}
-use Rattle.transition.specs.Inner.Change.{Scene, at}
+use Rattle.change.specs.declared.change.Change.{Change}
+use Rattle.change.specs.Inner.Cause.{told, EffectsAt, Tabled}
+use Rattle.change.specs.Inner.Change.{Scene, at}
 
 -- effects that are meant for nobody's beliefs
 abbrev pub Silent : List Effect → Type 0

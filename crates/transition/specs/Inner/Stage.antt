@@ -10,8 +10,8 @@ use Rattle.partition.specs.Chart.{Starts}
 use Rattle.partition.specs.States.{AtMost}
 use Rattle.partition.specs.Inner.Bytes.{Between}
 use Rattle.pack.specs.State.{State}
-use Rattle.transition.specs.Happening.{change}
-use Rattle.transition.specs.Inner.Change.{Scene, at}
+use Rattle.change.specs.Happening.{change}
+use Rattle.change.specs.Inner.Change.{Scene, at}
 
 -- a table and a slot lie below the scratch
 pub record StageRoom (work : List ℕ) (t : Table) (slot : ℕ) : Type 0 where

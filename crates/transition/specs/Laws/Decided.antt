@@ -14,7 +14,7 @@ use Rattle.chart.specs.Laws.Charted.{Charting, chart, few?}
 use Rattle.partition.specs.Laws.Count.{every}
 use Rattle.chart.specs.Laws.Tabled.{Tabled}
 use Rattle.partition.specs.Laws.Unique.{ordered-reached, some}
-use Rattle.transition.specs.Happening.{Quiet, Settles, Plays, firing, actionOf, Stops, Refuses}
+use Rattle.change.specs.Happening.{Quiet, Settles, Plays, firing, actionOf, Stops, Refuses}
 use Rattle.transition.specs.Laws.Quiet.{quiet}
 use Rattle.transition.specs.Laws.Settled.{plays-refuses}
 use Rattle.transition.specs.Laws.Tabled.{tabled-act, tabled-round}

@@ -11,7 +11,7 @@ use Rattle.pack.specs.Condition.{holds, write}
 use Rattle.pack.specs.Layout.{Each, Valued, EffectFits, ActionFits, TriggerFits, PackFits}
 use Rattle.pack.specs.Laws.Fits.{each-at, each-weak, valued-set}
 use Rattle.partition.specs.States.{Everywhere}
-use Rattle.transition.specs.Happening.{atRoot, change, observes, act, firing, effectsOf, fires, round, Settles, nothing, actionOf, Plays}
+use Rattle.change.specs.Happening.{atRoot, change, observes, act, firing, effectsOf, fires, round, Settles, nothing, actionOf, Plays}
 
 -- writing these effects keeps P, for whomever they are meant
 abbrev pub Keeps : (List ℕ → Type 0) → List Effect → Type 0

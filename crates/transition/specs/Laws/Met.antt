@@ -13,7 +13,7 @@ use Rattle.pack.specs.Condition.{holds, allPass, write}
 use Rattle.partition.specs.States.{AtMost}
 use Rattle.partition.specs.Laws.Count.{count, all, count-all, count-inj}
 use Rattle.partition.specs.Laws.Lists.{place}
-use Rattle.transition.specs.Happening.{atRoot, change, observes, act, firing, fires, round, Quiet, Settles, Stops, actionOf, Plays, Refuses}
+use Rattle.change.specs.Happening.{atRoot, change, observes, act, firing, fires, round, Quiet, Settles, Stops, actionOf, Plays, Refuses}
 
 -- an alternative without tests
 abbrev always : Condition

@@ -10,7 +10,7 @@ use Rattle.pack.specs.State.{State, meaning, Closed, walk}
 use Rattle.pack.specs.Syntax.{Theory, Trigger, Node}
 use Rattle.pack.specs.Laws.Table.{after-walk, walk-inside}
 use Rattle.partition.specs.Laws.Counted.{there, Reached}
-use Rattle.transition.specs.Happening.{Quiet, firing}
+use Rattle.change.specs.Happening.{Quiet, firing}
 
 module _ (p : Theory) (t : List Node) (reached : (i : ℕ) → i < length t → Reached (p .characters) t i) where
   abbrev at : ℕ → State

@@ -16,7 +16,7 @@ use Rattle.partition.specs.Chart.{ChartOf}
 use Rattle.chart.specs.Call.{chartRoom, workRoom, fits}
 use Rattle.chart.specs.Laws.Answers.{fits-table}
 use Rattle.chart.specs.Laws.Replies.{Given, Chart, given-fits, chart-fits, both-true, long-enough, call-one}
-use Rattle.transition.specs.Happening.{Plays, Refuses}
+use Rattle.change.specs.Happening.{Plays, Refuses}
 use Rattle.transition.specs.Step.{Outcome, Steps}
 use Rattle.transition.specs.Answers.{stepTable}
 use Rattle.transition.specs.Replies.{outcomeReply, stepReply}

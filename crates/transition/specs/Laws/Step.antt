@@ -13,7 +13,7 @@ use Rattle.partition.specs.Laws.Counted.{counted}
 use Rattle.chart.specs.Laws.Tables.{IsTable, on-table}
 use Rattle.partition.specs.Laws.Unique.{ordered-reached, some}
 use Rattle.transition.specs.Answers.{stepTable}
-use Rattle.transition.specs.Happening.{Plays}
+use Rattle.change.specs.Happening.{Plays}
 use Rattle.transition.specs.Step.{Outcome, leaves, refused, Steps}
 use Rattle.transition.specs.Laws.Settled.{settles-few}
 use Rattle.transition.specs.Laws.Stepping.{stepOf, steps, steps-one}

@@ -10,7 +10,7 @@ use Rattle.pack.specs.Syntax.{Theory}
 use Rattle.chart.specs.Laws.Charted.{chart}
 use Rattle.chart.specs.Laws.Tabled.{Tabled}
 use Rattle.partition.specs.Laws.Unique.{unique}
-use Rattle.transition.specs.Happening.{Plays}
+use Rattle.change.specs.Happening.{Plays}
 use Rattle.transition.specs.Step.{Steps, Outcome, leaves, refused}
 use Rattle.transition.specs.Laws.Decided.{step}
 use Rattle.transition.specs.Laws.Settled.{plays-one, plays-refuses, refuses-one}

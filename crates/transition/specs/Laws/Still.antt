@@ -12,7 +12,7 @@ use borrow.Author.Tests.{eqb-false, ltb-false}
 use Rattle.pack.specs.Syntax.{Effect, Trigger, Test, Condition, Rule, Theory}
 use Rattle.pack.specs.State.{State}
 use Rattle.pack.specs.Condition.{compares, passes, allPass, holds, utility, write}
-use Rattle.transition.specs.Happening.{change, act, firing, effectsOf, fires, round, Settles, actionOf, Plays}
+use Rattle.change.specs.Happening.{change, act, firing, effectsOf, fires, round, Settles, actionOf, Plays}
 
 -- some effect is meant for the state itself and writes f
 unfoldable pub writes : List Effect → ℕ → Bool

@@ -12,8 +12,8 @@ use Rattle.pack.specs.Syntax.{Action, Trigger, Effect, Node}
 use Rattle.pack.specs.Laws.Table.{means}
 use Rattle.partition.specs.Laws.Lists.{below, map-in, map-out, below-in, below-out}
 use Rattle.chart.specs.Laws.Tabled.{enumerated, tabled-same, Tabled}
-use Rattle.transition.specs.Happening.{act, change, fires, observes, round}
-use Rattle.transition.specs.Laws.Changed.{Member, acted, edge, old, There, next, changed, all-told}
+use Rattle.change.specs.Happening.{act, change, fires, observes, round}
+use Rattle.change.specs.Laws.Changed.{Member, acted, edge, old, There, next, changed, all-told}
 
 -- the members of a change in which every row that takes part is said to tell its characters something: the first row, every edge, every old row
 edges : ℕ → ℕ → List Member

@@ -12,8 +12,8 @@ use Rattle.pack.specs.Syntax.{Node, Theory}
 use Rattle.pack.specs.State.{State, meaning, target}
 use Rattle.pack.specs.Table.{Below, Above}
 use Rattle.chart.specs.Call.{workRoom}
-use Rattle.transition.specs.Happening.{Plays}
-use Rattle.transition.proofs.Changing.{small}
+use Rattle.change.specs.Happening.{Plays}
+use Rattle.change.proofs.Changing.{small}
 use Rattle.explanation.specs.Ending.{Explained, utilityTo}
 use Rattle.explanation.specs.Inner.Lists.{slotTable, AboveBy}
 use Rattle.explanation.specs.Inner.Lists as inner

@@ -12,7 +12,7 @@ use Rattle.pack.specs.Syntax.{Node, Theory}
 use Rattle.pack.specs.State.{meaning}
 use Rattle.pack.specs.Table.{Below, Above}
 use Rattle.chart.specs.Call.{workRoom}
-use Rattle.transition.proofs.Changing.{small}
+use Rattle.change.proofs.Changing.{small}
 use Rattle.explanation.specs.Inner.Lists.{slotTable, Ends, EndsBy}
 use Rattle.explanation.specs.Inner.Memory.{Memory}
 use Rattle.explanation.specs.Inner.Explain.{Stage, Free}

@@ -2,7 +2,7 @@
 use mathlib.Core.Path.{refl}
 use native.Mathlib.Omega.{arith}
 use borrow.Author.Needs.{needs}
-use Rattle.transition.proofs.Changing.{small}
+use Rattle.change.proofs.Changing.{small}
 use Rattle.explanation.proofs.Telling.{slot-stage}
 use Rattle.planner.proofs.Completing.{author-rules, author-utility}
 use Rattle.planner.proofs.search.ends.Statement.{statement}

@@ -1,0 +1,3 @@
+pub mod Happening
+pub mod Laws
+pub mod Inner

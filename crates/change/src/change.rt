@@ -1,0 +1,228 @@
+// The pass that makes a table of what happens in another. A row of the new table stands for one of three: a row that took part; what a character believes in a row that took
+// part and told it something; a row as it was. Each has a slot, seven a row of the old table, by which it is numbered when it is met.
+use crate::cause::takes;
+use crate::cause::tells;
+use crate::cause::write_told;
+use pack::table::Table;
+use partition::bytes::clear;
+use partition::bytes::copy_part;
+use partition::number::more;
+use partition::number::name_beliefs;
+use partition::number::number_of;
+use reading::number::wide;
+ghost use Prim.Native.Nat.{_+_, _*_, _<_, _≤_};
+ghost use lib.ListN.{length};
+ghost use Rattle.partition.specs.Inner.Numbers.{Numbering, keyAt};
+ghost use Rattle.change.specs.Laws.Changed.{acted, edge, old, There};
+ghost use Rattle.change.specs.Inner.Cause.{Tabled};
+ghost use Rattle.change.specs.Inner.Change.{Scene, Stands, Scened, Seen, believed, took, memberOf, SlotIs, SlotsPut, RowRoom, Puts, Laid, RowMade, ChangeMade};
+
+// Which of a row's seven slots stand for the row having taken part and for the row as it was, the others being its characters'; where the observation conditions are; and the
+// row in which it happens.
+pub struct Change {
+    pub acted: usize,
+    pub old: usize,
+    pub observed: usize,
+    pub root: usize,
+}
+
+// The slot of what character d believes in row m, which took part.
+pub fn slot_of(
+    pack: &[u8],
+    places: &[usize],
+    effects: &[usize],
+    h: Change,
+    work: &[u8],
+    t: Table,
+    m: usize,
+    d: usize,
+) -> usize
+    requires { ⌜ Scened (now pack) (now places) (now effects) h (now work) t × (m < t .nodes) × (d < t .characters) ⌝ }
+    ensures { λ r. ⌜ ((s : Scene) → Stands s (now (pack .entry)) (now (places .entry)) (now (effects .entry)) h (now (work .entry)) t → SlotIs h (t .nodes) (believed s (t .characters) m d) r) ⌝ }
+{
+    if tells(pack, effects[m], d + 1) {
+        return m * 7 + d;
+    }
+    let q = wide(work[t.rows + m * t.width + t.fluents + d]);
+    if takes(pack, places, h.observed, work, t, m, d) {
+        q * 7 + h.acted
+    } else {
+        q * 7 + h.old
+    }
+}
+
+// Writes the slots of what the characters believe in row m, which took part.
+pub fn put_slots(
+    pack: &[u8],
+    places: &[usize],
+    effects: &[usize],
+    h: Change,
+    work: &mut [u8],
+    t: Table,
+    m: usize,
+    to: usize,
+)
+    requires { ⌜ Scened (now pack) (now places) (now effects) h (now work) t × (m < t .nodes) × (t .rows + t .nodes * t .width ≤ to) × (to + t .characters ≤ length (now work)) ⌝ }
+    ensures { λ _. ⌜ ((s : Scene) → Stands s (now (pack .entry)) (now (places .entry)) (now (effects .entry)) h (now (work .entry)) t → SlotsPut h (t .nodes) (t .characters) (believed s (t .characters) m) (now (work .entry)) (now (work .exit)) to) ⌝ }
+{
+    let mut d = 0;
+    while d < t.characters {
+        let x = slot_of(pack, places, effects, h, work, t, m, d);
+        work[to + d] = x as u8;
+        d += 1;
+    }
+}
+
+// Writes row m as it is after taking part, its beliefs by slots.
+pub fn put_acted(
+    pack: &[u8],
+    places: &[usize],
+    effects: &[usize],
+    h: Change,
+    work: &mut [u8],
+    t: Table,
+    m: usize,
+    to: usize,
+)
+    requires { ⌜ Scened (now pack) (now places) (now effects) h (now work) t × (m < t .nodes) × RowRoom (now work) t to ⌝ }
+    ensures { λ _. ⌜ ((s : Scene) → Stands s (now (pack .entry)) (now (places .entry)) (now (effects .entry)) h (now (work .entry)) t → Puts s h t (acted m) (now (work .entry)) (now (work .exit)) to) ⌝ }
+{
+    let from = t.rows + m * t.width;
+    copy_part(work, from, to, t.fluents);
+    write_told(pack, effects[m], 0, work, to, t.fluents);
+    put_slots(pack, places, effects, h, work, t, m, to + t.fluents)
+}
+
+// Writes row m as it was, its beliefs by slots.
+pub fn put_old(h: Change, work: &mut [u8], t: Table, m: usize, to: usize)
+    requires { ⌜ Seen (now work) t × (m < t .nodes) × (h .old < 7) × RowRoom (now work) t to ⌝ }
+    ensures { λ _. ⌜ ((s : Scene) → Tabled (s .dimensions) (s .table) (now (work .entry)) t → Puts s h t (old m) (now (work .entry)) (now (work .exit)) to) ⌝ }
+{
+    let from = t.rows + m * t.width;
+    copy_part(work, from, to, t.fluents);
+    let mut d = 0;
+    while d < t.characters {
+        let q = wide(work[from + t.fluents + d]);
+        work[to + t.fluents + d] = (q * 7 + h.old) as u8;
+        d += 1;
+    }
+}
+
+// Writes what character c believes in row m, having taken part or as it was.
+pub fn put_believed(
+    pack: &[u8],
+    places: &[usize],
+    effects: &[usize],
+    h: Change,
+    work: &mut [u8],
+    t: Table,
+    m: usize,
+    c: usize,
+    to: usize,
+)
+    requires { ⌜ Scened (now pack) (now places) (now effects) h (now work) t × (m < t .nodes) × (c < t .characters) × RowRoom (now work) t to ⌝ }
+    ensures { λ _. ⌜ ((s : Scene) → Stands s (now (pack .entry)) (now (places .entry)) (now (effects .entry)) h (now (work .entry)) t → Puts s h t (took s (t .characters) m c) (now (work .entry)) (now (work .exit)) to) ⌝ }
+{
+    let q = wide(work[t.rows + m * t.width + t.fluents + c]);
+    if takes(pack, places, h.observed, work, t, m, c) {
+        put_acted(pack, places, effects, h, work, t, q, to)
+    } else {
+        put_old(h, work, t, q, to)
+    }
+}
+
+// Writes what character c believes in row m, which took part and told it something.
+pub fn put_edge(
+    pack: &[u8],
+    places: &[usize],
+    effects: &[usize],
+    h: Change,
+    work: &mut [u8],
+    t: Table,
+    m: usize,
+    c: usize,
+    to: usize,
+)
+    requires { ⌜ Scened (now pack) (now places) (now effects) h (now work) t × (m < t .nodes) × (c < t .characters) × RowRoom (now work) t to ⌝ }
+    ensures { λ _. ⌜ ((s : Scene) → Stands s (now (pack .entry)) (now (places .entry)) (now (effects .entry)) h (now (work .entry)) t → Puts s h t (edge m c) (now (work .entry)) (now (work .exit)) to) ⌝ }
+{
+    put_believed(pack, places, effects, h, work, t, m, c, to);
+    write_told(pack, effects[m], c + 1, work, to, t.fluents)
+}
+
+// Writes the row of a slot. The last slot is that of the root having taken part.
+pub fn put_member(
+    pack: &[u8],
+    places: &[usize],
+    effects: &[usize],
+    h: Change,
+    work: &mut [u8],
+    t: Table,
+    slot: usize,
+    to: usize,
+)
+    requires { ⌜ Scened (now pack) (now places) (now effects) h (now work) t × (slot < t .nodes * 7 + 1) × There (t .characters) (memberOf h (t .nodes) slot) × RowRoom (now work) t to ⌝ }
+    ensures { λ _. ⌜ ((s : Scene) → Stands s (now (pack .entry)) (now (places .entry)) (now (effects .entry)) h (now (work .entry)) t → Puts s h t (memberOf h (t .nodes) slot) (now (work .entry)) (now (work .exit)) to) ⌝ }
+{
+    let m = slot / 7;
+    let kind = slot % 7;
+    if m == t.nodes {
+        put_acted(pack, places, effects, h, work, t, h.root, to)
+    } else if kind == h.old {
+        put_old(h, work, t, m, to)
+    } else if kind == h.acted {
+        put_acted(pack, places, effects, h, work, t, m, to)
+    } else {
+        put_edge(pack, places, effects, h, work, t, m, kind, to)
+    }
+}
+
+// Fills row i from u on: what slot number i was given to. The numbers stand from b on.
+pub fn change_row(
+    pack: &[u8],
+    places: &[usize],
+    effects: &[usize],
+    h: Change,
+    work: &mut [u8],
+    t: Table,
+    b: usize,
+    u: usize,
+    i: usize,
+    count: usize,
+) -> usize
+    requires { ⌜ Scened (now pack) (now places) (now effects) h (now work) t × Laid (now work) t b u ⌝ }
+    requires { ⌜ Numbering (now work) b (t .nodes * 7 + 1) count × (i < count) × There (t .characters) (memberOf h (t .nodes) (keyAt (now work) b (t .nodes * 7 + 1) i)) ⌝ }
+    ensures { λ r. ⌜ ((s : Scene) → Stands s (now (pack .entry)) (now (places .entry)) (now (effects .entry)) h (now (work .entry)) t → RowMade s h t (now (work .entry)) (now (work .exit)) b u i count r) ⌝ }
+{
+    let size = t.nodes * 7 + 1;
+    let slot = wide(work[b + size + i]);
+    let to = u + i * t.width;
+    put_member(pack, places, effects, h, work, t, slot, to);
+    name_beliefs(work, b, size, to + t.fluents, t.characters, count)
+}
+
+// Makes the table of what happens, from u on; how many rows that is.
+pub fn change_table(
+    pack: &[u8],
+    places: &[usize],
+    effects: &[usize],
+    h: Change,
+    work: &mut [u8],
+    t: Table,
+    b: usize,
+    u: usize,
+) -> usize
+    requires { ⌜ Scened (now pack) (now places) (now effects) h (now work) t × Laid (now work) t b u ⌝ }
+    ensures { λ r. ⌜ ((s : Scene) → Stands s (now (pack .entry)) (now (places .entry)) (now (effects .entry)) h (now (work .entry)) t → ChangeMade s h t (now (work .entry)) (now (work .exit)) b u r) ⌝ }
+{
+    let size = t.nodes * 7 + 1;
+    clear(work, b, size);
+    let root = number_of(work, b, size, 0, size - 1);
+    let mut count = more(0, root);
+    let mut i = 0;
+    while i < count {
+        count = change_row(pack, places, effects, h, work, t, b, u, i, count);
+        i += 1;
+    }
+    count
+}
