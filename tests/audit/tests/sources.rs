@@ -40,7 +40,7 @@ fn definitions_are_reached() {
     for end in [
         "planner/specs/Promises.antt",
         "explanation/specs/Ending.antt",
-        "transition/specs/Happening.antt",
+        "change/specs/Happening.antt",
         "partition/specs/Chart.antt",
         "chart/specs/Call.antt",
         "reading/specs/Number.antt",
@@ -64,7 +64,8 @@ fn use_lines_are_read() {
 #[test]
 fn wrong_programs_have_their_edits() {
     let page = std::fs::read_to_string(repository().join("docs/CONTRACTS.md")).expect("the page");
-    let of = ["reading", "pack", "partition", "chart", "transition", "explanation", "planner", "export", "ending"];
+    let of =
+        ["reading", "pack", "partition", "chart", "change", "transition", "explanation", "planner", "export", "ending"];
     let cited: Vec<&str> = page.split('`').skip(1).step_by(2).collect();
     let mut there = Vec::new();
     for name in of {
