@@ -53,10 +53,10 @@ pub fn hash(work: &[u8], from: usize, n: usize, seed: usize) -> usize
     let mut h = seed;
     let mut i = 0;
     while i < n {
-        h = (h * 31 + wide(work[from + i])) % 65536;
+        h = (h * 17 + wide(work[from + i])) % 4294967296;
         i += 1;
     }
-    h
+    h % 65536
 }
 
 // The place of the entry for the table in a slot and a key.

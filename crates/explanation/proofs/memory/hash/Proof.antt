@@ -7,7 +7,7 @@ use Rattle.explanation.proofs.memory.hash.Statement.{statement}
 use Rattle.explanation.proofs.memory.hash.Tie as tie
 
 abbrev Inv-loop : tie.InvT-loop
-Inv-loop work from n seed h₀ i₀ h i = h < 65536
+Inv-loop work from n seed h₀ i₀ h i = h < 4294967296
 
 abbrev μ-loop : tie.MeasureT-loop
 μ-loop work from n seed h₀ i₀ h i = n - i
@@ -31,10 +31,10 @@ add-i : tie.Need-add-i Inv-loop μ-loop
 add-i c = omega (arith, c .before .before .loop-test .taken, c .before .before .before .before .before .pre, c .before .before .before .before .before .good .0 .0)
 
 loop-again : tie.Need-loop-again Inv-loop μ-loop
-loop-again c = mod-lt (c .before .before .before .loop .h * 31 + c .wide .result) (omega arith)
+loop-again c = mod-lt (c .before .before .before .loop .h * 17 + c .wide .result) (omega arith)
 
 returns : tie.Need-returns Inv-loop μ-loop
-returns c = c .before .loop .inv
+returns c = mod-lt (c .before .loop .h) (omega arith)
 
 pub hash-spec : {M : Type 1} → statement M
 hash-spec = tie.close (tie.spec Inv-loop μ-loop loop-holds mul-h add-wide shared-slice-read-wide (λ c κs. search needs) add-h add-i (λ c. search needs) loop-again returns)
