@@ -12,7 +12,7 @@ pub fn wide(x: u8) -> usize
 }
 
 // Sets the k bytes from a on to 0.
-pub fn zero(work: &mut [u8], a: usize, k: usize)
+pub fn clear(work: &mut [u8], a: usize, k: usize)
     requires { ⌜ a + k ≤ length (now work) ⌝ }
     ensures { λ _. ⌜ Cleared (now (work .entry)) (now (work .exit)) a k ⌝ }
 {
@@ -38,26 +38,26 @@ pub fn any_set(work: &[u8], a: usize, k: usize) -> bool
 }
 
 // Sets them to 0 where one is not.
-pub fn clear_part(work: &mut [u8], a: usize, k: usize)
+pub fn sweep_part(work: &mut [u8], a: usize, k: usize)
     requires { ⌜ a + k ≤ length (now work) ⌝ }
     ensures { λ _. ⌜ Cleared (now (work .entry)) (now (work .exit)) a k ⌝ }
 {
     if any_set(work, a, k) {
-        zero(work, a, k);
+        clear(work, a, k);
     }
 }
 
-// Sets the k bytes from a on to 0, part by part: of a work buffer that a call has left, most are 0 already, and looking is quicker than writing.
-pub fn clear(work: &mut [u8], a: usize, k: usize)
+// As `clear`, part by part: of a work buffer that a call has left most bytes are 0 already, and looking at them is quicker than writing them where they are not in the cache nearest by.
+pub fn sweep(work: &mut [u8], a: usize, k: usize)
     requires { ⌜ a + k ≤ length (now work) ⌝ }
     ensures { λ _. ⌜ Cleared (now (work .entry)) (now (work .exit)) a k ⌝ }
 {
     let mut i = 0;
     while 512 <= k - i {
-        clear_part(work, a + i, 512);
+        sweep_part(work, a + i, 512);
         i += 512;
     }
-    zero(work, a + i, k - i);
+    clear(work, a + i, k - i);
 }
 
 // Copies the f bytes from a on to b, past them.

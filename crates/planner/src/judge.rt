@@ -11,6 +11,7 @@ use pack::contents::read_pack;
 use pack::copy::copy_table;
 use pack::table::Table;
 use partition::bytes::clear;
+use partition::bytes::sweep;
 use reading::number::Number;
 ghost use mathlib.Core.Path.{_≡_};
 ghost use mathlib.Core.Bool.{_&&_};
@@ -94,7 +95,7 @@ pub fn judge_chart(
         Nesting(nesting),
         Foresight(foresight),
     );
-    clear(work, 0, 49152);
+    sweep(work, 0, 49152);
     verdict
 }
 

@@ -21,6 +21,7 @@ use pack::copy::copy_table;
 use pack::judge::utility;
 use pack::table::Table;
 use partition::bytes::clear;
+use partition::bytes::sweep;
 use partition::values::first_other;
 use reading::number::Number;
 use reading::number::wide;
@@ -312,7 +313,7 @@ pub fn search_nodes(
     };
     let base = utility(pack, places[320], work, t, 0);
     let found = shortest(pack, places, p, work, list, s, e, k, base);
-    clear(work, 0, 49152);
+    sweep(work, 0, 49152);
     if found.length == 0 {
         return Found::Refused(13, 0);
     }

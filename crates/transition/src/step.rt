@@ -9,7 +9,7 @@ use pack::contents::read_pack;
 use pack::copy::copy_table;
 use pack::judge::holds;
 use pack::table::Table;
-use partition::bytes::clear;
+use partition::bytes::sweep;
 use partition::write::write_chart;
 use reading::number::Number;
 use reading::number::wide;
@@ -78,7 +78,7 @@ pub fn play(
     };
     let number = step_slot(pack, places, triggers, action, work, t, 0, 961);
     if number != 0 {
-        clear(work, 0, 49152);
+        sweep(work, 0, 49152);
         return Charted::Refused(number, 0);
     }
     let rows = wide(work[961]);
@@ -91,7 +91,7 @@ pub fn play(
         962,
         out,
     );
-    clear(work, 0, 49152);
+    sweep(work, 0, 49152);
     Charted::Chart(length)
 }
 

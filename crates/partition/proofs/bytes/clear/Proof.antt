@@ -1,11 +1,11 @@
--- Part after part, and the rest. Assumes nothing.
-use mathlib.Core.Path.{_≡_, _∙_, subst}
-use Prim.Native.Nat.{ℕ, _+_, _-_, _≤_}
-use lib.ListN.{length}
+-- Byte after byte. Assumes nothing.
+use mathlib.Core.Path.{_≡_}
+use Prim.Native.Nat.{_≤_, _-_}
+use lib.ListN.{length, length-set}
 use native.Mathlib.Omega.{arith}
 use borrow.Author.Needs.{needs}
 use Rattle.partition.specs.Inner.Put.{Cleared}
-use Rattle.partition.proofs.Cells.{cleared-none, cleared-on}
+use Rattle.partition.proofs.Cells.{cleared-none, cleared-more}
 use Rattle.partition.proofs.bytes.clear.Statement.{statement}
 use Rattle.partition.proofs.bytes.clear.Tie as tie
 
@@ -16,30 +16,12 @@ abbrev μ-loop : tie.MeasureT-loop
 μ-loop work₀ a k i₀ work i = k - i
 
 loop-again : tie.Need-loop-again Inv-loop μ-loop
-loop-again c = let l = c .before .before .before .before .before .loop in (omega arith, c .before .before .clear-part .kept .0 ∙ l .inv .1, cleared-on _ _ _ _ _ _ (l .inv .2) (c .before .before .clear-part .ensures))
+loop-again c = let l = c .before .loop in (omega arith, simp length-set (l .inv .1), cleared-more _ _ _ _ (l .inv .2) (omega arith))
 
 returns : tie.Need-returns Inv-loop μ-loop
-returns c =
-    let start = c .before .before .before .before .before .before .before in
-    let l = c .before .before .before .before .before .loop in
-    let e : l .i + (start .args .k - l .i) ≡ start .args .k = omega arith in
-    subst (λ (k : ℕ). Cleared (start .args .work .now) (c .before .before .zero .last .0) (start .args .a) k) e (cleared-on _ _ _ _ _ _ (l .inv .2) (c .before .before .zero .ensures))
+returns c = let l = c .before .loop in let e : l .i ≡ c .before .before .args .k = omega arith in rw e at (l .inv .2)
 
 pub clear-spec : {M : Type 1} → statement M
 clear-spec =
     tie.close
-    (tie.spec
-    Inv-loop
-    μ-loop
-    (λ c. (search needs, search needs, cleared-none _ _))
-    (λ c. search needs)
-    (λ c. omega arith)
-    (λ c κs. omega (arith, c .before .before .loop .inv .1))
-    (λ c. omega arith)
-    (λ c. omega arith)
-    loop-again
-    (λ c. omega arith)
-    (λ c. search needs)
-    (λ c κs. omega (arith, c .before .before .loop .inv .1))
-    (λ c. c .before .before .zero .kept .0 ∙ c .before .before .before .before .before .loop .inv .1)
-    returns)
+    (tie.spec Inv-loop μ-loop (λ c. (search needs, search needs, cleared-none _ _)) (λ c. search needs) (λ c. search needs) (λ c. search needs) (λ c. search needs) loop-again (λ c. search needs) returns)

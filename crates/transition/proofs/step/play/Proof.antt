@@ -13,7 +13,7 @@ returns : tie.Need-returns
 returns c =
     let l = c .before .before .before .before .before .before .before .before .before .before .before .copy-table .ensures in
     let s = c .before .before .before .before .before .before .before .step-slot in
-    let z = c .before .before .clear in
+    let z = c .before .before .sweep in
     λ p T n x. step-refused x l (s .ensures p T n (step-setting x l) (x .there) (x .read .some)) (c .before .before .before .before .if1 .taken) (z .ensures) (z .kept .0 ∙ s .kept .1 .1 .1 .1 .0 ∙ l .long)
 
 write-chart-requires : tie.Need-write-chart-requires
@@ -28,7 +28,7 @@ returns-2 c =
     let l = c .before .before .before .before .before .before .before .before .before .before .before .before .before .before .before .before .before .before .copy-table .ensures in
     let s = c .before .before .before .before .before .before .before .before .before .before .before .before .before .before .step-slot in
     let o = c .before .before .before .before .before .before .write-chart in
-    let z = c .before .before .clear2 in
+    let z = c .before .before .sweep2 in
     λ p T n x. step-left x l (s .ensures p T n (step-setting x l) (x .there) (x .read .some)) (omega (arith, c .before .before .before .before .before .before .before .before .before .before .before .if1 .left)) (sym (c .before .before .before .before .before .before .before .before .before .wide .ensures)) (o .ensures) (o .kept .1 .1 .1 .1 .1 .1 .0) (z .ensures) (z .kept .0 ∙ s .kept .1 .1 .1 .1 .0 ∙ l .long)
 
 pub play-spec : {M : Type 1} → statement M
