@@ -23,7 +23,7 @@ use Rattle.pack.proofs.OneByte.{TestBytes, test-bytes, between-byte}
 -- a test holds as its bytes compare: the kind at m, the fluent's value where the chain leads, and the value at m + 2
 module _ (t : Table) (buffer : List ℕ) (root : ℕ) (d : Dimensions) (over : Over d t) (s : List ℕ) (at : ℕ) (x : Test) (n : ℕ) (e : testAt d s at ≡ done x n) where
   abbrev Compared : ℕ → ℕ → Bool
-  Compared there m = compares (kindOf d (getD s m 0)) (getD buffer ((t .rows + there * t .width) + getD s (m + 1) 0) 0) (getD s (m + 2) 0)
+  Compared there m = compares (kindOf (getD s m 0)) (getD buffer ((t .rows + there * t .width) + getD s (m + 1) 0) 0) (getD s (m + 2) 0)
 
   pub passes-by : (k there : ℕ) → getD s at 0 ≡ k → there ≡ walk (tableOf t buffer) root (bytesAt s (at + 1) k) → there < t .nodes
       → passes (stateOf t buffer root) x ≡ Compared there ((at + 1) + k)
@@ -43,8 +43,8 @@ module _ (t : Table) (buffer : List ℕ) (root : ℕ) (d : Dimensions) (over : O
           let cell : getD (stateOf t buffer root (x .chain)) (x .fluent) 0 ≡ getD buffer ((t .rows + there * t .width) + f) 0
           = ap (λ (v : List ℕ). getD v (x .fluent) 0) found ∙ ap (λ (i : ℕ). getD (node T there .values) i 0) (b .fluent) ∙ value-at t buffer there f l below in
           ap (λ (k : Kind). compares k (getD (stateOf t buffer root (x .chain)) (x .fluent) 0) (x .value)) (b .kind)
-          ∙ ap (λ (v : ℕ). compares (kindOf d (getD s m 0)) v (x .value)) cell
-          ∙ ap (λ (v : ℕ). compares (kindOf d (getD s m 0)) (getD buffer ((t .rows + there * t .width) + f) 0) v) (b .value)
+          ∙ ap (λ (v : ℕ). compares (kindOf (getD s m 0)) v (x .value)) cell
+          ∙ ap (λ (v : ℕ). compares (kindOf (getD s m 0)) (getD buffer ((t .rows + there * t .width) + f) 0) v) (b .value)
 
 -- what is left of a run, from n on, tells of the whole by f
 pub record Left {A B : Type 0} (p : Reader A) (s : List ℕ) (n left : ℕ) (f : List A → B) (xs : List A) (end : ℕ) : Type 0 where

@@ -116,7 +116,7 @@ chain-bytes C s at (suc k) chain n h e =
 pub record TestBytes (d : Dimensions) (s : List ℕ) (at : ℕ) (x : Test) (n : ℕ) : Type 0 where
   pub chain : x .chain ≡ bytesAt s (at + 1) (getD s at 0)
   pub valid : Valid (d .characters) (bytesAt s (at + 1) (getD s at 0))
-  pub kind : x .kind ≡ kindOf d (getD s ((at + 1) + getD s at 0) 0)
+  pub kind : x .kind ≡ kindOf (getD s ((at + 1) + getD s at 0) 0)
   pub fluent : x .fluent ≡ getD s (((at + 1) + getD s at 0) + 1) 0
   pub below : getD s (((at + 1) + getD s at 0) + 1) 0 < length (d .domains)
   pub value : x .value ≡ getD s (((at + 1) + getD s at 0) + 2) 0
@@ -140,14 +140,14 @@ test-bytes d small s at x n e =
     let e2 : fluentAt d s (m + 1) ≡ done (b2 .value) (b2 .place) = ap (fluentAt d s) (sym (o1 .next)) ∙ b2 .left in
     let o2 = between-byte 0 (length (d .domains)) 4 s (m + 1) (b2 .value) (b2 .place) (let q = small .fluents in omega arith) e2 in
     let w2 = between-within 0 (length (d .domains)) 4 s (m + 1) (b2 .value) (b2 .place) e2 in
-    let u = unmapped (λ value. record { chain = b0 .value; kind = kindOf d (b1 .value); fluent = b2 .value; value = value }) (valueAt d (b2 .value) s (b2 .place)) x n (b2 .right) in
+    let u = unmapped (λ value. record { chain = b0 .value; kind = kindOf (b1 .value); fluent = b2 .value; value = value }) (valueAt d (b2 .value) s (b2 .place)) x n (b2 .right) in
     let two : (m + 1) + 1 ≡ m + 2 = omega arith in
     let e3 : valueAt d (b2 .value) s (m + 2) ≡ done (u .value) n = ap (valueAt d (b2 .value) s) (sym (o2 .next ∙ two)) ∙ u .left in
     let o3 = between-byte 0 (getD (d .domains) (b2 .value) 0) 4 s (m + 2) (u .value) n (small .sizes (b2 .value)) e3 in
     record {
       chain = ap (λ (y : Test). y .chain) (sym (u .right)) ∙ ch .bytes;
       valid = ch .valid;
-      kind = ap (λ (y : Test). y .kind) (sym (u .right)) ∙ ap (kindOf d) (sym (o1 .value));
+      kind = ap (λ (y : Test). y .kind) (sym (u .right)) ∙ ap kindOf (sym (o1 .value));
       fluent = ap (λ (y : Test). y .fluent) (sym (u .right)) ∙ sym (o2 .value);
       below = let p = o2 .value in let q = w2 .1 in omega arith;
       value = ap (λ (y : Test). y .value) (sym (u .right)) ∙ sym (o3 .value);

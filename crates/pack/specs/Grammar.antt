@@ -19,6 +19,10 @@ headAt s at =
     bind (between 1 7 3 s n) (λ characters n.
     mapped (λ domains. record { characters = characters; domains = domains }) (counted 1 25 (between 1 129 3) s n)))
 
+-- "0 is, 1 is not, 2 at least"
+abbrev pub kindOf : ℕ → Kind
+kindOf k = pick (eqb k 0) is (pick (eqb k 1) isNot atLeast)
+
 module _ (d : Dimensions) where
   -- one of the fluents
   abbrev pub fluentAt : Reader ℕ
@@ -37,10 +41,6 @@ module _ (d : Dimensions) where
   -- "nodes 1 to 32"
   unfoldable pub nodesAt : Reader (List Node)
   nodesAt s at = bind (between 1 33 3 s at) (λ nodes n. many (nodeAt nodes) nodes s n)
-
-  -- "0 is, 1 is not, 2 at least"
-  abbrev pub kindOf : ℕ → Kind
-  kindOf k = pick (eqb k 0) is (pick (eqb k 1) isNot atLeast)
 
   -- "each a chain length 0 to 4, its characters, a kind, a fluent, a value"
   unfoldable pub testAt : Reader Test

@@ -23,7 +23,7 @@ module _ (d : Dimensions) (few : d .characters ≤ 6) (slim : length (d .domains
   abbrev D : List ℕ
   D = d .domains
 
-  kind-back : (k : Kind) → kindOf d (kindNumber k) ≡ k
+  kind-back : (k : Kind) → kindOf (kindNumber k) ≡ k
   kind-back is = refl
   kind-back isNot = refl
   kind-back atLeast = refl
@@ -46,7 +46,7 @@ module _ (d : Dimensions) (few : d .characters ≤ 6) (slim : length (d .domains
       (then-accepts _ (counted-accepts (λ c l. item-accepts C c l (omega arith)) 0 4 (omega arith) (t .chain) (h .0))
       (then-accepts _ (item-accepts 3 (kindNumber (t .kind)) (kind-low (t .kind)) (omega arith))
       (then-accepts _ (fluent-accepts (t .fluent) (h .1 .0))
-      (mapped-accepts (λ value. record { chain = t .chain; kind = kindOf d (kindNumber (t .kind)); fluent = t .fluent; value = value }) (value-accepts (t .fluent) (t .value) (h .1 .1))))))
+      (mapped-accepts (λ value. record { chain = t .chain; kind = kindOf (kindNumber (t .kind)); fluent = t .fluent; value = value }) (value-accepts (t .fluent) (t .value) (h .1 .1))))))
 
   condition-accepts : (c : Condition) → ConditionFits C D c → Accepts (conditionAt d) (conditionBytes c) c
   unfolding conditionAt

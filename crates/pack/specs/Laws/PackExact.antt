@@ -28,7 +28,7 @@ module _ (d : Dimensions) where
   abbrev D : List ℕ
   D = d .domains
 
-  kind-number : (k : ℕ) → k < 3 → numberBytes k ≡ numberBytes (kindNumber (kindOf d k))
+  kind-number : (k : ℕ) → k < 3 → numberBytes k ≡ numberBytes (kindNumber (kindOf k))
   kind-number zero h = refl
   kind-number (suc zero) h = refl
   kind-number (suc (suc zero)) h = refl
@@ -40,7 +40,7 @@ module _ (d : Dimensions) where
       then-exact _ _ (λ t. countedBytes numberBytes (t .chain)) _ (counted-exact (λ c. c < C) (item-exact C) 0 4) (λ chain hc.
       then-exact _ _ (λ t. numberBytes (kindNumber (t .kind))) _ (item-exact 3) (λ kind hk.
       then-exact _ _ (λ t. numberBytes (t .fluent)) _ (item-exact (length D)) (λ fluent hf.
-      mapped-exact (λ value. record { chain = chain; kind = kindOf d kind; fluent = fluent; value = value }) _ (λ t. numberBytes (t .value)) (item-exact (getD D fluent 0)) (λ value hv.
+      mapped-exact (λ value. record { chain = chain; kind = kindOf kind; fluent = fluent; value = value }) _ (λ t. numberBytes (t .value)) (item-exact (getD D fluent 0)) (λ value hv.
       (((((hc, (hf, hv)), refl), kind-number kind hk), refl), refl)))))
 
   condition-exact : Exact (conditionAt d) (ConditionFits C D) conditionBytes
