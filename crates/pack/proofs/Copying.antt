@@ -1,7 +1,6 @@
 -- Nodes copied into a table: each number of a node is one byte, and rows stand one behind the other. Assumes nothing.
 use Prim.Native.Nat.{ℕ, zero, suc, _+_, _*_, _-_, _<_, _≤_}
 use mathlib.Core.Path.{_≡_, refl, sym, ap, _∙_, subst}
-use mathlib.Core.Bool.{Bool, true, false}
 use mathlib.Core.Logic.{by-cases}
 use mathlib.Core.List.{List, [], _∷_, _++_, append-assoc, append-nil}
 use native.Mathlib.Decide.{decLt}
@@ -10,19 +9,18 @@ use native.Mathlib.Numerals.{add-one, sub-one}
 use native.Mathlib.Omega.{arith}
 use lib.ListN.{length, getD, set, length-set}
 use lib.Seq.{getD-set-same, getD-set-other, ext-getD}
-use lib.Dec.{ltb, leb, eqb}
+use lib.Dec.{leb, eqb}
 use borrow.Author.Tests.{eqb-false, leb-true}
 use Rattle.pack.specs.Syntax.{Node}
-use Rattle.reading.specs.Reading.{Reading, done, refused, Reader, pick, bind, mapped, runs, many}
-use Rattle.reading.specs.Number.{numberAt, between, item, beliefAt}
+use Rattle.reading.specs.Reading.{done, refused, Reader, pick, mapped, runs, many}
+use Rattle.reading.specs.Number.{numberAt, item, beliefAt}
 use Rattle.pack.specs.Grammar.{Dimensions, valueAt, nodeAt}
-use Rattle.pack.specs.Table.{upto, cells, rowAt, rowsAt, Below, Above}
-use Rattle.pack.specs.Judge.{Small}
+use Rattle.pack.specs.Table.{upto, cells, rowAt, rowsAt, Below}
 use Rattle.pack.specs.Write.{RowOnly}
 use Rattle.pack.specs.Copy.{Copyable, Copied, Shaped, RowCopied}
-use Rattle.reading.specs.Laws.Reading.{same-value, same-place, Both, both, Mapped, unmapped, passed, failed}
-use Rattle.pack.proofs.Tables.{upto-length, cells-at}
-use Rattle.pack.proofs.Writing.{cells-length, only-then}
+use Rattle.reading.specs.Laws.Reading.{same-value, same-place, both, unmapped, passed, failed}
+use Rattle.pack.proofs.Tables.{cells-at}
+use Rattle.pack.proofs.Writing.{cells-length}
 use Rattle.pack.proofs.OneByte.{ByteAt, one-byte, between-byte}
 
 pub belief-byte : (nodes : ℕ) (s : List ℕ) (at b n : ℕ) → nodes < 128 → beliefAt nodes s at ≡ done b n → ByteAt s at (suc b) n

@@ -2,15 +2,14 @@
 use Prim.Native.Nat.{ℕ, zero, suc, _+_, _*_, _<_, _≤_}
 use mathlib.Core.Path.{_≡_, refl, sym, ap, _∙_, subst}
 use mathlib.Core.List.{List, [], _∷_}
-use native.Mathlib.Numerals.{add-one}
 use native.Mathlib.Omega.{arith}
 use lib.ListN.{length, getD, take}
 use lib.Seq.{length-take-le}
 use lib.Dec.{eqb}
 use borrow.Author.Tests.{lt-ltb, le-ltb, eq-eqb, ne-eqb}
 use mathlib.Core.Bool.{Bool, true, false}
-use Rattle.pack.specs.Syntax.{Condition, Effect, Action, Trigger, Rule, Theory, Node, Pack}
-use Rattle.reading.specs.Reading.{Reading, done, refused, Reader, pick, bind, mapped, runs, many, Reply, gives, refuses, told, ended}
+use Rattle.pack.specs.Syntax.{Action, Trigger, Theory, Pack}
+use Rattle.reading.specs.Reading.{Reading, done, refused, Reader, pick, bind, mapped, runs, many, gives, refuses, told, ended}
 use Rattle.reading.specs.Number.{between, counted}
 use Rattle.pack.specs.Grammar.{Dimensions, headAt, nodeAt, nodesAt, conditionAt, effectsAt, consentersAt, actionAt, triggerAt, rulesAt, theoryAt, packAt, packOf, inChart}
 use Rattle.reading.specs.Said.{said, shown, forget, whenIs}
@@ -22,9 +21,9 @@ use Rattle.reading.specs.declared.number.Checked.{Checked}
 use Rattle.reading.specs.declared.number.Checked.the-variants.{Passed, Refused}
 use Rattle.pack.specs.Contents.{Gives, ActionStands, TriggerStands, TheoryFound, TheoryRead, PackFound, bodyAt, replied}
 use Rattle.pack.specs.declared.contents.Counts.{Counts}
-use Rattle.reading.specs.Laws.Reading.{mapped-mapped, mapped-bind, bind-mapped, bind-bind, never, never-gives, ended-gives, same-value, same-place, Both, both, Mapped, unmapped}
+use Rattle.reading.specs.Laws.Reading.{mapped-mapped, mapped-bind, bind-mapped, bind-bind, never, never-gives, ended-gives, same-value, same-place, both, unmapped}
 use Rattle.pack.proofs.Laws.{between-within, runs-length}
-use Rattle.pack.proofs.Marks.{many-suc, many-zero, action-stays, trigger-stays}
+use Rattle.pack.proofs.Marks.{many-suc, action-stays, trigger-stays}
 
 -- what is read ends where it was found to end
 pub ends-at : {A : Type 0} (p : Reader A) (s : List ℕ) (at : ℕ) (a : A) (n m : ℕ) → p s at ≡ done a n → Ends p s at m → n ≡ m

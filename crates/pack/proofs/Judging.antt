@@ -1,24 +1,24 @@
 -- What a test, an alternative and a condition say of a state, from their bytes and the table's. Assumes nothing.
 use Prim.Native.Nat.{ℕ, zero, suc, _+_, _*_, _-_, _<_, _≤_}
 use mathlib.Core.Path.{_≡_, refl, sym, ap, _∙_, subst}
-use mathlib.Core.Bool.{Bool, true, false, _&&_, _||_}
+use mathlib.Core.Bool.{Bool, true, false}
 use mathlib.Core.List.{List, [], _∷_}
 use native.Mathlib.Numerals.{sub-one}
 use native.Mathlib.Omega.{arith}
 use lib.ListN.{length, getD}
-use Rattle.pack.specs.Syntax.{Kind, Test, Condition, Rule}
-use Rattle.reading.specs.Reading.{Reading, done, Reader, bind, mapped, runs, many}
+use Rattle.pack.specs.Syntax.{Kind, Test, Rule}
+use Rattle.reading.specs.Reading.{done, Reader, mapped, runs, many}
 use Rattle.reading.specs.Number.{numberAt, between, counted}
 use Rattle.pack.specs.Grammar.{Dimensions, kindOf, testAt, conditionAt, ruleAt}
 use Rattle.pack.specs.Condition.{compares, passes, allPass, holds, utility}
-use Rattle.pack.specs.State.{State, node, meaning, walk, Valid}
-use Rattle.pack.specs.Table.{tableOf, stateOf, TableFits, bytesAt}
+use Rattle.pack.specs.State.{State, node, walk, Valid}
+use Rattle.pack.specs.Table.{tableOf, stateOf, bytesAt}
 use Rattle.pack.specs.Judge.{Small, Over}
 use Rattle.pack.specs.declared.table.Table.{Table}
-use Rattle.reading.specs.Laws.Reading.{same-value, same-place, Both, both, Mapped, unmapped}
+use Rattle.reading.specs.Laws.Reading.{same-value, same-place, both, unmapped}
 use Rattle.pack.specs.Laws.Table.{finds-walk}
 use Rattle.pack.proofs.Tables.{value-at}
-use Rattle.pack.proofs.OneByte.{TestBytes, test-bytes, between-byte}
+use Rattle.pack.proofs.OneByte.{test-bytes, between-byte}
 
 -- a test holds as its bytes compare: the kind at m, the fluent's value where the chain leads, and the value at m + 2
 module _ (t : Table) (buffer : List ℕ) (root : ℕ) (d : Dimensions) (over : Over d t) (s : List ℕ) (at : ℕ) (x : Test) (n : ℕ) (e : testAt d s at ≡ done x n) where

@@ -1,4 +1,4 @@
--- What the functions' proofs cite: a test's value from the fact, one of a run and the rest, and the limits of a number that was read. Assumes nothing.
+-- What the functions' proofs cite: one of a run and the rest, and the limits of a number that was read. Assumes nothing.
 use Prim.Native.Nat.{ℕ, zero, suc, _+_, _-_, _<_, _≤_}
 use mathlib.Core.Path.{_≡_, refl, sym, ap, _∙_}
 use mathlib.Core.List.{List, [], _∷_, _++_, append-assoc, append-nil}

@@ -1,21 +1,20 @@
 -- Marking where the things of a run begin, while they are checked. Assumes nothing.
 use Prim.Native.Nat.{ℕ, zero, suc, _+_, _*_, _-_, _<_, _≤_}
 use mathlib.Core.Path.{_≡_, refl, sym, ap, _∙_, subst}
-use mathlib.Core.List.{List, [], _∷_}
+use mathlib.Core.List.{List}
 use mathlib.Core.Logic.{by-cases}
-use native.Mathlib.Nat.{add-zero}
-use native.Mathlib.Numerals.{add-one, sub-one}
+use native.Mathlib.Numerals.{add-one}
 use native.Mathlib.Decide.{decLt}
 use native.Mathlib.Omega.{arith}
 use lib.ListN.{length, getD, set, length-set}
 use lib.Seq.{getD-set-same, getD-set-other}
 use Rattle.reading.specs.Reading.{Reading, done, refused, Reader, bind, mapped, runs, many}
-use Rattle.pack.specs.Grammar.{Dimensions, conditionAt, effectsAt, consentersAt, actionAt, triggerAt}
+use Rattle.pack.specs.Grammar.{Dimensions, conditionAt, effectsAt, consentersAt}
 use Rattle.reading.specs.Said.{forget, whenPassed}
 use Rattle.pack.specs.Places.{Ends, Marked, KeptBelow, ActionParts, TriggerParts}
 use Rattle.reading.specs.declared.number.Checked.{Checked}
 use Rattle.reading.specs.declared.number.Checked.the-variants.{Passed, Refused}
-use Rattle.reading.specs.Laws.Reading.{mapped-mapped, mapped-bind, bind-mapped, Both, both, same-place}
+use Rattle.reading.specs.Laws.Reading.{mapped-mapped, mapped-bind, bind-mapped, both, same-place}
 use Rattle.pack.proofs.Laws.{runs-none, many-forget}
 
 pub many-suc : {A : Type 0} (p : Reader A) (k : ℕ) (s : List ℕ) (at : ℕ) → mapped forget (many p (suc k) s at) ≡ bind (mapped forget (p s at)) (λ u n. mapped forget (many p k s n))

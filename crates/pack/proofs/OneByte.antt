@@ -4,19 +4,19 @@ use mathlib.Core.Path.{_≡_, refl, sym, ap, _∙_, subst}
 use mathlib.Core.Bool.{Bool, true, false}
 use mathlib.Core.List.{List, [], _∷_}
 use native.Mathlib.Nat.{add-zero}
-use native.Mathlib.Numerals.{add-one, sub-one}
+use native.Mathlib.Numerals.{sub-one}
 use native.Mathlib.Omega.{arith}
 use lib.ListN.{length, getD}
 use lib.Dec.{ltb, leb, eqb}
 use borrow.Author.Tests.{ltb-true, ltb-false, leb-false, eqb-false}
 use Rattle.pack.specs.Syntax.{Test, Effect}
-use Rattle.reading.specs.Reading.{Reading, done, refused, Reader, pick, bind, mapped, runs, many}
-use Rattle.reading.specs.Number.{numberAt, between, item, counted, beliefAt, risingAt}
-use Rattle.pack.specs.Grammar.{Dimensions, kindOf, fluentAt, valueAt, testAt, effectAt, consentersAt, nodeAt}
+use Rattle.reading.specs.Reading.{Reading, done, refused, pick, mapped, runs, many}
+use Rattle.reading.specs.Number.{numberAt, between, item, counted, risingAt}
+use Rattle.pack.specs.Grammar.{Dimensions, kindOf, fluentAt, valueAt, testAt, effectAt, consentersAt}
 use Rattle.pack.specs.State.{Valid}
 use Rattle.pack.specs.Table.{bytesAt}
 use Rattle.pack.specs.Judge.{Small}
-use Rattle.reading.specs.Laws.Reading.{never, same-value, same-place, Both, both, Mapped, unmapped, passed, failed}
+use Rattle.reading.specs.Laws.Reading.{never, same-value, same-place, both, unmapped, passed, failed}
 use Rattle.pack.proofs.Laws.{between-within}
 
 -- the number v is the byte at a place

@@ -3,7 +3,7 @@ use Prim.Native.Nat.{ℕ, zero, suc, _+_, _*_, _-_, _<_, _≤_}
 use mathlib.Core.Path.{_≡_, refl, sym, ap, _∙_, subst}
 use mathlib.Core.Bool.{Bool, true, false}
 use mathlib.Core.Logic.{by-cases}
-use mathlib.Core.List.{List, [], _∷_}
+use mathlib.Core.List.{List, _∷_}
 use native.Mathlib.Decide.{decLt}
 use native.Mathlib.Nat.{add-zero, zero-mul, suc-mul, mul-le-mul-left, mul-le-mul-right}
 use native.Mathlib.Omega.{arith}
@@ -11,18 +11,18 @@ use lib.ListN.{length, getD, List·getD-eq-default}
 use lib.Dec.{ltb, leb, eqb}
 use borrow.Author.Tests.{eqb-false, leb-true}
 use Rattle.pack.specs.Syntax.{Node, Theory, Pack}
-use Rattle.reading.specs.Reading.{Reading, done, refused, Reader, pick, bind, mapped, runs, many, Reply, gives, refuses, told, whole, ended}
+use Rattle.reading.specs.Reading.{done, refused, Reader, pick, mapped, runs, many, Reply, gives, refuses, told, whole}
 use Rattle.reading.specs.Number.{numberAt, between, counted, beliefAt}
 use Rattle.pack.specs.Grammar.{Dimensions, dimensions, headAt, valueAt, nodeAt, nodesAt, theoryAt, packAt, packOf, chartOf, inChart}
 use Rattle.pack.specs.State.{Closed, nowhere}
 use Rattle.pack.specs.Answer.{dims}
 use Rattle.pack.specs.Contents.{Gives, PackFound, bodyAt}
-use Rattle.pack.specs.Table.{rowsAt, tableOf, TableFits}
+use Rattle.pack.specs.Table.{tableOf, TableFits}
 use Rattle.pack.specs.Judge.{Small, Over, Readable, Judged}
 use Rattle.pack.specs.Copy.{Shaped, TableCopyable, TableCopied}
 use Rattle.pack.specs.declared.contents.Contents.{Contents}
 use Rattle.pack.specs.declared.table.Table.{Table}
-use Rattle.reading.specs.Laws.Reading.{never-gives, ended-gives, same-value, same-place, same-gift, Both, both, Mapped, unmapped, passed, failed}
+use Rattle.reading.specs.Laws.Reading.{never-gives, ended-gives, same-value, same-place, same-gift, both, unmapped, passed, failed}
 use Rattle.pack.proofs.Laws.{between-within}
 use Rattle.pack.proofs.OneByte.{between-byte}
 use Rattle.pack.proofs.Copying.{node-bytes}

@@ -1,18 +1,15 @@
 -- Rows of bytes as nodes. Assumes nothing.
-use Prim.Native.Nat.{ℕ, zero, suc, _+_, _*_, _<_, _≤_}
-use mathlib.Core.Path.{_≡_, refl, sym, ap, _∙_}
+use Prim.Native.Nat.{ℕ, zero, suc, _+_, _*_, _<_}
+use mathlib.Core.Path.{_≡_, refl, ap, _∙_}
 use mathlib.Core.List.{List, [], _∷_, _++_}
-use mathlib.Core.Logic.{by-cases}
 use native.Mathlib.Decide.{decLt}
-use native.Mathlib.Nat.{lt-of-lt-of-le}
-use native.Mathlib.Numerals.{add-one}
 use native.Mathlib.Omega.{arith}
 use lib.ListN.{length, getD, length-append, List·getD-append}
 use lib.Seq.{getD-at}
 use lib.Arith.{digits-lt}
 use Rattle.pack.specs.Syntax.{Node}
-use Rattle.pack.specs.State.{State, node, nowhere, target, meaning, Closed, walk, Valid}
-use Rattle.pack.specs.Table.{upto, cells, rowAt, rowsAt, tableOf, stateOf, TableFits}
+use Rattle.pack.specs.State.{node, nowhere, target, walk}
+use Rattle.pack.specs.Table.{upto, cells, rowAt, rowsAt, tableOf, TableFits}
 use Rattle.pack.specs.declared.table.Table.{Table}
 
 pub upto-length : {A : Type 0} (g : ℕ → A) (n : ℕ) → length (upto g n) ≡ n

@@ -1,9 +1,9 @@
 -- Effects written into the values of a row. Assumes nothing.
 use Prim.Native.Nat.{ℕ, zero, suc, _+_, _-_, _<_, _≤_}
 use mathlib.Core.Path.{_≡_, refl, sym, ap, _∙_, subst}
-use mathlib.Core.Bool.{Bool, true, false, cond}
+use mathlib.Core.Bool.{cond}
 use mathlib.Core.Logic.{by-cases}
-use mathlib.Core.List.{List, [], _∷_}
+use mathlib.Core.List.{List, _∷_}
 use native.Mathlib.Decide.{decLt}
 use native.Mathlib.Numerals.{sub-one}
 use native.Mathlib.Omega.{arith}
@@ -12,15 +12,14 @@ use lib.Seq.{getD-set-same, getD-set-other, ext-getD}
 use lib.Dec.{eqb}
 use borrow.Author.Tests.{eq-eqb, ne-eqb}
 use Rattle.pack.specs.Syntax.{Effect}
-use Rattle.reading.specs.Reading.{Reading, done, Reader, mapped, runs, many}
-use Rattle.pack.specs.Grammar.{Dimensions, effectAt, effectsAt}
+use Rattle.reading.specs.Reading.{done, mapped, runs, many}
+use Rattle.pack.specs.Grammar.{Dimensions, effectAt}
 use Rattle.pack.specs.Condition.{write}
-use Rattle.pack.specs.Table.{upto, cells}
-use Rattle.pack.specs.Judge.{Small}
+use Rattle.pack.specs.Table.{cells}
 use Rattle.pack.specs.Write.{RowOnly, EffectWritten}
-use Rattle.reading.specs.Laws.Reading.{same-value, same-place, Both, both, Mapped, unmapped}
+use Rattle.reading.specs.Laws.Reading.{same-value, both, unmapped}
 use Rattle.pack.proofs.Tables.{upto-length, cells-at}
-use Rattle.pack.proofs.OneByte.{EffectBytes, effect-bytes}
+use Rattle.pack.proofs.OneByte.{effect-bytes}
 
 pub cells-length : (bytes : List ℕ) (a k : ℕ) → length (cells bytes a k) ≡ k
 unfolding cells

@@ -3,7 +3,7 @@ use Prim.Native.Nat.{ℕ, _<_, _≤_}
 use mathlib.Core.Path.{_≡_}
 use mathlib.Core.List.{List}
 use lib.ListN.{length, getD}
-use Rattle.reading.specs.Reading.{Reading, done, Reader}
+use Rattle.reading.specs.Reading.{done, Reader}
 use Rattle.pack.specs.Syntax.{Test}
 use Rattle.reading.specs.Number.{counted}
 use Rattle.pack.specs.Grammar.{Dimensions, testAt}

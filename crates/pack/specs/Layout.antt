@@ -1,4 +1,4 @@
--- How a pack is written, and which packs keep document 01's layout. `Laws.Accepts` shows that each of those, written so, is read back.
+-- How a pack is written, and which packs keep document 01's layout. `Laws.PackBack` shows that each of those, written so, is read back.
 use Prim.Native.Nat.{ℕ, suc, _+_, _/_, _%_, _<_, _≤_}
 use mathlib.Core.Path.{_≡_}
 use mathlib.Core.List.{List, [], _∷_, _++_}

@@ -1,9 +1,9 @@
 -- Where the parts of a pack stand: what the places that the reader marks say.
-use Prim.Native.Nat.{ℕ, _+_, _*_, _<_, _≤_}
+use Prim.Native.Nat.{ℕ, _+_, _*_, _<_}
 use mathlib.Core.Path.{_≡_}
 use mathlib.Core.List.{List}
 use lib.ListN.{length, getD}
-use Rattle.reading.specs.Reading.{Reading, done, Reader, mapped, many}
+use Rattle.reading.specs.Reading.{done, Reader, mapped, many}
 use Rattle.reading.specs.Number.{between, counted}
 use Rattle.pack.specs.Grammar.{Dimensions, conditionAt, effectsAt, consentersAt, actionAt, triggerAt, rulesAt}
 use Rattle.reading.specs.Said.{said, shown, forget, whenPassed, whenIs}

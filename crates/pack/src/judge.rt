@@ -4,7 +4,7 @@ use crate::table::follow;
 use reading::number::Number;
 use reading::number::read_number;
 use reading::number::wide;
-ghost use Prim.Native.Nat.{ℕ, _<_, _≤_};
+ghost use Prim.Native.Nat.{ℕ, _<_};
 ghost use mathlib.Core.Path.{_≡_};
 ghost use mathlib.Core.List.{List};
 ghost use lib.Dec.{eqb};

@@ -1,5 +1,5 @@
 // A pack reader: the bytes that were lent and a position in them. It hands out number after number; the work is done by
-// functions of `number` on the slice and the position.
+// functions of crate `reading` on the slice and the position.
 use reading::number::Number;
 use reading::number::place_after;
 use reading::number::read_between;

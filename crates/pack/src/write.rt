@@ -1,6 +1,6 @@
 // Effects written in place, into the values of a row, and the consenters of an action.
 use reading::number::wide;
-ghost use Prim.Native.Nat.{ℕ, _<_, _+_, _≤_};
+ghost use Prim.Native.Nat.{ℕ, _<_, _+_};
 ghost use mathlib.Core.Path.{_≡_};
 ghost use mathlib.Core.List.{List};
 ghost use lib.ListN.{length, getD};

@@ -15,6 +15,7 @@ pub enum Checked {
     Refused(u8, usize),
 }
 
+// A byte as a number as wide as places and counts.
 pub fn wide(x: u8) -> usize
     ensures { λ r. ⌜ x ≡ r ⌝ }
 {
