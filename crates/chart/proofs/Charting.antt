@@ -13,8 +13,7 @@ use Rattle.pack.specs.Syntax.{Node}
 use Rattle.pack.specs.Layout.{numberBytes, listBytes, nodeBytes, chartBytes, NodeFits, ChartFits}
 use Rattle.pack.specs.Laws.Fits.{each-from, each-in, fits-node, values-small, plain-bytes, next-bytes, list-snoc}
 use Rattle.partition.specs.Laws.Merged.{getD-map}
-use Rattle.pack.specs.Table.{cells, rowsAt}
-use Rattle.partition.specs.Inner.Bytes.{Above}
+use Rattle.pack.specs.Table.{cells, rowsAt, Above}
 use Rattle.partition.specs.Inner.Out.{RowsPut}
 use Rattle.pack.proofs.Tables.{cells-at, rows-length}
 use Rattle.partition.proofs.Cells.{cells-length, cells-none, cells-more, cells-same, rows-node, rows-none, rows-more}

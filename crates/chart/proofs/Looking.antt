@@ -8,14 +8,13 @@ use lib.ListN.{length, getD, drop, replicate, length-replicate, getD-replicate}
 use lib.Seq.{ext-getD}
 use Rattle.pack.specs.Syntax.{Node}
 use Rattle.pack.specs.State.{node, walk, Valid, meaning}
-use Rattle.pack.specs.Table.{bytesAt, tableOf, TableFits, cells}
+use Rattle.pack.specs.Table.{bytesAt, tableOf, TableFits, cells, Above}
 use Rattle.pack.specs.Copy.{TableCopyable, TableCopied}
 use Rattle.pack.specs.Laws.Table.{finds-walk}
 use Rattle.pack.specs.declared.table.Table.{Table}
 use Rattle.pack.proofs.Ready.{copied-fits}
 use Rattle.pack.proofs.Tables.{cells-at, value-at}
 use Rattle.chart.specs.Call.{workRoom, cleared}
-use Rattle.partition.specs.Inner.Bytes.{Above}
 use Rattle.partition.specs.Inner.Put.{Cleared}
 use Rattle.chart.specs.Inner.Look.{NodesRead, Lookable, Looked}
 use Rattle.partition.proofs.Cells.{cells-length, row-in}

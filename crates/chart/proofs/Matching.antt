@@ -10,7 +10,7 @@ use lib.ListN.{length, getD, drop}
 use lib.Seq.{ext-getD}
 use Rattle.pack.specs.Syntax.{Node}
 use Rattle.pack.specs.State.{State, node, target, meaning, Closed}
-use Rattle.pack.specs.Table.{cells, rowsAt}
+use Rattle.pack.specs.Table.{cells, rowsAt, Above}
 use Rattle.reading.specs.Reading.{gives}
 use Rattle.pack.specs.Laws.Table.{finds-walk}
 use Rattle.pack.proofs.Tables.{cells-at, rows-length}
@@ -26,7 +26,6 @@ use Rattle.chart.specs.Laws.Comparing.{differ-valid}
 use Rattle.partition.specs.Laws.Moore as moore
 use Rattle.partition.specs.Inner.Numbers.{Sound}
 use Rattle.partition.specs.Inner.Level.{Agrees, SameByte}
-use Rattle.partition.specs.Inner.Bytes.{Above}
 use Rattle.chart.specs.Inner.Pairs.{leftAt, rightAt, Paired, PairsIn, FirstMet, FirstOther, Sought, Ways, Writable, LongWay, WayWritten}
 use Rattle.chart.specs.Inner.Look.{NodesRead}
 use Rattle.partition.specs.Inner.Put.{Cleared}

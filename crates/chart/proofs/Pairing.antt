@@ -11,8 +11,7 @@ use Rattle.pack.specs.Syntax.{Node}
 use Rattle.pack.specs.State.{target}
 use Rattle.partition.specs.Laws.Count.{all, count-all, count-inj}
 use Rattle.chart.specs.Laws.Breadth.{met-start, met-known, met-new}
-use Rattle.partition.specs.Inner.Bytes.{Below, Above}
-use Rattle.pack.specs.Table.{rowsAt}
+use Rattle.pack.specs.Table.{rowsAt, Below, Above}
 use Rattle.partition.specs.Inner.Put.{Cleared}
 use Rattle.partition.specs.Inner.Numbers.{Sound}
 use Rattle.partition.proofs.Cells.{row-in}

@@ -8,10 +8,9 @@ use native.Mathlib.Omega.{arith}
 use lib.ListN.{length}
 use Rattle.pack.specs.Syntax.{Node}
 use Rattle.pack.specs.State.{node}
-use Rattle.pack.specs.Table.{rowsAt}
+use Rattle.pack.specs.Table.{rowsAt, Below, Above}
 use Rattle.partition.specs.Laws.Bridge.{val}
 use Rattle.chart.specs.Laws.Breadth.{met-row, met-first, met-none}
-use Rattle.partition.specs.Inner.Bytes.{Below, Above}
 use Rattle.partition.specs.Inner.Numbers.{Sound}
 use Rattle.partition.specs.Inner.Level.{Agrees, SameByte}
 use Rattle.chart.specs.Inner.Pairs.{leftAt, rightAt, Paired, Pairs, PairsIn, Followed, Sought}

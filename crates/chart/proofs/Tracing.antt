@@ -7,8 +7,8 @@ use native.Mathlib.Decide.{ℕ-discrete}
 use native.Mathlib.Omega.{arith}
 use lib.ListN.{getD, length, set, length-append, List·getD-append}
 use lib.Seq.{ext-getD, getD-set-same, getD-set-other, getD-append-seam}
+use Rattle.pack.specs.Table.{Above}
 use Rattle.pack.proofs.Tables.{cells-at}
-use Rattle.partition.specs.Inner.Bytes.{Above}
 use Rattle.chart.specs.Inner.Pairs.{fromAt, charAt, Ways, WayWritten}
 use Rattle.partition.proofs.Cells.{cells-length}
 

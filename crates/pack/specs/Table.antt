@@ -38,12 +38,15 @@ pub record TableFits (t : Table) (buffer : List ℕ) : Type 0 where
   pub inside : t .rows + t .nodes * t .width ≤ length buffer
   pub closed : Closed (t .characters) (tableOf t buffer)
 
--- bytes below a place, and from a place on, as they were
+-- bytes below a place, from a place on, and between two, as they were
 abbrev pub Below : (was now : List ℕ) → ℕ → Type 0
 Below was now a = (p : ℕ) → p < a → getD now p 0 ≡ getD was p 0
 
 abbrev pub Above : (was now : List ℕ) → ℕ → Type 0
 Above was now b = (p : ℕ) → b ≤ p → getD now p 0 ≡ getD was p 0
+
+abbrev pub Between : (was now : List ℕ) → (a b : ℕ) → Type 0
+Between was now a b = (p : ℕ) → a ≤ p → p < b → getD now p 0 ≡ getD was p 0
 
 -- the bytes from a place on
 unfoldable pub bytesAt : List ℕ → ℕ → ℕ → List ℕ

@@ -8,8 +8,7 @@ use Rattle.pack.specs.Syntax.{Node}
 use Rattle.pack.specs.State.{node, meaning}
 use Rattle.pack.specs.State.{target}
 use Rattle.partition.specs.Laws.Built.{copied}
-use Rattle.pack.specs.Table.{cells, rowsAt}
-use Rattle.partition.specs.Inner.Bytes.{Below, Above}
+use Rattle.pack.specs.Table.{cells, rowsAt, Below, Above}
 use Rattle.partition.specs.Inner.Numbers.{keyAt, Given, RowFilled, Laid, Sound, Copied}
 use Rattle.pack.proofs.Tables.{cells-at}
 use Rattle.partition.proofs.Cells.{cells-same, row-in, rows-node, rows-same}

@@ -14,8 +14,7 @@ use Rattle.pack.specs.State.{node, meaning}
 use Rattle.partition.specs.Chart.{Ordered, Written}
 use Rattle.partition.specs.Laws.Unique.{some}
 use Rattle.partition.specs.Laws.Merged.{classes, getD-map, Numbered, no-more, all-apart, grows, Merged, merged, kept}
-use Rattle.pack.specs.Table.{cells, rowsAt}
-use Rattle.partition.specs.Inner.Bytes.{Below, Above}
+use Rattle.pack.specs.Table.{cells, rowsAt, Below, Above}
 use Rattle.partition.specs.Inner.Put.{PartCopied}
 use Rattle.partition.specs.Inner.Numbers.{Sound}
 use Rattle.partition.specs.Inner.Classed.{classAt, Mapped, RowPut, ClassPut, Room, Classed, WrittenOut}

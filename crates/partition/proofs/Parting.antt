@@ -13,8 +13,7 @@ use Rattle.partition.specs.Chart.{Ordered}
 use Rattle.partition.specs.Laws.Merged.{classes, Numbered, no-more, all-apart, grows, first}
 use Rattle.partition.specs.Laws.Bridge.{val, exact, coarse, many}
 use Rattle.partition.specs.Laws.Moore as moore
-use Rattle.pack.specs.Table.{cells, rowsAt}
-use Rattle.partition.specs.Inner.Bytes.{Below, Above}
+use Rattle.pack.specs.Table.{cells, rowsAt, Below, Above}
 use Rattle.partition.specs.Inner.Put.{PartCopied}
 use Rattle.partition.specs.Inner.Numbers.{Sound}
 use Rattle.partition.specs.Inner.Classed.{classAt}

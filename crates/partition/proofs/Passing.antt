@@ -15,8 +15,7 @@ use Rattle.partition.specs.Chart.{meets, Fresh, met, Ordered}
 use Rattle.partition.specs.Laws.Unique.{named}
 use Rattle.partition.specs.Laws.Merged.{meets-up, meets-in}
 use Rattle.partition.specs.Laws.Pass.{numbered, Pass, pass-start, pass-row, pass-count, pass-end}
-use Rattle.pack.specs.Table.{cells, rowsAt}
-use Rattle.partition.specs.Inner.Bytes.{Below, Above}
+use Rattle.pack.specs.Table.{cells, rowsAt, Below, Above}
 use Rattle.partition.specs.Inner.Numbers.{keyAt, Numbering, Given, Named, RowFilled}
 use Rattle.pack.proofs.Tables.{cells-at, rows-length}
 use Rattle.partition.proofs.Cells.{cells-length, cells-none, cells-more, cells-same, row-in, rows-none, rows-more, rows-same}

@@ -1,5 +1,4 @@
 -- What the functions inside this layer promise each other; no public promise cites these.
-pub mod Bytes
 pub mod Put
 pub mod Numbers
 pub mod Classed

@@ -6,14 +6,13 @@ use lib.ListN.{length, drop}
 use Rattle.pack.specs.Syntax.{Node}
 use Rattle.pack.specs.State.{meaning}
 use Rattle.reading.specs.Reading.{gives}
-use Rattle.pack.specs.Table.{rowsAt}
+use Rattle.pack.specs.Table.{rowsAt, Above}
 use Rattle.chart.specs.declared.Matched.{Matched}
 use Rattle.chart.specs.Compare.{Verdict, Compared}
 use Rattle.chart.specs.Answers.{compareTable}
 use Rattle.chart.specs.Call.{chainRoom, workRoom, cleared}
 use Rattle.chart.specs.Replies.{chainOf}
 use Rattle.chart.specs.Promises.{compareSaid, difference}
-use Rattle.partition.specs.Inner.Bytes.{Above}
 use Rattle.partition.specs.Inner.Numbers.{Sound}
 use Rattle.chart.specs.Inner.Look.{NodesRead}
 

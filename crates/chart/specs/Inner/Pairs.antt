@@ -7,10 +7,9 @@ use Prim.Native.Nat.{ℕ, _+_, _*_, _<_, _≤_}
 use lib.ListN.{getD, length}
 use Rattle.pack.specs.Syntax.{Node}
 use Rattle.pack.specs.State.{Valid, meaning}
-use Rattle.pack.specs.Table.{cells, rowsAt}
+use Rattle.pack.specs.Table.{cells, rowsAt, Below, Above}
 use Rattle.chart.specs.Earliest.{Earliest}
 use Rattle.chart.specs.Laws.Breadth.{Met}
-use Rattle.partition.specs.Inner.Bytes.{Below, Above}
 
 -- the rows of entry e; the entries stand from q on
 abbrev pub leftAt : List ℕ → ℕ → ℕ → ℕ

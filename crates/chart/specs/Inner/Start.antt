@@ -10,11 +10,10 @@ use Rattle.pack.specs.Layout.{chartBytes, ChartFits}
 use Rattle.pack.specs.Answer.{dims}
 use Rattle.pack.specs.Copy.{Shaped}
 use Rattle.pack.specs.State.{meaning}
-use Rattle.pack.specs.Table.{rowsAt}
+use Rattle.pack.specs.Table.{rowsAt, Above}
 use Rattle.partition.specs.Chart.{Starts}
 use Rattle.chart.specs.Answers.{startTable}
 use Rattle.chart.specs.Call.{chartRoom, workRoom, cleared}
-use Rattle.partition.specs.Inner.Bytes.{Above}
 use Rattle.partition.specs.Inner.Numbers.{Sound}
 
 -- at most 32 rows of at most 30 bytes from 1 on, each belief one of them

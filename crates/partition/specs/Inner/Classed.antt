@@ -7,8 +7,7 @@ use lib.ListN.{getD, length}
 use Rattle.pack.specs.State.{meaning}
 use Rattle.partition.specs.Chart.{Ordered, Written}
 use Rattle.partition.specs.Laws.Merged.{Numbered}
-use Rattle.pack.specs.Table.{rowsAt}
-use Rattle.partition.specs.Inner.Bytes.{Below, Above}
+use Rattle.pack.specs.Table.{rowsAt, Below, Above}
 
 -- the class of row i: the classes stand from k on
 abbrev pub classAt : List ℕ → ℕ → ℕ → ℕ

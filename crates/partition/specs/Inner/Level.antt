@@ -9,8 +9,7 @@ use Rattle.pack.specs.State.{node, target, meaning}
 use Rattle.partition.specs.States.{AtMost}
 use Rattle.partition.specs.Laws.Merged.{classes, Numbered}
 use Rattle.partition.specs.Laws.Moore as moore
-use Rattle.pack.specs.Table.{rowsAt}
-use Rattle.partition.specs.Inner.Bytes.{Below, Above, Between}
+use Rattle.pack.specs.Table.{rowsAt, Below, Above, Between}
 use Rattle.partition.specs.Inner.Classed.{classAt, Classed}
 
 -- the flag r says whether P holds

@@ -4,8 +4,7 @@ use Prim.Native.Nat.{ℕ, _-_, _<_, _≤_, _+_, _*_}
 use lib.ListN.{length}
 use native.Mathlib.Omega.{arith}
 use borrow.Author.Needs.{needs}
-use Rattle.pack.specs.Table.{rowsAt}
-use Rattle.partition.specs.Inner.Bytes.{Below, Above}
+use Rattle.pack.specs.Table.{rowsAt, Below, Above}
 use Rattle.chart.specs.Inner.Pairs.{leftAt, rightAt, Pairs}
 use Rattle.partition.proofs.Cells.{row-in}
 use Rattle.chart.proofs.Pairing.{entries-most, pairs-more, pairs-all, row-place, follow-row, follow-meet, follow-frame}
