@@ -1,8 +1,8 @@
 // The checks that the public calls share, in their order: pack, first chart, second chart, 8, 9. Each takes what the checks before it said; the first refusal stays.
 use pack::node::check_chart;
-use partition::bytes::wide;
 use reading::number::Checked;
 use reading::number::Number;
+use reading::number::wide;
 ghost use mathlib.Core.Path.{_≡_};
 ghost use mathlib.Core.Bool.{_&&_};
 ghost use lib.ListN.{length};

@@ -1,7 +1,7 @@
 // Pairs of rows met breadth first from one pair on, each once, until one is found whose rows have other values: the way back from there is the chain.
 use partition::bytes::clear;
-use partition::bytes::wide;
 use partition::values::first_other;
+use reading::number::wide;
 ghost use mathlib.Core.Path.{_≡_};
 ghost use Prim.Native.Nat.{_+_, _*_, _<_, _≤_};
 ghost use lib.ListN.{length, getD};

@@ -8,7 +8,6 @@ use pack::copy::copy_table;
 use pack::table::Table;
 use pack::table::follow;
 use partition::bytes::clear;
-use partition::bytes::wide;
 use reading::number::Number;
 ghost use Prim.Native.Nat.{_<_};
 ghost use mathlib.Core.Path.{_≡_};

@@ -1,17 +1,12 @@
 // The text that the program prints, put into a lent buffer piece by piece. Each function is handed the place to begin at and hands back the place after what it put.
 use planner::Found;
+use reading::number::wide;
 ghost use mathlib.Core.Path.{_≡_};
 ghost use mathlib.Core.List.{[], _∷_};
 ghost use Prim.Native.Nat.{_+_, _*_, _%_, _≤_};
 ghost use lib.ListN.{length, take};
 ghost use Rattle.ending.specs.Text.{digits, decimal, line, steps, worths, refusal};
 ghost use Rattle.ending.specs.Put.{Put, Listed, answerText};
-
-fn wide(x: u8) -> usize
-    ensures { λ r. ⌜ x ≡ r ⌝ }
-{
-    x as usize
-}
 
 // A byte.
 pub fn put(text: &mut [u8], at: usize, byte: u8) -> usize

@@ -5,12 +5,6 @@ ghost use Prim.Native.Nat.{ℕ, _+_, _<_, _≤_};
 ghost use lib.ListN.{length, getD};
 ghost use Rattle.partition.specs.Inner.Put.{PartCopied, Cleared};
 
-pub fn wide(x: u8) -> usize
-    ensures { λ r. ⌜ r ≡ x ⌝ }
-{
-    x as usize
-}
-
 // Sets the k bytes from a on to 0.
 pub fn clear(work: &mut [u8], a: usize, k: usize)
     requires { ⌜ a + k ≤ length (now work) ⌝ }

@@ -1,10 +1,10 @@
 // The pass that copies the rows of a table that row 0 reaches, in the order met breadth first.
 use crate::bytes::clear;
 use crate::bytes::copy_part;
-use crate::bytes::wide;
 use crate::number::more;
 use crate::number::name_beliefs;
 use crate::number::number_of;
+use reading::number::wide;
 ghost use Prim.Native.Nat.{_+_, _*_, _<_};
 ghost use lib.ListN.{getD};
 ghost use Rattle.pack.specs.Table.{cells};

@@ -1,6 +1,6 @@
 // The merged table: a row for each class of rows that mean the same.
 use crate::bytes::copy_part;
-use crate::bytes::wide;
+use reading::number::wide;
 ghost use Prim.Native.Nat.{ℕ, _+_, _<_, _≤_};
 ghost use lib.ListN.{length, getD};
 ghost use Rattle.partition.specs.Inner.Numbers.{Sound};

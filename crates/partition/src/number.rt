@@ -1,5 +1,5 @@
 // Numbers given on demand: each slot that is named gets the next number, once.
-use crate::bytes::wide;
+use reading::number::wide;
 ghost use mathlib.Core.Path.{_≡_};
 ghost use Prim.Native.Nat.{ℕ, suc, _+_, _<_, _≤_, max};
 ghost use lib.ListN.{length, getD};

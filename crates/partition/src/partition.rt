@@ -1,7 +1,7 @@
 // The partition: rows that mean the same get one class. Classes of equal values come first (values.rt); here they are refined level by level.
 use crate::bytes::copy_part;
-use crate::bytes::wide;
 use crate::values::value_level;
+use reading::number::wide;
 ghost use mathlib.Core.Path.{_≡_};
 ghost use Prim.Native.Nat.{ℕ, _+_, _*_, _<_, _≤_};
 ghost use lib.ListN.{length, getD};

@@ -1,5 +1,5 @@
 // The first level of the partition: rows of equal values get one class, found by a mark of the values.
-use crate::bytes::wide;
+use reading::number::wide;
 ghost use mathlib.Core.Path.{_≡_};
 ghost use Prim.Native.Nat.{_+_, _<_, _≤_};
 ghost use lib.ListN.{length, getD};

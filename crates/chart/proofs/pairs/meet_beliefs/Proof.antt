@@ -22,7 +22,7 @@ loop-holds : tie.Need-loop-holds Inv-loop μ-loop
 loop-holds c =
     let p = c .before .before .before .before .before .pre in
     let a = c .before .before .before .before .before .args in
-    (refl, omega arith, (p .0 .2, omega arith, λ e h. (refl, refl)), ap (λ (i : ℕ). a .t + i * a .w + a .f) (c .before .before .wide .ensures), ap (λ (i : ℕ). a .t + i * a .w + a .f) (c .wide2 .ensures), p .1, λ j h. refl, λ j h. refl)
+    (refl, omega arith, (p .0 .2, omega arith, λ e h. (refl, refl)), ap (λ (i : ℕ). a .t + i * a .w + a .f) (sym (c .before .before .wide .ensures)), ap (λ (i : ℕ). a .t + i * a .w + a .f) (sym (c .wide2 .ensures)), p .1, λ j h. refl, λ j h. refl)
 
 -- the entries end within the buffer
 few : (c : tie.Start Inv-loop μ-loop) → c .args .done < 4096
@@ -40,8 +40,8 @@ meet-requires c κs =
     let p = c .before .before .before .before .before .before .before .before .before .before .before .before .pre .0 in
     let (long, _, (there, more, kept), ea, eb, g, low, high) = c .before .before .before .before .before .before .loop .inv in
     let hd = c .before .before .before .before .before .loop-test .taken in
-    let x = follow-row (p .0) (p .1) (c .before .before .before .before .before .before .loop .work) low _ (c .before .before .before .before .before .before .loop .d) _ _ (g .inside _ there .0) hd ea (c .before .before .before .wide3 .ensures) in
-    let y = follow-row (p .0) (p .1) (c .before .before .before .before .before .before .loop .work) low _ (c .before .before .before .before .before .before .loop .d) _ _ (g .inside _ there .1) hd eb (c .before .wide4 .ensures) in
+    let x = follow-row (p .0) (p .1) (c .before .before .before .before .before .before .loop .work) low _ (c .before .before .before .before .before .before .loop .d) _ _ (g .inside _ there .0) hd ea (sym (c .before .before .before .wide3 .ensures)) in
+    let y = follow-row (p .0) (p .1) (c .before .before .before .before .before .before .loop .work) low _ (c .before .before .before .before .before .before .loop .d) _ _ (g .inside _ there .1) hd eb (sym (c .before .wide4 .ensures)) in
     follow-meet (p .0) (p .1) (c .before .before .before .before .before .before .loop .work) low long g there hd (x .0) (y .0)
 
 loop-again : tie.Need-loop-again Inv-loop μ-loop
@@ -50,8 +50,8 @@ loop-again c =
     let a = c .before .before .before .before .before .before .before .before .before .before .before .before .before .before .before .args in
     let (long, _, (there, more, kept), ea, eb, g, low, high) = c .before .before .before .before .before .before .before .before .before .loop .inv in
     let hd = c .before .before .before .before .before .before .before .before .loop-test .taken in
-    let x = follow-row (p .0) (p .1) (c .before .before .before .before .before .before .before .before .before .loop .work) low _ (c .before .before .before .before .before .before .before .before .before .loop .d) _ _ (g .inside _ there .0) hd ea (c .before .before .before .before .before .before .wide3 .ensures) in
-    let y = follow-row (p .0) (p .1) (c .before .before .before .before .before .before .before .before .before .loop .work) low _ (c .before .before .before .before .before .before .before .before .before .loop .d) _ _ (g .inside _ there .1) hd eb (c .before .before .before .before .wide4 .ensures) in
+    let x = follow-row (p .0) (p .1) (c .before .before .before .before .before .before .before .before .before .loop .work) low _ (c .before .before .before .before .before .before .before .before .before .loop .d) _ _ (g .inside _ there .0) hd ea (sym (c .before .before .before .before .before .before .wide3 .ensures)) in
+    let y = follow-row (p .0) (p .1) (c .before .before .before .before .before .before .before .before .before .loop .work) low _ (c .before .before .before .before .before .before .before .before .before .loop .d) _ _ (g .inside _ there .1) hd eb (sym (c .before .before .before .before .wide4 .ensures)) in
     let m = c .before .before .meet in
     let (g′, up, same) = pairs-more (p .0 .few) g (p .0 .marks) there hd (x .0) (y .0) (x .1) (y .1) (m .ensures) in
     let (low′, high′) = follow-frame (p .0) (p .1) (c .before .before .before .before .before .before .before .before .before .loop .work) low g (x .0) (y .0) high (m .ensures) in

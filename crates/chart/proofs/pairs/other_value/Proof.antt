@@ -1,5 +1,5 @@
 -- The rows, then their values. Assumes nothing.
-use mathlib.Core.Path.{ap, subst}
+use mathlib.Core.Path.{sym, ap, subst}
 use Prim.Native.Nat.{ℕ, _+_, _*_}
 use lib.ListN.{getD}
 use native.Mathlib.Omega.{arith}
@@ -12,8 +12,8 @@ returns : tie.Need-returns
 returns c =
     let a = c .before .before .before .before .before .before .args in
     let l = a .work .now in
-    subst (λ (i : ℕ). Agrees (SameByte l (a .t + i * a .w) (a .t + getD l (a .e + 1) 0 * a .w)) (a .f) (c .first-other .result)) (c .before .before .before .wide .ensures)
-    (subst (λ (j : ℕ). Agrees (SameByte l (a .t + c .before .before .before .wide .result * a .w) (a .t + j * a .w)) (a .f) (c .first-other .result)) (c .before .wide2 .ensures) (c .first-other .ensures))
+    subst (λ (i : ℕ). Agrees (SameByte l (a .t + i * a .w) (a .t + getD l (a .e + 1) 0 * a .w)) (a .f) (c .first-other .result)) (sym (c .before .before .before .wide .ensures))
+    (subst (λ (j : ℕ). Agrees (SameByte l (a .t + c .before .before .before .wide .result * a .w) (a .t + j * a .w)) (a .f) (c .first-other .result)) (sym (c .before .wide2 .ensures)) (c .first-other .ensures))
 
 pub other-value-spec : {M : Type 1} → statement M
 other-value-spec =

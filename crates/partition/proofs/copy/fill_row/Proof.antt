@@ -1,5 +1,5 @@
 -- `chart::copy::fill_row` meets its contract. Assumes nothing.
-use mathlib.Core.Path.{_∙_, ap}
+use mathlib.Core.Path.{sym, _∙_, ap}
 use Prim.Native.Nat.{ℕ, _<_, _≤_, _+_, _*_}
 use lib.ListN.{length, getD}
 use native.Mathlib.Omega.{arith}
@@ -43,8 +43,8 @@ returns c =
     let s = h .before .before .before in
     let a = s .args in
     let p = c .before .before .before .before .before .before .copy-part .ensures in
-    row-filled _ _ _ (cells-same _ _ _ _ _ (λ q l. p .part q (omega arith)) ∙ ap (λ (x : ℕ). cells (a .work .now) (a .s + x * a .w) (a .f)) (h .wide .ensures)) (p .low) (λ q l. p .high q (omega (arith, s .pre .0 .0 .wide))) (c .before .before .name-beliefs .ensures)
-    (λ d l. part-behind (a .f) (a .c) p d l ∙ ap (λ (x : ℕ). getD (a .work .now) (a .s + x * a .w + a .f + d) 0) (h .wide .ensures))
+    row-filled _ _ _ (cells-same _ _ _ _ _ (λ q l. p .part q (omega arith)) ∙ ap (λ (x : ℕ). cells (a .work .now) (a .s + x * a .w) (a .f)) (sym (h .wide .ensures))) (p .low) (λ q l. p .high q (omega (arith, s .pre .0 .0 .wide))) (c .before .before .name-beliefs .ensures)
+    (λ d l. part-behind (a .f) (a .c) p d l ∙ ap (λ (x : ℕ). getD (a .work .now) (a .s + x * a .w + a .f + d) 0) (sym (h .wide .ensures)))
     (omega (arith, s .pre .0 .0)) (s .pre .0 .0 .wide) (room s)
 
 pub fill-row-spec : {M : Type 1} → statement M

@@ -1,5 +1,5 @@
 -- `chart::merge::map_part` meets its contract. Assumes nothing.
-use mathlib.Core.Path.{_≡_, refl}
+use mathlib.Core.Path.{_≡_, refl, sym}
 use Prim.Native.Nat.{ℕ, _<_, _≤_, _-_, _+_}
 use lib.ListN.{length, length-set}
 use native.Mathlib.Omega.{arith}
@@ -27,7 +27,7 @@ loop-again : tie.Need-loop-again Inv-loop μ-loop
 loop-again c =
     let w = c .before in
     let l = w .before .before .before .loop in
-    (omega arith, simp length-set (l .inv .1), mapped-more _ _ (l .inv .2) (w .wide .ensures) refl (omega arith) (omega (arith, below w)) (omega arith))
+    (omega arith, simp length-set (l .inv .1), mapped-more _ _ (l .inv .2) (sym (w .wide .ensures)) refl (omega arith) (omega (arith, below w)) (omega arith))
 
 returns : tie.Need-returns Inv-loop μ-loop
 returns c = let l = c .before .loop in let e : l .d ≡ c .before .before .before .args .c = omega arith in rw e at (l .inv .2)

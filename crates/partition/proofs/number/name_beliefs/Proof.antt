@@ -1,5 +1,5 @@
 -- `chart::number::name_beliefs` meets its contract. Assumes nothing.
-use mathlib.Core.Path.{_≡_, _∙_}
+use mathlib.Core.Path.{_≡_, sym, _∙_}
 use Prim.Native.Nat.{_<_, _≤_, _-_, _+_}
 use lib.ListN.{length, length-set, getD}
 use native.Mathlib.Omega.{arith}
@@ -36,7 +36,7 @@ loop-again c =
     let kept = c .before .before .before .number-of .kept .0 in (
       omega arith,
       simp length-set (kept ∙ l .inv .1),
-      named-more (l .inv .2) (c .before .before .before .number-of .ensures) (c .before .before .before .before .before .wide .ensures ∙ l .inv .2 .high (s .args .to + l .k) (omega arith)) (c .more .ensures) (omega arith) (omega arith),
+      named-more (l .inv .2) (c .before .before .before .number-of .ensures) (sym (c .before .before .before .before .before .wide .ensures) ∙ l .inv .2 .high (s .args .to + l .k) (omega arith)) (c .more .ensures) (omega arith) (omega arith),
     )
 
 returns : tie.Need-returns Inv-loop μ-loop

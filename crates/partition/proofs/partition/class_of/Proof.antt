@@ -1,4 +1,5 @@
 -- None of the leading rows below q is alike to row i. Assumes nothing.
+use mathlib.Core.Path.{sym}
 use Prim.Native.Nat.{_-_}
 use native.Mathlib.Omega.{arith}
 use borrow.Author.Needs.{needs}
@@ -14,20 +15,20 @@ abbrev μ-loop : tie.MeasureT-loop
 μ-loop work w f c t k r count i q₀ q = count - q
 
 loop-holds : tie.Need-loop-holds Inv-loop μ-loop
-loop-holds c = none-since (c .before .before .before .pre) _ (c .wide .ensures)
+loop-holds c = none-since (c .before .before .before .pre) _ (sym (c .wide .ensures))
 
 alike-requires : tie.Need-alike-requires Inv-loop μ-loop
 alike-requires c κs =
     let a = c .before .before .before .before .before .before .before .pre in
     let h = c .before .before .loop-test .taken in
-    let e = c .wide2 .ensures in
+    let e = sym (c .wide2 .ensures) in
     (against-row a _ h _ e, (against-finer a _ h _ e, against-values a _ h _ e))
 
 returns : tie.Need-returns Inv-loop μ-loop
-returns c = class-found _ (c .before .before .before .before .loop-test .taken) _ (c .before .before .wide2 .ensures) (c .before .alike .ensures .yes (c .if1 .taken)) (c .before .before .before .before .before .loop .inv)
+returns c = class-found _ (c .before .before .before .before .loop-test .taken) _ (sym (c .before .before .wide2 .ensures)) (c .before .alike .ensures .yes (c .if1 .taken)) (c .before .before .before .before .before .loop .inv)
 
 loop-again : tie.Need-loop-again Inv-loop μ-loop
-loop-again c = none-more _ _ (c .before .before .wide2 .ensures) (refuted (c .before .alike .ensures) (c .if1 .left)) (c .before .before .before .before .before .loop .inv)
+loop-again c = none-more _ _ (sym (c .before .before .wide2 .ensures)) (refuted (c .before .alike .ensures) (c .if1 .left)) (c .before .before .before .before .before .loop .inv)
 
 returns-2 : tie.Need-returns-2 Inv-loop μ-loop
 returns-2 c = class-none _ (c .loop-test .left) (c .before .loop .inv)

@@ -45,14 +45,14 @@ returns c =
     record {
       within = search needs;
       before = c .before .before .before .before .before .before .before .before .loop .inv .1;
-      here = λ h e. c .if1 .taken (ap cls (c .before .before .before .before .before .wide .ensures) ∙ e ∙ ap cls (sym (c .before .before .before .wide2 .ensures)));
+      here = λ h e. c .if1 .taken (ap cls (sym (c .before .before .before .before .before .wide .ensures)) ∙ e ∙ ap cls (c .before .before .before .wide2 .ensures));
     }
 
 loop-again : tie.Need-loop-again Inv-loop μ-loop
 loop-again c =
     let a = c .before .before .before .before .before .before .before .before .before .before .args in
     let cls : ℕ → ℕ = λ x. getD (a .work .now) (a .k + x) 0 in
-    (search needs, below-more _ _ (c .before .before .before .before .before .before .before .before .loop .inv .1) (ap cls (sym (c .before .before .before .before .before .wide .ensures)) ∙ c .if1 .left ∙ ap cls (c .before .before .before .wide2 .ensures)))
+    (search needs, below-more _ _ (c .before .before .before .before .before .before .before .before .loop .inv .1) (ap cls (c .before .before .before .before .before .wide .ensures) ∙ c .if1 .left ∙ ap cls (sym (c .before .before .before .wide2 .ensures))))
 
 returns-2 : tie.Need-returns-2 Inv-loop μ-loop
 returns-2 c = record { within = search needs; before = λ q h. c .before .loop .inv .1 q (omega arith); here = λ h e. omega arith }

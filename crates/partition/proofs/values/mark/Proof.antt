@@ -26,7 +26,7 @@ loop-again c =
     let l = c .before .before .before .loop in (
       omega arith,
       omega arith,
-      ap (λ (s : ℕ). (s * 2 + c .wide .result) % 4294967296) (l .inv .2) ∙ ap (λ (v : ℕ). (sumOf (a .work .now) (a .a) (l .q) * 2 + v) % 4294967296) (c .wide .ensures) ∙ sym (sum-more (a .work .now) (a .a) (l .q)),
+      ap (λ (s : ℕ). (s * 2 + c .wide .result) % 4294967296) (l .inv .2) ∙ ap (λ (v : ℕ). (sumOf (a .work .now) (a .a) (l .q) * 2 + v) % 4294967296) (sym (c .wide .ensures)) ∙ sym (sum-more (a .work .now) (a .a) (l .q)),
     )
 
 returns : tie.Need-returns Inv-loop μ-loop

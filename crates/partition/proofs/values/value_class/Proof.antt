@@ -1,5 +1,5 @@
 -- From class q on no leading row has the values of row i. Assumes nothing.
-use mathlib.Core.Path.{_≡_}
+use mathlib.Core.Path.{_≡_, sym}
 use Prim.Native.Nat.{suc, _-_}
 use native.Mathlib.Omega.{arith}
 use borrow.Author.Needs.{needs}
@@ -25,13 +25,13 @@ shared-slice-read-wide c = let x = c .before .before .before .before .pre in ome
 
 -- the row that leads it
 first-other-requires : tie.Need-first-other-requires Inv-loop μ-loop
-first-other-requires c κs = let s = c .before .before in looking-room (s .before .before .before .pre) (s .before .loop .inv) (class s) (c .wide .ensures)
+first-other-requires c κs = let s = c .before .before in looking-room (s .before .before .before .pre) (s .before .loop .inv) (class s) (sym (c .wide .ensures))
 
 mul-first-other : tie.Need-mul-first-other Inv-loop μ-loop
-mul-first-other c = let s = c .before .before in omega (arith, looking-room (s .before .before .before .pre) (s .before .loop .inv) (class s) (c .wide .ensures))
+mul-first-other c = let s = c .before .before in omega (arith, looking-room (s .before .before .before .pre) (s .before .loop .inv) (class s) (sym (c .wide .ensures)))
 
 add-first-other : tie.Need-add-first-other Inv-loop μ-loop
-add-first-other c = let s = c .before .before in omega (arith, looking-room (s .before .before .before .pre) (s .before .loop .inv) (class s) (c .wide .ensures))
+add-first-other c = let s = c .before .before in omega (arith, looking-room (s .before .before .before .pre) (s .before .loop .inv) (class s) (sym (c .wide .ensures)))
 
 mul-first-other-2 : tie.Need-mul-first-other-2 Inv-loop μ-loop
 mul-first-other-2 c = let s = c .before .before in omega (arith, s .before .before .before .pre .row)
@@ -42,7 +42,7 @@ add-first-other-2 c = let s = c .before .before in omega (arith, s .before .befo
 returns : tie.Need-returns Inv-loop μ-loop
 returns c =
     let s = c .before .before .before .before in
-    looking-found (s .before .before .before .pre) (s .before .loop .inv) (class s) (c .before .before .wide .ensures) (agrees-values (c .before .first-other .ensures) (c .if1 .taken))
+    looking-found (s .before .before .before .pre) (s .before .loop .inv) (class s) (sym (c .before .before .wide .ensures)) (agrees-values (c .before .first-other .ensures) (c .if1 .taken))
 
 add-wide-2 : tie.Need-add-wide-2 Inv-loop μ-loop
 add-wide-2 c = let s = c .before .before .before .before in omega (arith, s .before .before .before .pre .above, s .before .loop .inv .within, s .loop-test .taken)
@@ -51,12 +51,12 @@ shared-slice-read-wide-2 : tie.Need-shared-slice-read-wide-2 Inv-loop μ-loop
 shared-slice-read-wide-2 c = let s = c .before .before .before .before .before in omega (arith, s .before .before .before .pre .above, s .before .loop .inv .within, s .loop-test .taken)
 
 loop-less : tie.Need-loop-less Inv-loop μ-loop
-loop-less c = let s = c .before .before .before .before .before .before in looking-lower (s .before .before .before .pre) (s .before .loop .inv) (class s) (c .wide2 .ensures)
+loop-less c = let s = c .before .before .before .before .before .before in looking-lower (s .before .before .before .pre) (s .before .loop .inv) (class s) (sym (c .wide2 .ensures))
 
 loop-again : tie.Need-loop-again Inv-loop μ-loop
 loop-again c =
     let s = c .before .before .before .before .before .before in
-    looking-next (s .before .before .before .pre) (s .before .loop .inv) (class s) (c .before .before .before .before .wide .ensures) (agrees-not (c .before .before .before .first-other .ensures) (omega (arith, c .before .before .if1 .left))) (c .wide2 .ensures)
+    looking-next (s .before .before .before .pre) (s .before .loop .inv) (class s) (sym (c .before .before .before .before .wide .ensures)) (agrees-not (c .before .before .before .first-other .ensures) (omega (arith, c .before .before .if1 .left))) (sym (c .wide2 .ensures))
 
 pub value-class-spec : {M : Type 1} → statement M
 value-class-spec =

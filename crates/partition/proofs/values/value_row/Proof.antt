@@ -1,5 +1,5 @@
 -- A row with the values of a leading row gets its class; else it leads the next, the last of its mark. Assumes nothing.
-use mathlib.Core.Path.{refl}
+use mathlib.Core.Path.{refl, sym}
 use native.Mathlib.Omega.{arith}
 use lib.ListN.{length-set}
 use borrow.Author.Needs.{needs}
@@ -20,7 +20,7 @@ value-class-requires : tie.Need-value-class-requires
 value-class-requires c κs =
     let (v, x) = c .before .before .before .before .before .before .before .pre in
     let (e, h) = c .before .before .before .mark .ensures in
-    chain-at v x h e (c .wide .ensures)
+    chain-at v x h e (sym (c .wide .ensures))
 
 returns : tie.Need-returns
 returns c = let (v, x) = c .before .before .before .before .before .before .before .before .before .pre in valued-old v x (c .before .value-class .ensures) (c .if1 .taken)
