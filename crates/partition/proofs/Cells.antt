@@ -13,7 +13,7 @@ use borrow.Author.Count.{below-more}
 use Rattle.pack.specs.State.{node, nowhere}
 use Rattle.pack.proofs.Tables.{upto-length, upto-at}
 use Rattle.pack.specs.Table.{upto, cells, rowAt, rowsAt}
-use Rattle.partition.specs.Inner.Put.{Cleared, PartCopied}
+use Rattle.partition.specs.Inner.Put.{Cleared, Apart, PartCopied}
 
 upto-same : {A : Type 0} (g h : ℕ → A) (n : ℕ) → ((i : ℕ) → i < n → g i ≡ h i) → upto g n ≡ upto h n
 unfolding upto
@@ -100,11 +100,11 @@ part-behind {was} {now} {a} {b} f c p d l =
 pub part-none : (was : List ℕ) (a b : ℕ) → PartCopied was was a b 0
 part-none was a b = record { part = λ q h. absurd (omega arith); low = λ p h. refl; high = λ p h. refl }
 
-pub part-more : (was now : List ℕ) (a b k : ℕ) → PartCopied was now a b k → b + k < length now → a + k < b → PartCopied was (set now (b + k) (getD now (a + k) 0)) a b (k + 1)
+pub part-more : (was now : List ℕ) (a b k : ℕ) → PartCopied was now a b k → b + k < length now → Apart a b (k + 1) → PartCopied was (set now (b + k) (getD now (a + k) 0)) a b (k + 1)
 part-more was now a b k c l apart = let v = getD now (a + k) 0 in record {
   part = below-more (λ q. getD (set now (b + k) v) (b + q) 0 ≡ getD was (a + q) 0) k
       (λ q h. getD-set-other now (b + k) (b + q) v 0 (omega arith) ∙ c .part q h)
-      (getD-set-same now (b + k) v 0 l ∙ c .low (a + k) apart);
+      (getD-set-same now (b + k) v 0 l ∙ by-cases (decLt (a + k) b) (c .low (a + k)) (λ h. c .high (a + k) (omega (arith, apart))));
   low = λ p h. getD-set-other now (b + k) p v 0 (omega arith) ∙ c .low p h;
   high = λ p h. getD-set-other now (b + k) p v 0 (omega arith) ∙ c .high p (omega arith);
 }

@@ -1,9 +1,9 @@
-// Bytes of a lent buffer: cleared, and copied from a lower part to a higher one.
+// Bytes of a lent buffer: cleared, and copied from one part to another.
 ghost use mathlib.Core.Path.{_≡_};
 ghost use mathlib.Core.Bool.{false};
 ghost use Prim.Native.Nat.{ℕ, _+_, _<_, _≤_};
 ghost use lib.ListN.{length, getD};
-ghost use Rattle.partition.specs.Inner.Put.{PartCopied, Cleared};
+ghost use Rattle.partition.specs.Inner.Put.{Apart, PartCopied, Cleared};
 
 // Sets the k bytes from a on to 0.
 pub fn clear(work: &mut [u8], a: usize, k: usize)
@@ -54,9 +54,9 @@ pub fn sweep(work: &mut [u8], a: usize, k: usize)
     clear(work, a + i, k - i);
 }
 
-// Copies the f bytes from a on to b, past them.
+// Copies the f bytes from a on to b, past them or below them.
 pub fn copy_part(work: &mut [u8], a: usize, b: usize, f: usize)
-    requires { ⌜ (a + f ≤ b) × (b + f ≤ length (now work)) ⌝ }
+    requires { ⌜ Apart a b f × (a + f ≤ length (now work)) × (b + f ≤ length (now work)) ⌝ }
     ensures { λ _. ⌜ PartCopied (now (work .entry)) (now (work .exit)) a b f ⌝ }
 {
     let mut k = 0;

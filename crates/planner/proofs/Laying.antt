@@ -15,7 +15,7 @@ use Rattle.pack.proofs.Ready.{copied, copied-fits}
 use Rattle.pack.proofs.Tables.{belief-in-table}
 use Rattle.chart.specs.Call.{workRoom}
 use Rattle.partition.specs.Chart.{Starts}
-use Rattle.partition.specs.Inner.Put.{Cleared, PartCopied}
+use Rattle.partition.specs.Inner.Put.{Cleared, Apart, PartCopied}
 use Rattle.chart.specs.Inner.Start.{Mergeable, Merged}
 use Rattle.partition.proofs.Cells.{rows-same}
 use Rattle.explanation.specs.declared.explain.Shape.{Shape}
@@ -57,8 +57,8 @@ module _ {domains : List ℕ} {T : List Node} {pack : List ℕ} {first nodes : �
       pub merged-size : (r < 256) × (r * w ≤ 960)
       merged-size = (omega (arith, z .few, x .few), omega (arith, mul-le-mul-right w (z .few), table-size))
 
-      pub lay-down : (1 + r * w ≤ 2400) × (2400 + r * w ≤ length (set mid′ 0 r))
-      lay-down = (omega (arith, merged-size), omega (arith, merged-size, length-set mid′ 0 r, long, y .long, x .room))
+      pub lay-down : Apart 2400 1 (r * w) × (2400 + r * w ≤ length (set mid′ 0 r)) × (1 + r * w ≤ length (set mid′ 0 r))
+      lay-down = let room = length-set mid′ 0 r ∙ long ∙ y .long in (omega (arith, merged-size), omega (arith, merged-size, room, x .room), omega (arith, merged-size, room, x .room))
 
       pub lay-done : {now then : List ℕ} → PartCopied (set mid′ 0 r) now 2400 1 (r * w) → Cleared now then memoryAt 5682 → LaidStart T h work then
       lay-done {now} {then} c cl =

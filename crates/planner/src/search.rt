@@ -21,11 +21,11 @@ use pack::copy::copy_table;
 use pack::judge::utility;
 use pack::table::Table;
 use partition::bytes::clear;
+use partition::bytes::copy_part;
 use partition::bytes::sweep;
 use partition::values::first_other;
 use reading::number::Number;
 use reading::number::wide;
-use transition::stage::copy_down;
 use transition::step::step_slot;
 ghost use mathlib.Core.Path.{_≡_};
 ghost use mathlib.Core.Bool.{true, _&&_};
@@ -283,7 +283,7 @@ pub fn lay_start(pack: &[u8], first: usize, nodes: usize, p: Shape, work: &mut [
     let width = p.fluents + p.characters;
     let rows = merge_table(work, nodes, width, p.fluents, p.characters);
     work[0] = rows as u8;
-    copy_down(work, 2400, 1, rows * width);
+    copy_part(work, 2400, 1, rows * width);
     clear(work, 43470, 5682);
 }
 

@@ -31,15 +31,6 @@ use Rattle.change.specs.Inner.Change.{Scene, Stands, at, Laid, ChangeMade}
 use Rattle.transition.specs.Inner.Stage.{StageRoom, SlotOnly, InSlot, Staged}
 use Rattle.change.proofs.Changing.{small}
 
-pub down-more : {was now : List ℕ} {a b k : ℕ} → PartCopied was now a b k → b + k < length now → b + k < a + k → PartCopied was (set now (b + k) (getD now (a + k) 0)) a b (k + 1)
-down-more {was} {now} {a} {b} {k} c l apart = let v = getD now (a + k) 0 in record {
-  part = below-more (λ q. getD (set now (b + k) v) (b + q) 0 ≡ getD was (a + q) 0) k
-      (λ q h. getD-set-other now (b + k) (b + q) v 0 (omega arith) ∙ c .part q h)
-      (getD-set-same now (b + k) v 0 l ∙ c .high (a + k) (omega arith));
-  low = λ p h. getD-set-other now (b + k) p v 0 (omega arith) ∙ c .low p h;
-  high = λ p h. getD-set-other now (b + k) p v 0 (omega arith) ∙ c .high p (omega arith);
-}
-
 -- a written chart of r rows from 36720 on, its count put into a slot and its rows copied down behind it
 pub put-down : (t : Table) (was now now′ : List ℕ) {z : State} {slot r : ℕ} → t .fluents + t .characters ≤ t .width → slot + 961 ≤ 28832 → workRoom ≤ length now → 0 < r → r ≤ 32 → r * t .width ≤ 960
     → Starts (t .characters) z (rowsAt now (t .width) (t .fluents) (t .characters) 36720 r) → Below was now 28832 → Above was now 43470 → PartCopied (set now slot r) now′ 36720 (slot + 1) (r * t .width)

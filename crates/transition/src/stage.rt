@@ -2,25 +2,11 @@
 use change::change::Change;
 use change::change::change_table;
 use pack::table::Table;
+use partition::bytes::copy_part;
 use partition::merge::write_merged;
 use partition::partition::partition;
-ghost use Prim.Native.Nat.{_+_, _≤_};
-ghost use lib.ListN.{length};
-ghost use Rattle.partition.specs.Inner.Put.{PartCopied};
 ghost use Rattle.change.specs.Inner.Change.{Scene, Stands, Scened};
 ghost use Rattle.transition.specs.Inner.Stage.{StageRoom, Staged};
-
-// Copies the k bytes from a on to b, below them.
-pub fn copy_down(work: &mut [u8], a: usize, b: usize, k: usize)
-    requires { ⌜ (b + k ≤ a) × (a + k ≤ length (now work)) ⌝ }
-    ensures { λ _. ⌜ PartCopied (now (work .entry)) (now (work .exit)) a b k ⌝ }
-{
-    let mut q = 0;
-    while q < k {
-        work[b + q] = work[a + q];
-        q += 1;
-    }
-}
 
 // Puts the table of what happens, merged, into the slot at `slot`: its count there and its rows behind it. How many rows that is, or more than 32, and then the slot is as it was.
 pub fn stage(
@@ -62,6 +48,6 @@ pub fn stage(
         36720,
     );
     work[slot] = count as u8;
-    copy_down(work, 36720, slot + 1, count * t.width);
+    copy_part(work, 36720, slot + 1, count * t.width);
     count
 }

@@ -56,7 +56,7 @@ put-old-spec =
     (tie.spec Inv-loop μ-loop
     (λ c. omega (arith, place (c .before .before)))
     (λ c. omega (arith, place (c .before .before .before)))
-    (λ c κs. (omega (arith, place (c .before .before .before .before)), omega (arith, place (c .before .before .before .before))))
+    (λ c κs. (omega (arith, place (c .before .before .before .before)), omega (arith, place (c .before .before .before .before)), omega (arith, place (c .before .before .before .before))))
     (λ c. (omega arith, refl, refl, λ s x. slots-none _ _ _ _ _))
     (λ c. omega (arith, place (c .before .before .before .before .before .before .before .before .before .before .before), c .before .before .before .loop .inv .2))
     (λ c. omega (arith, place (c .before .before .before .before .before .before .before .before .before .before .before), c .before .before .before .loop .inv .2, c .before .if1 .taken))

@@ -25,7 +25,7 @@ copy-part-requires c κs =
     let x = c .before .before .before .before .before .before .before .before .copy-table in
     let y = c .before .before .before .before .partition in
     let room = merge-room (c .before .before .before .before .before .before .before .before .before .before .before .pre) (x .ensures) (x .kept .0) (y .ensures) (y .kept .0) in
-    (omega (arith, room .source), room .target)
+    (omega (arith, room .source), omega (arith, room .target), room .target)
 
 same-length : tie.Need-same-length
 same-length c = c .before .before .copy-part .kept .0 ∙ c .before .before .before .before .before .before .before .partition .kept .0 ∙ c .before .before .before .before .before .before .before .before .before .before .before .copy-table .kept .0

@@ -15,7 +15,15 @@ add-copy-part : tie.Need-add-copy-part
 add-copy-part c = let P = c .before .before .before .before .before .before .before .before .before .before .pre in omega (arith, place-in (c .before .before .before .before .before .before .before .before .before .before .args .p) (P .0) (P .1))
 
 copy-part-requires : tie.Need-copy-part-requires
-copy-part-requires c κs = let P = c .before .before .before .before .before .before .before .before .before .before .pre in let fit = c .before .before .before .before .before .before .storable .ensures (c .before .before .before .before .before .if1 .taken) in (omega (arith, P .0 .before, c .before .before .before .before .before .before .before .extent .ensures, extent-most (c .before .before .before .before .before .before .before .before .before .before .args .p) (P .0), place-in (c .before .before .before .before .before .before .before .before .before .before .args .p) (P .0) (P .1)), omega (arith, place-in (c .before .before .before .before .before .before .before .before .before .before .args .p) (P .0) (P .1), P .0 .room, fit .fits, c .before .before .before .put-key .kept .0))
+copy-part-requires c κs =
+    let s = c .before .before .before .before .before .before .before .before .before .before in
+    let P = s .pre in
+    let fit = c .before .before .before .before .before .before .storable .ensures (c .before .before .before .before .before .if1 .taken) in
+    let at = place-in (s .args .p) (P .0) (P .1) in
+    let most = extent-most (s .args .p) (P .0) in
+    let size = c .before .before .before .before .before .before .before .extent .ensures in
+    let long = c .before .before .before .put-key .kept .0 in
+    (omega (arith, P .0 .before, size, most, at), omega (arith, P .0 .before, size, most, at, P .0 .room, fit .fits, long), omega (arith, at, P .0 .room, fit .fits, long))
 
 returns : tie.Need-returns
 returns c = let P = c .before .before .before .before .before .before .before .before .before .before .before .before .before .pre in remembered (c .before .before .before .before .before .before .before .before .before .before .before .before .before .args .p) (P .0) (P .1) (c .before .before .before .before .before .before .before .before .before .before .extent .ensures) (c .before .before .before .before .before .before .before .before .before .storable .ensures (c .before .before .before .before .before .before .before .before .if1 .taken)) (c .before .before .before .before .before .before .put-key .ensures) (c .before .before .copy-part .ensures)

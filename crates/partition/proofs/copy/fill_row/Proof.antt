@@ -52,6 +52,6 @@ fill-row-spec =
     tie.close
     (tie.spec (λ c. search needs) (λ c. omega (arith, room (c .before), c .before .pre .0 .0)) (λ c. omega (arith, room (c .before .before), c .before .before .pre .0 .0)) (λ c κs. search needs)
     (λ c. omega (arith, place c, c .before .before .before .pre .0 .0)) (λ c. omega (arith, place c, c .before .before .before .pre .0 .0)) (λ c. omega (arith, place c)) (λ c. omega (arith, place c))
-    (λ c. omega (arith, place (c .before), c .before .before .before .before .pre .0 .0)) (λ c κs. let (x, from, to) = place (c .before) in let l = c .before .before .before .before .pre .0 .0 in (omega (arith, l), omega (arith, l)))
+    (λ c. omega (arith, place (c .before), c .before .before .before .before .pre .0 .0)) (λ c κs. let (x, from, to) = place (c .before) in let l = c .before .before .before .before .pre .0 .0 in (omega (arith, l), omega (arith, l), omega (arith, l)))
     (λ c. omega (arith, place (c .before .before .before .before .before), c .before .before .before .before .before .before .before .before .pre .0 .0))
     name-beliefs-requires (λ c. search needs) returns)

@@ -42,7 +42,7 @@ returns-3 c =
     parted-since (p .0 .0) (p .1) (c .before .before .before .before .before .before .before .before .before .before .before .value-level .ensures) (parting-done l o g (c .before .before .before .before .level .ensures) (c .if3 .taken))
 
 copy-part-requires : tie.Need-copy-part-requires Inv-loop μ-loop
-copy-part-requires c κs = let (long, l, o, g) = c .before .before .before .before .before .before .before .before .loop .inv in (omega (arith, l), omega (arith, l, long, c .before .before .before .before .before .level .kept .0))
+copy-part-requires c κs = let (long, l, o, g) = c .before .before .before .before .before .before .before .before .loop .inv in (omega (arith, l), omega (arith, l, long, c .before .before .before .before .before .level .kept .0), omega (arith, l, long, c .before .before .before .before .before .level .kept .0))
 
 loop-less : tie.Need-loop-less Inv-loop μ-loop
 loop-less c = omega (arith, c .before .before .before .before .before .if2 .left, c .before .before .before .before .if3 .left)

@@ -22,20 +22,20 @@ cast-work c = let (ds, (T, x)) = c .before .before .before .before .before .befo
 slice-write-work : tie.Need-slice-write-work
 slice-write-work c = let (ds, (T, x)) = c .before .before .before .before .before .before .before .before .before .before .before .pre in omega (arith, x .room, c .before .before .before .before .before .before .before .copy-table .ensures .long, c .before .before .merge-table .kept .0)
 
-mul-copy-down : tie.Need-mul-copy-down
-mul-copy-down c = let (ds, (T, x)) = c .before .before .before .before .before .before .before .before .before .before .before .before .pre in let m = c .before .before .before .merge-table in omega (arith, merged-size x (c .before .before .before .before .before .before .before .before .copy-table .ensures) (m .ensures) (m .kept .0))
+mul-copy-part : tie.Need-mul-copy-part
+mul-copy-part c = let (ds, (T, x)) = c .before .before .before .before .before .before .before .before .before .before .before .before .pre in let m = c .before .before .before .merge-table in omega (arith, merged-size x (c .before .before .before .before .before .before .before .before .copy-table .ensures) (m .ensures) (m .kept .0))
 
-copy-down-requires : tie.Need-copy-down-requires
-copy-down-requires c κs = let (ds, (T, x)) = c .before .before .before .before .before .before .before .before .before .before .before .before .pre in let m = c .before .before .before .merge-table in lay-down x (c .before .before .before .before .before .before .before .before .copy-table .ensures) (m .ensures) (m .kept .0)
+copy-part-requires : tie.Need-copy-part-requires
+copy-part-requires c κs = let (ds, (T, x)) = c .before .before .before .before .before .before .before .before .before .before .before .before .pre in let m = c .before .before .before .merge-table in lay-down x (c .before .before .before .before .before .before .before .before .copy-table .ensures) (m .ensures) (m .kept .0)
 
 clear-requires : tie.Need-clear-requires
-clear-requires c κs = let (ds, (T, x)) = c .before .before .before .before .before .before .before .before .before .before .before .before .before .before .before .before .pre in let m = c .before .before .before .before .before .before .before .merge-table in omega (arith, x .room, c .before .before .before .before .before .before .before .before .before .before .before .before .copy-table .ensures .long, m .kept .0, length-set (m .last .0) 0 (m .result), c .before .before .before .copy-down .kept .0)
+clear-requires c κs = let (ds, (T, x)) = c .before .before .before .before .before .before .before .before .before .before .before .before .before .before .before .before .pre in let m = c .before .before .before .before .before .before .before .merge-table in omega (arith, x .room, c .before .before .before .before .before .before .before .before .before .before .before .before .copy-table .ensures .long, m .kept .0, length-set (m .last .0) 0 (m .result), c .before .before .before .copy-part .kept .0)
 
 same-length : tie.Need-same-length
-same-length c = let m = c .before .before .before .before .before .before .before .before .before .before .merge-table in c .before .before .clear .kept .0 ∙ c .before .before .before .before .before .before .copy-down .kept .0 ∙ length-set (m .last .0) 0 (m .result) ∙ m .kept .0 ∙ c .before .before .before .before .before .before .before .before .before .before .before .before .before .before .before .copy-table .ensures .long
+same-length c = let m = c .before .before .before .before .before .before .before .before .before .before .merge-table in c .before .before .clear .kept .0 ∙ c .before .before .before .before .before .before .copy-part .kept .0 ∙ length-set (m .last .0) 0 (m .result) ∙ m .kept .0 ∙ c .before .before .before .before .before .before .before .before .before .before .before .before .before .before .before .copy-table .ensures .long
 
 returns : tie.Need-returns
-returns c = let m = c .before .before .before .before .before .before .before .before .before .before .merge-table in λ ds T x. lay-done x (c .before .before .before .before .before .before .before .before .before .before .before .before .before .before .before .copy-table .ensures) (m .ensures) (m .kept .0) (c .before .before .before .before .before .before .copy-down .ensures) (c .before .before .clear .ensures)
+returns c = let m = c .before .before .before .before .before .before .before .before .before .before .merge-table in λ ds T x. lay-done x (c .before .before .before .before .before .before .before .before .before .before .before .before .before .before .before .copy-table .ensures) (m .ensures) (m .kept .0) (c .before .before .before .before .before .before .copy-part .ensures) (c .before .before .clear .ensures)
 
 pub lay-start-spec : {M : Type 1} → statement M
-lay-start-spec = tie.close (tie.spec copy-table-requires add-width merge-table-requires cast-work slice-write-work mul-copy-down copy-down-requires clear-requires same-length returns)
+lay-start-spec = tie.close (tie.spec copy-table-requires add-width merge-table-requires cast-work slice-write-work mul-copy-part copy-part-requires clear-requires same-length returns)

@@ -21,23 +21,24 @@ cast-work c = omega (arith, slot-few (c .before .before .before .before .before 
 slice-write-work : tie.Need-slice-write-work
 slice-write-work c = let p = c .before .before .before .before .before .before .before .before .before .before .before .pre in omega (arith, p .slot-room, p .room, c .before .before .write-merged .kept .0, c .before .before .before .before .before .before .before .before .partition .kept .0)
 
-mul-copy-down : tie.Need-mul-copy-down
-mul-copy-down c = omega (arith, slot-few (c .before .before .before .before .before .before .before .before .before .before .before .before .before .pre) (c .before .before .before .before .before .before .before .before .before .before .partition .ensures) (c .before .before .before .before .write-merged .ensures))
+mul-copy-part : tie.Need-mul-copy-part
+mul-copy-part c = omega (arith, slot-few (c .before .before .before .before .before .before .before .before .before .before .before .before .before .pre) (c .before .before .before .before .before .before .before .before .before .before .partition .ensures) (c .before .before .before .before .write-merged .ensures))
 
-copy-down-requires : tie.Need-copy-down-requires
-copy-down-requires c κs =
+copy-part-requires : tie.Need-copy-part-requires
+copy-part-requires c κs =
     let p = c .before .before .before .before .before .before .before .before .before .before .before .before .before .pre in
     let few = slot-few p (c .before .before .before .before .before .before .before .before .before .before .partition .ensures) (c .before .before .before .before .write-merged .ensures) in
-    simp length-set (omega (arith, few, p .rows, p .slot-room), omega (arith, few, p .room, c .before .before .before .before .write-merged .kept .0, c .before .before .before .before .before .before .before .before .before .before .partition .kept .0))
+    let long = c .before .before .before .before .write-merged .kept .0 ∙ c .before .before .before .before .before .before .before .before .before .before .partition .kept .0 in
+    simp length-set (omega (arith, few, p .rows, p .slot-room), omega (arith, few, p .room, long), omega (arith, few, p .rows, p .slot-room, p .room, long))
 
 returns-2 : tie.Need-returns-2
-returns-2 c = slot-done (c .before .before .before .before .before .before .before .before .before .before .before .before .before .before .before .before .pre) (c .before .before .before .before .before .before .before .before .before .before .before .before .before .partition .ensures) (c .before .before .before .before .before .before .before .write-merged .ensures) (c .before .before .before .before .before .before .before .write-merged .kept .0 ∙ c .before .before .before .before .before .before .before .before .before .before .before .before .before .partition .kept .0) (c .before .before .copy-down .ensures)
+returns-2 c = slot-done (c .before .before .before .before .before .before .before .before .before .before .before .before .before .before .before .before .pre) (c .before .before .before .before .before .before .before .before .before .before .before .before .before .partition .ensures) (c .before .before .before .before .before .before .before .write-merged .ensures) (c .before .before .before .before .before .before .before .write-merged .kept .0 ∙ c .before .before .before .before .before .before .before .before .before .before .before .before .before .partition .kept .0) (c .before .before .copy-part .ensures)
 
 pub merge-slot-spec : {M : Type 1} → statement M
 merge-slot-spec =
     tie.close
     (tie.spec partition-requires
     (λ c. c .before .before .before .before .partition .kept .0)
-    returns write-merged-requires cast-work slice-write-work mul-copy-down copy-down-requires
-    (λ c. c .before .before .copy-down .kept .0 ∙ simp length-set (c .before .before .before .before .before .before .before .write-merged .kept .0 ∙ c .before .before .before .before .before .before .before .before .before .before .before .before .before .partition .kept .0))
+    returns write-merged-requires cast-work slice-write-work mul-copy-part copy-part-requires
+    (λ c. c .before .before .copy-part .kept .0 ∙ simp length-set (c .before .before .before .before .before .before .before .write-merged .kept .0 ∙ c .before .before .before .before .before .before .before .before .before .before .before .before .before .partition .kept .0))
     returns-2)

@@ -50,7 +50,7 @@ returns-2 c =
     let p = c .before .before .before .before .before .before .before .before .before .before .before .before .before .before .before .before .before .before .before .before .before .before .pre in
     let a = c .before .before .before .before .before .before .before .before .before .before .before .before .before .before .before .before .change-table in
     let b = c .before .before .before .before .before .before .before .before .before .before .before .before .partition in
-    λ s x. stage-done x (p .1) (a .ensures s x) (a .kept .1 .1 .1 .1 .0) (b .ensures) (b .kept .0) (omega (arith, c .before .before .before .before .before .before .before .before .before .if1 .left)) (c .before .before .before .before .before .before .before .write-merged .ensures) (long (c .before .before .before .before .before)) (c .before .before .copy-down .ensures)
+    λ s x. stage-done x (p .1) (a .ensures s x) (a .kept .1 .1 .1 .1 .0) (b .ensures) (b .kept .0) (omega (arith, c .before .before .before .before .before .before .before .before .before .if1 .left)) (c .before .before .before .before .before .before .before .write-merged .ensures) (long (c .before .before .before .before .before)) (c .before .before .copy-part .ensures)
 
 pub stage-spec : {M : Type 1} → statement M
 stage-spec =
@@ -65,6 +65,6 @@ stage-spec =
     (λ c. omega (arith, few c, long c, c .before .before .before .before .before .before .before .before .before .before .before .before .before .before .before .before .before .pre .1 .slot-room))
     (λ c. omega (arith, c .before .before .before .before .before .before .before .before .before .before .before .before .before .before .before .before .before .before .pre .1 .slot-room))
     (λ c. omega (arith, few (c .before .before)))
-    (λ c κs. (omega (arith, few (c .before .before), c .before .before .before .before .before .before .before .before .before .before .before .before .before .before .before .before .before .before .before .pre .1 .slot-room), simp length-set (omega (arith, few (c .before .before), long (c .before .before)))))
-    (λ c. c .before .before .copy-down .kept .0 ∙ simp length-set (long (c .before .before .before .before .before)))
+    (λ c κs. (omega (arith, few (c .before .before), c .before .before .before .before .before .before .before .before .before .before .before .before .before .before .before .before .before .before .before .pre .1 .slot-room), simp length-set (omega (arith, few (c .before .before), long (c .before .before))), simp length-set (omega (arith, few (c .before .before), long (c .before .before), c .before .before .before .before .before .before .before .before .before .before .before .before .before .before .before .before .before .before .before .pre .1 .slot-room))))
+    (λ c. c .before .before .copy-part .kept .0 ∙ simp length-set (long (c .before .before .before .before .before)))
     returns-2)
