@@ -1,4 +1,4 @@
--- `chart::bytes::copy_part` meets its contract. Assumes nothing.
+-- The bytes below k are copied. Assumes nothing.
 use mathlib.Core.Path.{_≡_}
 use Prim.Native.Nat.{_≤_, _-_}
 use lib.ListN.{length, length-set}

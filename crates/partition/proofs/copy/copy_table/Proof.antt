@@ -1,4 +1,4 @@
--- `chart::copy::copy_table` meets its contract. Assumes nothing.
+-- The rows below i are filled, and those that they name have numbers. Assumes nothing.
 use mathlib.Core.Path.{_≡_, _∙_}
 use Prim.Native.Nat.{ℕ, _<_, _≤_, _+_, _-_, _*_}
 use lib.ListN.{length, getD}

@@ -1,4 +1,4 @@
--- `chart::copy::fill_row` meets its contract. Assumes nothing.
+-- The row is copied as it is, then its beliefs are named. Assumes nothing.
 use mathlib.Core.Path.{sym, _∙_, ap}
 use Prim.Native.Nat.{ℕ, _<_, _≤_, _+_, _*_}
 use lib.ListN.{length, getD}

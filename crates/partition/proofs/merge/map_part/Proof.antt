@@ -1,4 +1,4 @@
--- `chart::merge::map_part` meets its contract. Assumes nothing.
+-- The beliefs below d are put by class. Assumes nothing.
 use mathlib.Core.Path.{_≡_, refl, sym}
 use Prim.Native.Nat.{ℕ, _<_, _≤_, _-_, _+_}
 use lib.ListN.{length, length-set}

@@ -1,4 +1,4 @@
--- `chart::merge::put_row` meets its contract. Assumes nothing.
+-- The values as they are, then the beliefs by class. Assumes nothing.
 use mathlib.Core.Path.{_≡_}
 use Prim.Native.Nat.{ℕ, _<_, _≤_, _+_}
 use native.Mathlib.Omega.{arith}

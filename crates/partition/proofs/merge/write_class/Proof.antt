@@ -1,4 +1,4 @@
--- `chart::merge::write_class` meets its contract. Assumes nothing.
+-- A row of a class that has its row already is passed over; the first of a class is put. Assumes nothing.
 use mathlib.Core.Path.{_≡_, refl}
 use Prim.Native.Nat.{ℕ, _<_, _≤_, _+_, _*_}
 use lib.ListN.{length}

@@ -1,4 +1,4 @@
--- `chart::merge::write_merged` meets its contract. Assumes nothing.
+-- Of the rows below i, the first of each class is put. Assumes nothing.
 use mathlib.Core.Path.{_≡_, _∙_}
 use Prim.Native.Nat.{ℕ, _<_, _≤_, _+_, _-_}
 use lib.ListN.{length}

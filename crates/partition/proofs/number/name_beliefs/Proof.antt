@@ -1,4 +1,4 @@
--- `chart::number::name_beliefs` meets its contract. Assumes nothing.
+-- The beliefs below k are named. Assumes nothing.
 use mathlib.Core.Path.{_≡_, sym, _∙_}
 use Prim.Native.Nat.{_<_, _≤_, _-_, _+_}
 use lib.ListN.{length, length-set, getD}

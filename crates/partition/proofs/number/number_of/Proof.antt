@@ -1,4 +1,4 @@
--- `chart::number::number_of` meets its contract. Assumes nothing.
+-- The number that the slot has, or the next. Assumes nothing.
 use mathlib.Core.Path.{_≡_, sym, _∙_}
 use Prim.Native.Nat.{ℕ, suc, _+_, _-_, _<_}
 use lib.Seq.{lt-length-set}
