@@ -1,7 +1,7 @@
 // Rows put from one buffer into another, a number added to each belief and one taken away: so a table is written out as a chart's bytes, where a belief is a row's number plus 1.
 ghost use mathlib.Core.Path.{_≡_};
 ghost use Prim.Native.Nat.{ℕ, _+_, _*_, _<_, _≤_};
-ghost use lib.ListN.{length, getD, set};
+ghost use lib.ListN.{length, set};
 ghost use Rattle.partition.specs.Inner.Numbers.{Sound};
 ghost use Rattle.partition.specs.Inner.Out.{Shifts, PartPut, RowPutIn, RowsPut};
 

@@ -1,16 +1,13 @@
 -- The rows below i are filled, and those that they name have numbers. Assumes nothing.
 use mathlib.Core.Path.{_≡_, _∙_}
-use Prim.Native.Nat.{ℕ, _<_, _≤_, _+_, _-_, _*_}
-use lib.ListN.{length, getD}
+use Prim.Native.Nat.{_-_}
+use lib.ListN.{length}
 use native.Mathlib.Omega.{arith}
 use borrow.Author.Needs.{needs}
-use Rattle.partition.specs.Inner.Numbers.{Numbering, Laid, Sound}
 use Rattle.partition.proofs.Numbering.{numbering-none}
 use Rattle.partition.proofs.Copying.{Copying, copying-start, copying-row, copying-end, laid-same, sound-same}
 use Rattle.partition.proofs.copy.copy_table.Statement.{statement}
 use Rattle.partition.proofs.copy.copy_table.Tie as tie
-use Rattle.partition.proofs.copy.copy_table.Reads as reads
-use Rattle.partition.proofs.copy.copy_table.Lts as lts
 
 abbrev Inv-loop : tie.InvT-loop
 Inv-loop work₀ n w f c s m t root count₀ i₀ work count i = (length work ≡ length work₀) × Copying work₀ work n w f c s m t i count

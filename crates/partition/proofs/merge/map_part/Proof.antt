@@ -1,6 +1,6 @@
 -- The beliefs below d are put by class. Assumes nothing.
 use mathlib.Core.Path.{_≡_, refl, sym}
-use Prim.Native.Nat.{ℕ, _<_, _≤_, _-_, _+_}
+use Prim.Native.Nat.{_<_, _≤_, _-_, _+_}
 use lib.ListN.{length, length-set}
 use native.Mathlib.Omega.{arith}
 use borrow.Author.Needs.{needs}

@@ -1,11 +1,9 @@
 -- The number that the slot has, or the next. Assumes nothing.
-use mathlib.Core.Path.{_≡_, sym, _∙_}
-use Prim.Native.Nat.{ℕ, suc, _+_, _-_, _<_}
+use Prim.Native.Nat.{_-_, _<_}
 use lib.Seq.{lt-length-set}
 use native.Mathlib.Omega.{arith}
 use borrow.Author.Needs.{needs}
-use Rattle.partition.specs.Inner.Numbers.{Numbering}
-use Rattle.partition.proofs.Numbering.{few, room, given-old, given-new}
+use Rattle.partition.proofs.Numbering.{room, given-old, given-new}
 use Rattle.partition.proofs.number.number_of.Statement.{statement}
 use Rattle.partition.proofs.number.number_of.Tie as tie
 
