@@ -20,7 +20,7 @@ use Rattle.partition.specs.Laws.Built.{built, copied}
 use Rattle.partition.specs.Inner.Out.{Shifts, shifted, RowsPut}
 use Rattle.chart.specs.Inner.Look.{NodesRead}
 use Rattle.chart.specs.Inner.Match.{Joinable, Joined}
-use Rattle.partition.proofs.Cells.{cells-length, row-in, rows-node}
+use Rattle.partition.proofs.Cells.{cells-length, row-in, rows-node, rows-most}
 
 -- the bytes of a chart's nodes
 module _ {chart : List ℕ} {n f c : ℕ} {t : List Node} (r : NodesRead chart n f c t) where
@@ -94,7 +94,7 @@ module _ {first second work : List ℕ} {n m f c : ℕ} (p : Joinable first n se
   pub join-room : (1 + n * w ≤ 961) × ((1 + n * w) + m * w ≤ 1921)
   join-room =
       let a = read-slim (p .read) .0 in
-      (omega (arith, mul-le-mul-left n a, mul-le-mul-right 30 (p .read .few)), omega (arith, mul-le-mul-left n a, mul-le-mul-right 30 (p .read .few), mul-le-mul-left m a, mul-le-mul-right 30 (p .read-other .few)))
+      (omega (arith, rows-most (p .read .few) a), omega (arith, rows-most (p .read .few) a, rows-most (p .read-other .few) a))
 
   pub join-inside : (1 + n * w ≤ length first) × (1 + m * w ≤ length second)
   join-inside = (inside (p .read), inside (p .read-other))

@@ -17,7 +17,7 @@ use Rattle.pack.proofs.Tables.{cells-at, value-at}
 use Rattle.chart.specs.Call.{workRoom, cleared}
 use Rattle.partition.specs.Inner.Put.{Cleared}
 use Rattle.chart.specs.Inner.Look.{NodesRead, Lookable, Looked}
-use Rattle.partition.proofs.Cells.{cells-length, row-in}
+use Rattle.partition.proofs.Cells.{cells-length, row-in, rows-most}
 use Rattle.chart.proofs.Charting.{front-back}
 
 -- all bytes of a list
@@ -49,7 +49,7 @@ module _ {chart : List ℕ} {nodes f c : ℕ} {chain : List ℕ} {fluent : ℕ} 
       let r = p .read in
       let s = r .shaped in
       let a : f + c ≤ 30 = omega (arith, s .small .characters, s .small .fluents, s .fluents, s .characters) in
-      omega (arith, mul-le-mul-left nodes a, mul-le-mul-right 30 (r .few))
+      omega (arith, rows-most (r .few) a)
 
   pub look-copies : TableCopyable chart 1 nodes work 0 f c
   look-copies = let r = p .read in record { dimensions = r .dimensions; sized = r .shaped; few = r .few; value = p .table; end = length chart; reads = r .reads; room = omega (arith, table-small, p .room) }

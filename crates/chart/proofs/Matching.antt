@@ -30,7 +30,7 @@ use Rattle.chart.specs.Inner.Pairs.{leftAt, rightAt, Paired, PairsIn, Fi
 use Rattle.chart.specs.Inner.Look.{NodesRead}
 use Rattle.partition.specs.Inner.Put.{Cleared}
 use Rattle.chart.specs.Inner.Match.{Joinable, Joined, Matchable, Said, RowsMatched, ChartsMatched}
-use Rattle.partition.proofs.Cells.{cells-length, row-in, rows-node, rows-same}
+use Rattle.partition.proofs.Cells.{cells-length, row-in, rows-node, rows-same, rows-most}
 use Rattle.partition.proofs.Parting.{sound-closed}
 use Rattle.chart.proofs.Pairing.{pairs-first}
 use Rattle.chart.proofs.Charting.{front-back}
@@ -45,7 +45,7 @@ module _ {work : List ℕ} {n m f c : ℕ} {chain : List ℕ} (p : Matchable wor
   T = rowsAt work w f c 1 (n + m)
 
   pub rows-room : 1 + (n + m) * w ≤ 1921
-  rows-room = let few : n + m ≤ 64 = omega (arith, p .few) in omega (arith, mul-le-mul-left (n + m) (p .slim .0), mul-le-mul-right 30 few)
+  rows-room = let few : n + m ≤ 64 = omega (arith, p .few) in omega (arith, rows-most few (p .slim .0))
 
   pub match-paired : {mid : List ℕ} → length mid ≡ length work → Paired mid (n + m) w f c 1 2048 6144
   match-paired long = record { few = omega (arith, p .few); wide = omega arith; narrow = omega (arith, p .slim); source = omega (arith, rows-room); marks = omega arith; room = omega (arith, p .room) }

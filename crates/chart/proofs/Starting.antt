@@ -28,7 +28,7 @@ use Rattle.partition.specs.Laws.Merged.{classes}
 use Rattle.chart.specs.Laws.Tabled.{tabled-at}
 use Rattle.chart.specs.Laws.Charted.{chart, few-rows}
 use Rattle.chart.specs.Laws.Answers.{written-short, start-table-iff, fits-table, start-fits}
-use Rattle.partition.proofs.Cells.{rows-same}
+use Rattle.partition.proofs.Cells.{rows-same, rows-most}
 use Rattle.partition.proofs.Merging.{ordered-sound, copied-out}
 use Rattle.chart.proofs.Charting.{chart-out}
 use Rattle.chart.proofs.Looking.{cleared-all}
@@ -36,7 +36,7 @@ use Rattle.chart.proofs.Looking.{cleared-all}
 module _ {was : List ℕ} {n w f c : ℕ} (p : Mergeable was n w f c) where
   -- fewer rows are smaller
   small : (k : ℕ) → k ≤ n → k * w ≤ 960
-  small k h = omega (arith, mul-le-mul-left k (p .slim), mul-le-mul-right 30 h, mul-le-mul-right 30 (p .few))
+  small k h = omega (arith, rows-most h (p .slim), mul-le-mul-right 30 (p .few))
 
   pub merge-laid : Laid was n w f c 1 1024 1100
   merge-laid = record { few = omega (arith, p .few); wide = p .wide; source = omega (arith, small n (omega arith)); scratch = omega (arith, p .few); target = omega (arith, small n (omega arith), p .room) }
@@ -83,7 +83,7 @@ module _ {pack : List ℕ} {first nodes f c : ℕ} {chart-was work : List ℕ} (
   narrow = let s = p .shaped in omega (arith, s .small .characters, s .small .fluents, s .fluents)
 
   table-size : 1 + nodes * (f + c) ≤ 961
-  table-size = omega (arith, mul-le-mul-left nodes narrow, mul-le-mul-right 30 (p .fit .1), p .long)
+  table-size = omega (arith, rows-most (p .fit .1) narrow, p .long)
 
   pub start-copies : TableCopyable pack first nodes work 0 f c
   start-copies = record { dimensions = dims c (p .domains); sized = p .shaped; few = omega (arith, p .fit .1, p .long); value = p .table; end = p .end; reads = p .reads; room = omega (arith, table-size, p .work-room) }

@@ -16,7 +16,7 @@ use Rattle.pack.specs.Table.{rowsAt, tableOf, stateOf, Below, Above}
 use Rattle.chart.specs.Call.{workRoom}
 use Rattle.partition.specs.Inner.Put.{Cleared, PartCopied}
 use Rattle.partition.specs.Inner.Level.{Agrees, SameByte}
-use Rattle.partition.proofs.Cells.{rows-same, row-in}
+use Rattle.partition.proofs.Cells.{rows-same, row-in, rows-most}
 use Rattle.explanation.specs.declared.explain.Shape.{Shape}
 use Rattle.explanation.specs.declared.memory.Key.{Key}
 use Rattle.explanation.specs.Inner.Lists.{slotTable}
@@ -160,7 +160,7 @@ module _ (h : Shape) where
   module _ {work : List ℕ} {slot : ℕ} (x : Slotted h work slot) where
     -- a table takes at most 961 bytes
     pub extent-most : 1 + getD work slot 0 * w ≤ 961
-    extent-most = omega (arith, mul-le-mul-left (getD work slot 0) (x .narrow), mul-le-mul-right 30 (x .few))
+    extent-most = omega (arith, rows-most (x .few) (x .narrow))
 
     module _ {a : ℕ} (y : Place h a) where
       pub place-in : (memoryAt ≤ a) × (a + h .entry ≤ workRoom)

@@ -30,6 +30,7 @@ use Rattle.chart.specs.Call.{workRoom}
 use Rattle.partition.specs.Chart.{Starts}
 use Rattle.partition.specs.Laws.Lists.{stands, place}
 use Rattle.partition.specs.Laws.Unique.{some}
+use Rattle.partition.proofs.Cells.{rows-most}
 use Rattle.change.specs.Happening.{nothing, actionOf, Plays, Refuses}
 use Rattle.transition.specs.Laws.Settled.{plays-one, plays-refuses}
 use Rattle.change.specs.Inner.Cause.{Tabled}
@@ -143,7 +144,7 @@ module _ {th : Theory} {T : List Node} {pack places : List ℕ} {h : Shape} {was
       rows-small : getD now slot 0 * (h .fluents + h .characters) ≤ 960
       rows-small =
           let slim : h .fluents + h .characters ≤ 30 = omega (arith, small (x .tabled), x .same-fluents, x .same-characters) in
-          omega (arith, mul-le-mul-left (getD now slot 0) slim, mul-le-mul-right 30 (left .few))
+          omega (arith, rows-most (left .few) slim)
 
       pub next-stage : Stage th nextTable pack places h now (slotTable h now slot) (slot + 961)
       next-stage = record {

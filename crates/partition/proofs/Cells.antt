@@ -3,7 +3,7 @@ use mathlib.Core.Path.{_≡_, refl, _∙_, ap, ap₂}
 use mathlib.Core.List.{List, [], _∷_, _++_}
 use mathlib.Core.Logic.{by-cases}
 use Prim.Native.Nat.{ℕ, zero, suc, _+_, _*_, _-_, _<_, _≤_}
-use native.Mathlib.Nat.{suc-mul, mul-le-mul-right}
+use native.Mathlib.Nat.{suc-mul, mul-le-mul-left, mul-le-mul-right}
 use native.Mathlib.Numerals.{add-one}
 use native.Mathlib.Decide.{decLt}
 use native.Mathlib.Omega.{arith}
@@ -40,6 +40,10 @@ cells-same was now a b k h = upto-same (λ i. getD now (b + i) 0) (λ i. getD wa
 -- a row below n lies within n rows
 pub row-in : (n w i : ℕ) → i < n → i * w + w ≤ n * w
 row-in n w i h = omega (arith, suc-mul i w, mul-le-mul-right w h)
+
+-- at most k rows of at most 30 bytes
+pub rows-most : {n k w : ℕ} → n ≤ k → w ≤ 30 → n * w ≤ k * 30
+rows-most {n} {k} {w} few slim = omega (arith, mul-le-mul-left n slim, mul-le-mul-right 30 few)
 
 module _ (bytes : List ℕ) (w f c a : ℕ) where
   pub rows-node : (n i : ℕ) → i < n → node (rowsAt bytes w f c a n) i ≡ record { values = cells bytes (a + i * w) f; beliefs = cells bytes (a + i * w + f) c }

@@ -27,6 +27,7 @@ use Rattle.chart.specs.Laws.Answers.{fits-table}
 use Rattle.chart.specs.Laws.Replies.{chart-fits}
 use Rattle.chart.specs.Inner.Look.{NodesRead}
 use Rattle.partition.specs.Inner.Put.{Cleared}
+use Rattle.partition.proofs.Cells.{rows-most}
 use Rattle.chart.proofs.Calling.{and-true}
 use Rattle.chart.proofs.Looking.{cleared-all}
 use Rattle.chart.proofs.Checking.{counted, lent, checks, Accepted, FirstRead, first-read, nodes-read, refused-by, accepted-by, left-alone, check-one}
@@ -57,7 +58,7 @@ module _ {th : Theory} {T : List Node} {pack places : List ℕ} {h : Shape} {cha
   table-size =
       let s = x .theorized .small in
       let narrow : f + C ≤ 30 = omega (arith, s .characters, s .fluents, x .same-characters, x .same-fluents) in
-      omega (arith, mul-le-mul-left nodes narrow, mul-le-mul-right 30 (x .read .few))
+      omega (arith, rows-most (x .read .few) narrow)
 
   pub judge-copies : TableCopyable chart 1 nodes work 0 f C
   judge-copies = let r = x .read in record { dimensions = r .dimensions; sized = r .shaped; few = r .few; value = T; end = length chart; reads = r .reads; room = omega (arith, table-size, x .room) }

@@ -17,7 +17,7 @@ use Rattle.chart.specs.Call.{workRoom}
 use Rattle.partition.specs.Chart.{Starts}
 use Rattle.partition.specs.Inner.Put.{Cleared, Apart, PartCopied}
 use Rattle.chart.specs.Inner.Start.{Mergeable, Merged}
-use Rattle.partition.proofs.Cells.{rows-same}
+use Rattle.partition.proofs.Cells.{rows-same, rows-most}
 use Rattle.explanation.specs.declared.explain.Shape.{Shape}
 use Rattle.explanation.specs.Inner.Memory.{memoryAt}
 use Rattle.planner.specs.Inner.Search.{Laying, LaidStart}
@@ -37,7 +37,7 @@ module _ {domains : List ℕ} {T : List Node} {pack : List ℕ} {first nodes : �
   lay-narrow = let s = x .shaped in omega (arith, s .small .characters, s .small .fluents, s .fluents)
 
   table-size : 1 + nodes * w ≤ 961
-  table-size = omega (arith, mul-le-mul-left nodes lay-narrow, mul-le-mul-right 30 (x .few))
+  table-size = omega (arith, rows-most (x .few) lay-narrow)
 
   pub lay-copies : TableCopyable pack first nodes work 0 f C
   lay-copies = record { dimensions = dims C domains; sized = x .shaped; few = x .few; value = T; end = x .end; reads = x .reads; room = omega (arith, table-size, x .room) }

@@ -32,7 +32,7 @@ use Rattle.chart.specs.Laws.Answers.{fits-table}
 use Rattle.partition.specs.Laws.Unique.{some}
 use Rattle.partition.specs.Inner.Put.{Cleared}
 use Rattle.chart.proofs.Calling.{and-true}
-use Rattle.partition.proofs.Cells.{cells-length}
+use Rattle.partition.proofs.Cells.{cells-length, rows-most}
 use Rattle.chart.proofs.Charting.{front-back}
 use Rattle.chart.proofs.Checking.{lent, checks, Accepted, refused-by, accepted-by, left-alone, check-none}
 use Rattle.chart.proofs.Looking.{cleared-all}
@@ -97,7 +97,7 @@ module _ {th : Theory} {T : List Node} {pack places : List ℕ} {h : Shape} {fir
     seekTable = tableOf (slotTable h then 0) then
 
     rows-small : getD then 0 0 * (f + C) ≤ 960
-    rows-small = omega (arith, mul-le-mul-left (getD then 0 0) (lay-narrow seek-laying), mul-le-mul-right 30 (y .few))
+    rows-small = omega (arith, rows-most (y .few) (lay-narrow seek-laying))
 
     pub seek-slot : Stage th seekTable pack places h then (slotTable h then 0) 961
     seek-slot = record {

@@ -23,7 +23,7 @@ use Rattle.partition.specs.Laws.Built.{Rows}
 use Rattle.partition.specs.Laws.Merged.{classes}
 use Rattle.partition.specs.Laws.Counted.{at-most}
 use Rattle.partition.specs.Laws.Unique.{ordered-reached, some}
-use Rattle.partition.proofs.Cells.{cells-same, row-in, rows-node, rows-same}
+use Rattle.partition.proofs.Cells.{cells-same, row-in, rows-node, rows-same, rows-most}
 use Rattle.partition.proofs.Merging.{classed-apart}
 use Rattle.change.specs.declared.change.Change.{Change}
 use Rattle.change.specs.Happening.{change}
@@ -163,7 +163,7 @@ module _ {was : List ℕ} {t : Table} {slot : ℕ} (p : SlotTable was t slot) wh
 
   -- k rows of at most 30 bytes
   sized : (k : ℕ) → k ≤ 32 → k * w ≤ 960
-  sized k l = omega (arith, mul-le-mul-left k (p .slim), mul-le-mul-right 30 l)
+  sized k l = omega (arith, rows-most l (p .slim))
 
   pub slot-levels : Levels was n w f C (t .rows) 36036 36264 36492
   slot-levels = record { few = omega (arith, p .few); wide = p .wide; source = omega (arith, sized n (p .few), p .rows, p .slot-room); new = omega (arith, p .few); old = omega (arith, p .few); leads = omega (arith, p .few, p .room) }
@@ -233,7 +233,7 @@ module _ {s : Scene} {pack places effects was : List ℕ} {h : Change} {t : Tabl
     }
       where
         beyond : (q : ℕ) → slot + 961 ≤ q → getD mid q 0 ≡ getD was q 0
-        beyond q l = g .kept q (λ i k. inr (omega (arith, row-in (t .nodes) (t .width) i k, mul-le-mul-left (t .nodes) slim, mul-le-mul-right 30 (x .tabled .few), y .rows, x .tabled .fits .wide)))
+        beyond q l = g .kept q (λ i k. inr (omega (arith, row-in (t .nodes) (t .width) i k, rows-most (x .tabled .few) slim, y .rows, x .tabled .fits .wide)))
 
     pub round-slot : length mid ≡ length was → SlotTable mid t slot
     round-slot long = record {

@@ -18,6 +18,7 @@ use Rattle.partition.specs.Chart.{Starts}
 use Rattle.partition.specs.States.{AtMost}
 use Rattle.partition.specs.Laws.Counted.{counted}
 use Rattle.partition.specs.Laws.Unique.{ordered-reached, some}
+use Rattle.partition.proofs.Cells.{rows-most}
 use Rattle.change.specs.declared.change.Change.{Change}
 use Rattle.change.specs.Happening.{Quiet, Settles, Stops, firing, fires, round}
 use Rattle.transition.specs.Laws.Quiet.{quiet}
@@ -93,7 +94,7 @@ module _ {p : Theory} {T : List Node} {pack places : List ℕ} {actions triggers
 
   -- where the table lies
   pub slot-small : (nodes : ℕ) → nodes ≤ 32 → slot + 1 + nodes * t .width ≤ 28832
-  slot-small nodes l = let slim : t .width ≤ 30 = omega (arith, x .tabled .fits .wide, small (x .tabled)) in omega (arith, mul-le-mul-left nodes slim, mul-le-mul-right 30 l, x .room .slot-room)
+  slot-small nodes l = let slim : t .width ≤ 30 = omega (arith, x .tabled .fits .wide, small (x .tabled)) in omega (arith, rows-most l slim, x .room .slot-room)
 
   module _ {now : List ℕ} {nodes rounds : ℕ} (g : InRound p s₀ t was now slot nodes rounds) (long : length now ≡ length was) where
     abbrev U : List Node

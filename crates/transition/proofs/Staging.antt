@@ -23,7 +23,7 @@ use Rattle.partition.specs.Inner.Classed.{classAt, Room, Classed, WrittenOut}
 use Rattle.partition.specs.Inner.Level.{Levels, Parted}
 use Rattle.partition.specs.Laws.Merged.{classes, grows}
 use Rattle.partition.specs.Laws.Unique.{ordered-reached, some}
-use Rattle.partition.proofs.Cells.{rows-same}
+use Rattle.partition.proofs.Cells.{rows-same, rows-most}
 use Rattle.partition.proofs.Numbering.{pigeons}
 use Rattle.change.specs.declared.change.Change.{Change}
 use Rattle.change.specs.Happening.{change}
@@ -97,7 +97,7 @@ module _ {s : Scene} {pack places effects was : List ℕ} {h : Change} {t : Tabl
 
   -- k rows of at most 30 bytes
   sized : (k m : ℕ) → k ≤ m → k * w ≤ m * 30
-  sized k m l = let slim : w ≤ 30 = omega (arith, x .tabled .fits .wide, small (x .tabled)) in omega (arith, mul-le-mul-left k slim, mul-le-mul-right 30 l)
+  sized k m l = let slim : w ≤ 30 = omega (arith, x .tabled .fits .wide, small (x .tabled)) in omega (arith, rows-most l slim)
 
   most : t .nodes * 7 + 1 ≤ 225
   most = omega (arith, x .tabled .few)

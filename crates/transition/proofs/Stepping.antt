@@ -26,6 +26,7 @@ use Rattle.chart.specs.Laws.Answers.{fits-table}
 use Rattle.chart.proofs.Charting.{chart-out}
 use Rattle.chart.proofs.Looking.{cleared-all}
 use Rattle.partition.proofs.Merging.{ordered-sound}
+use Rattle.partition.proofs.Cells.{rows-most}
 use Rattle.change.specs.Happening.{Plays, Refuses, Stops}
 use Rattle.transition.specs.Step.{Outcome, leaves, refused, Steps}
 use Rattle.transition.specs.Answers.{stepTable}
@@ -41,7 +42,7 @@ module _ {p : Theory} {T : List Node} {pack places : List ℕ} {actions triggers
   narrow = let s = x .theorized .small in omega (arith, s .characters, s .fluents, x .same-characters, x .same-fluents)
 
   table-size : 1 + nodes * (f + c) ≤ 961
-  table-size = omega (arith, mul-le-mul-left nodes narrow, mul-le-mul-right 30 (x .read .few))
+  table-size = omega (arith, rows-most (x .read .few) narrow)
 
   pub step-copies : TableCopyable chart 1 nodes work 0 f c
   step-copies = let r = x .read in record { dimensions = r .dimensions; sized = r .shaped; few = r .few; value = T; end = length chart; reads = r .reads; room = omega (arith, table-size, x .work-room) }
@@ -92,7 +93,7 @@ module _ {p : Theory} {T : List Node} {pack places : List ℕ} {actions triggers
         left = z .plays e .2
 
         rows-small : n * (f + c) ≤ 960
-        rows-small = omega (arith, mul-le-mul-left n narrow, mul-le-mul-right 30 (left .few))
+        rows-small = omega (arith, rows-most (left .few) narrow)
 
         leaves-is : stepTable p T action ≡ leaves U
         leaves-is =
