@@ -83,7 +83,7 @@ module _ {pack : List ℕ} {first nodes f c : ℕ} {chart-was work : List ℕ} (
   narrow = let s = p .shaped in omega (arith, s .small .characters, s .small .fluents, s .fluents)
 
   table-size : 1 + nodes * (f + c) ≤ 961
-  table-size = omega (arith, rows-most (p .fit .1) narrow, p .long)
+  table-size = let few : nodes ≤ 32 = omega (arith, p .fit .1, p .long) in omega (arith, rows-most few narrow)
 
   pub start-copies : TableCopyable pack first nodes work 0 f c
   start-copies = record { dimensions = dims c (p .domains); sized = p .shaped; few = omega (arith, p .fit .1, p .long); value = p .table; end = p .end; reads = p .reads; room = omega (arith, table-size, p .work-room) }

@@ -33,11 +33,11 @@ pub fn unless_refused(said: Checked, v: usize, n: usize) -> Number
     }
 }
 
-// Whether two lent buffers, of so many bytes, are long enough.
-pub fn both_fit(first: usize, need: usize, second: usize, work: usize) -> bool
-    ensures { λ r. ⌜ r ≡ (leb need first && leb work second) ⌝ }
+// Whether a is at most x and b at most y: two lent buffers are long enough, or a number is within its limits.
+pub fn both_at_most(a: usize, x: usize, b: usize, y: usize) -> bool
+    ensures { λ r. ⌜ r ≡ (leb a x && leb b y) ⌝ }
 {
-    if need <= first { work <= second } else { false }
+    if a <= x { b <= y } else { false }
 }
 
 // 8 where a lent buffer is too short, else 9 where a number handed in is that of nothing there.

@@ -1,7 +1,7 @@
 // Compare: whether two charts mean the same, or the chain to where they differ. In the work buffer stand, from place 1 on, the first chart's rows and behind them the second's,
 // its beliefs counted on from there; then a mark for each pair of rows, and the pairs that were met.
 use crate::Matched;
-use crate::call::both_fit;
+use crate::call::both_at_most;
 use crate::call::check_lent;
 use crate::call::check_under;
 use crate::pairs::meet_first;
@@ -89,7 +89,7 @@ pub fn compare(
         Number::Refused(k, at) => Matched::Refused(k, at),
         Number::Is(n, _) => {
             let nodes = check_chart(second, p.characters, &sizes[..p.fluents]);
-            let enough = both_fit(chain.len(), 62, work.len(), 49152);
+            let enough = both_at_most(62, chain.len(), 49152, work.len());
             match check_lent(nodes, enough, true) {
                 Number::Refused(k, at) => Matched::Refused(k, at),
                 Number::Is(m, _) => {

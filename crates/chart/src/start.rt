@@ -1,7 +1,7 @@
 // Start: the chart of node 0. In the work buffer stand, from place 0 on: a table's count and its rows, the scratch of the pass, the rows it reaches, the scratch of the
 // partition, and the merged rows.
 use crate::Charted;
-use crate::call::both_fit;
+use crate::call::both_at_most;
 use crate::call::check_lent;
 use crate::call::unless_refused;
 use pack::contents::read_contents;
@@ -64,7 +64,7 @@ pub fn start(pack: &[u8], chart: &mut [u8], work: &mut [u8]) -> Charted
     let p = read_contents(pack);
     let answer = p.answer;
     let nodes = unless_refused(answer, p.nodes, 0);
-    let enough = both_fit(chart.len(), 961, work.len(), 49152);
+    let enough = both_at_most(961, chart.len(), 49152, work.len());
     match check_lent(nodes, enough, true) {
         Number::Refused(k, at) => Charted::Refused(k, at),
         Number::Is(_, _) => {

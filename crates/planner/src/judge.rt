@@ -1,5 +1,6 @@
 // Explained: the checks, and the verdict on a chart.
 use crate::Judged;
+use chart::call::both_at_most;
 use chart::call::check_lent;
 use chart::call::check_under;
 use explanation::explain::Foresight;
@@ -16,20 +17,13 @@ use reading::number::Number;
 ghost use mathlib.Core.Path.{_≡_};
 ghost use mathlib.Core.Bool.{_&&_};
 ghost use mathlib.Core.List.{List};
-ghost use lib.Dec.{ltb, leb};
+ghost use lib.Dec.{ltb};
 ghost use Rattle.pack.specs.Syntax.{Node, Theory};
 ghost use Rattle.pack.specs.State.{meaning};
 ghost use Rattle.explanation.specs.Ending.{Explained};
 ghost use Rattle.planner.specs.Replies.{foresightLimit, nestingLimit};
 ghost use Rattle.planner.specs.Promises.{Judgement};
 ghost use Rattle.explanation.specs.Inner.Explain.{Judging, Judgeable, Verdict};
-
-// Whether a number is from low to high.
-pub fn within(x: usize, low: usize, high: usize) -> bool
-    ensures { λ r. ⌜ r ≡ (leb low x && leb x high) ⌝ }
-{
-    if low <= x { x <= high } else { false }
-}
 
 // Whether the numbers handed to Explained are those of something there.
 pub fn in_range(
@@ -44,7 +38,7 @@ pub fn in_range(
 {
     if character < characters {
         if action < actions {
-            if within(foresight, 1, 6) {
+            if both_at_most(1, foresight, foresight, 6) {
                 nesting <= 3
             } else {
                 false

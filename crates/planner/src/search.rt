@@ -1,7 +1,6 @@
 // Search: the list search of the author, shortest lists first, and the public call. A state is row 0 of the table in a slot of the work buffer; the slots behind it are free.
 use crate::Found;
-use crate::judge::within;
-use chart::call::both_fit;
+use chart::call::both_at_most;
 use chart::call::check_lent;
 use chart::call::unless_refused;
 use chart::start::merge_table;
@@ -263,8 +262,8 @@ pub fn shortest(
 pub fn limits(story: usize, foresight: usize, nesting: usize) -> bool
     ensures { λ r. ⌜ r ≡ (storyLimit story && (foresightLimit foresight && nestingLimit nesting)) ⌝ }
 {
-    if within(story, 1, 8) {
-        if within(foresight, 1, 6) {
+    if both_at_most(1, story, story, 8) {
+        if both_at_most(1, foresight, foresight, 6) {
             nesting <= 3
         } else {
             false
@@ -335,7 +334,7 @@ pub fn search(
     let p = read_pack(pack, &mut places);
     let answer = p.answer;
     let nodes = unless_refused(answer, p.nodes, 0);
-    let enough = both_fit(list.len(), 8, work.len(), 49152);
+    let enough = both_at_most(8, list.len(), 49152, work.len());
     let there = limits(story, foresight, nesting);
     match check_lent(nodes, enough, there) {
         Number::Refused(k, at) => Found::Refused(k, at),

@@ -2,7 +2,7 @@
 use crate::act::act;
 use crate::settle::settle;
 use chart::Charted;
-use chart::call::both_fit;
+use chart::call::both_at_most;
 use chart::call::check_lent;
 use chart::call::check_under;
 use pack::contents::read_pack;
@@ -104,7 +104,7 @@ pub fn step(pack: &[u8], chart: &[u8], action: usize, out: &mut [u8], work: &mut
     let sizes = p.sizes;
     let answer = p.answer;
     let nodes = check_under(answer, p.characters, &sizes[..p.fluents], chart);
-    let enough = both_fit(out.len(), 961, work.len(), 49152);
+    let enough = both_at_most(961, out.len(), 49152, work.len());
     match check_lent(nodes, enough, action < p.actions) {
         Number::Refused(k, at) => Charted::Refused(k, at),
         Number::Is(n, _) => play(

@@ -24,7 +24,7 @@ match-charts-requires c κs =
     let a = c .before .before .before .before .before .before .before .before .before .before .before .before .before .before .before .before .before .before .before .before .before .args in
     let one = c .before .before .before .before .before .before .before .before .before .before .before .before .check-under in
     compare-ready (a .first .now) (a .second .now) (a .chain .now) (a .work .now) (c .before .before .before .before .before .before .before .before .before .before .before .before .before .before .before .read-contents .ensures .read) (one .result) (one .ensures) _ _ (c .before .before .before .before .before .before .before .before .before .before .n .given .1)
-    (c .before .before .before .before .before .before .before .check-chart .result) (c .before .before .before .before .before .before .before .check-chart .ensures) (c .before .before .before .before .before .before .both-fit .result) (c .before .before .before .before .before .before .both-fit .ensures) (c .before .before .before .before .before .check-lent .result) (c .before .before .before .before .before .check-lent .ensures) _ _ (c .before .before .before .m .given .1)
+    (c .before .before .before .before .before .before .before .check-chart .result) (c .before .before .before .before .before .before .before .check-chart .ensures) (c .before .before .before .before .before .before .both-at-most .result) (c .before .before .before .before .before .before .both-at-most .ensures) (c .before .before .before .before .before .check-lent .result) (c .before .before .before .before .before .check-lent .ensures) _ _ (c .before .before .before .m .given .1)
 
 returns : tie.Need-returns
 returns c =
@@ -37,14 +37,14 @@ returns-2 c =
     let a = c .before .before .before .before .before .before .before .before .before .before .before .before .before .before .before .before .before .before .before .args in
     let one = c .before .before .before .before .before .before .before .before .before .before .check-under in
     compare-refused (a .first .now) (a .second .now) (a .chain .now) (a .work .now) (c .before .before .before .before .before .before .before .before .before .before .before .before .before .read-contents .ensures .read) (one .result) (one .ensures) _ _ (c .before .before .before .before .before .before .before .before .n .given .1)
-    (c .before .before .before .before .before .check-chart .result) (c .before .before .before .before .before .check-chart .ensures) (c .before .before .before .before .both-fit .result) (c .before .before .before .before .both-fit .ensures) (c .before .before .before .check-lent .result) (c .before .before .before .check-lent .ensures) _ _ (c .before .k2 .given .1)
+    (c .before .before .before .before .before .check-chart .result) (c .before .before .before .before .before .check-chart .ensures) (c .before .before .before .before .both-at-most .result) (c .before .before .before .before .both-at-most .ensures) (c .before .before .before .check-lent .result) (c .before .before .before .check-lent .ensures) _ _ (c .before .k2 .given .1)
 
 returns-3 : tie.Need-returns-3
 returns-3 c =
     let a = c .before .before .before .before .before .before .before .before .before .before .before .before .before .before .before .before .before .before .before .before .before .before .before .before .before .before .args in
     let one = c .before .before .before .before .before .before .before .before .before .before .before .before .before .before .before .before .before .check-under in
     compare-done (a .first .now) (a .second .now) (a .chain .now) (a .work .now) (c .before .before .before .before .before .before .before .before .before .before .before .before .before .before .before .before .before .before .before .before .read-contents .ensures .read) (one .result) (one .ensures) _ _ (c .before .before .before .before .before .before .before .before .before .before .before .before .before .before .before .n .given .1)
-    (c .before .before .before .before .before .before .before .before .before .before .before .before .check-chart .result) (c .before .before .before .before .before .before .before .before .before .before .before .before .check-chart .ensures) (c .before .before .before .before .before .before .before .before .before .before .before .both-fit .result) (c .before .before .before .before .before .before .before .before .before .before .before .both-fit .ensures) (c .before .before .before .before .before .before .before .before .before .before .check-lent .result) (c .before .before .before .before .before .before .before .before .before .before .check-lent .ensures) _ _ (c .before .before .before .before .before .before .before .before .m .given .1) _ _ _ (c .before .before .before .before .match-charts .ensures)
+    (c .before .before .before .before .before .before .before .before .before .before .before .before .check-chart .result) (c .before .before .before .before .before .before .before .before .before .before .before .before .check-chart .ensures) (c .before .before .before .before .before .before .before .before .before .before .before .both-at-most .result) (c .before .before .before .before .before .before .before .before .before .before .before .both-at-most .ensures) (c .before .before .before .before .before .before .before .before .before .before .check-lent .result) (c .before .before .before .before .before .before .before .before .before .before .check-lent .ensures) _ _ (c .before .before .before .before .before .before .before .before .m .given .1) _ _ _ (c .before .before .before .before .match-charts .ensures)
 
 pub compare-spec : {M : Type 1} → statement M
 compare-spec = tie.close (tie.spec (λ c κs. search needs) array-share-prefix-sizes slice-aggregate-check-under (λ c κs. search needs) (λ c. search needs) (λ c. search needs) array-share-prefix-sizes-2 slice-aggregate-check-chart (λ c κs. search needs) (λ c κs. search needs) (λ c κs. search needs) (λ c. search needs) (λ c. search needs) match-charts-requires returns returns-2 (λ c. search needs) (λ c. search needs) returns-3)

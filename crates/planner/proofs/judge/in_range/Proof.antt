@@ -7,10 +7,10 @@ use Rattle.planner.proofs.judge.in_range.Statement.{statement}
 use Rattle.planner.proofs.judge.in_range.Tie as tie
 
 returns : tie.Need-returns
-returns c = both-there _ (c .before .within .ensures) (c .if3 .taken) ∙ both-there _ refl (lt-ltb _ _ (c .before .before .if2 .taken)) ∙ both-there _ refl (lt-ltb _ _ (c .before .before .before .if1 .taken))
+returns c = both-there _ (c .before .both-at-most .ensures) (c .if3 .taken) ∙ both-there _ refl (lt-ltb _ _ (c .before .before .if2 .taken)) ∙ both-there _ refl (lt-ltb _ _ (c .before .before .before .if1 .taken))
 
 returns-2 : tie.Need-returns-2
-returns-2 c = not-there _ (c .before .within .ensures) (c .if3 .left) ∙ both-there _ refl (lt-ltb _ _ (c .before .before .if2 .taken)) ∙ both-there _ refl (lt-ltb _ _ (c .before .before .before .if1 .taken))
+returns-2 c = not-there _ (c .before .both-at-most .ensures) (c .if3 .left) ∙ both-there _ refl (lt-ltb _ _ (c .before .before .if2 .taken)) ∙ both-there _ refl (lt-ltb _ _ (c .before .before .before .if1 .taken))
 
 returns-3 : tie.Need-returns-3
 returns-3 c = not-there _ refl (le-ltb _ _ (c .if2 .left)) ∙ both-there _ refl (lt-ltb _ _ (c .before .if1 .taken))

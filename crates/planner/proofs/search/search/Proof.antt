@@ -9,7 +9,7 @@ search-nodes-requires : tie.Need-search-nodes-requires
 search-nodes-requires c κs =
     let a = c .before .before .before .before .before .before .before .before .before .before .before .before .before .before .before .before .args in
     let u = c .before .before .before .before .before .before .before .before .before .unless-refused in
-    let b = c .before .before .before .before .before .before .before .before .both-fit in
+    let b = c .before .before .before .before .before .before .before .before .both-at-most in
     let i = c .before .before .before .before .before .before .before .limits in
     let l = c .before .before .before .before .before .before .check-lent in
     search-able (a .story) (a .foresight) (a .nesting) (a .list .now) (a .work .now) (c .before .before .before .before .before .before .before .before .before .before .before .read-pack .ensures) (u .result) (u .ensures) (b .result) (b .ensures) (i .result) (i .ensures) (l .result) (l .ensures)
@@ -22,7 +22,7 @@ returns : tie.Need-returns
 returns c =
     let a = c .before .before .before .before .before .before .before .before .before .before .before .before .before .args in
     let u = c .before .before .before .before .before .before .unless-refused in
-    let b = c .before .before .before .before .before .both-fit in
+    let b = c .before .before .before .before .before .both-at-most in
     let i = c .before .before .before .before .limits in
     let l = c .before .before .before .check-lent in
     search-refused (a .story) (a .foresight) (a .nesting) (a .list .now) (a .work .now) (c .before .before .before .before .before .before .before .before .read-pack .ensures) (u .result) (u .ensures) (b .result) (b .ensures) (i .result) (i .ensures) (l .result) (l .ensures) _ _ (c .before .k .given .1)
@@ -31,7 +31,7 @@ returns-2 : tie.Need-returns-2
 returns-2 c =
     let a = c .before .before .before .before .before .before .before .before .before .before .before .before .before .before .before .before .before .before .before .before .before .args in
     let u = c .before .before .before .before .before .before .before .before .before .before .before .before .before .before .unless-refused in
-    let b = c .before .before .before .before .before .before .before .before .before .before .before .before .before .both-fit in
+    let b = c .before .before .before .before .before .before .before .before .before .before .before .before .before .both-at-most in
     let i = c .before .before .before .before .before .before .before .before .before .before .before .before .limits in
     let l = c .before .before .before .before .before .before .before .before .before .before .before .check-lent in
     search-done (a .story) (a .foresight) (a .nesting) (a .list .now) (a .work .now) (c .before .before .before .before .before .before .before .before .before .before .before .before .before .before .before .before .read-pack .ensures) (u .result) (u .ensures) (b .result) (b .ensures) (i .result) (i .ensures) (l .result) (l .ensures)

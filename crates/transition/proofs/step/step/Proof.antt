@@ -18,7 +18,7 @@ play-requires c κs =
     let a = c .before .before .before .before .before .before .before .before .before .before .before .before .before .before .before .before .before .before .before .args in
     let u = c .before .before .before .before .before .before .before .before .before .check-under in
     let l = c .before .before .before .before .before .before .check-lent in
-    step-able (a .chart .now) (a .action) (a .out .now) (a .work .now) (c .before .before .before .before .before .before .before .before .before .before .before .before .before .read-pack .ensures) (u .result) (u .ensures) (c .before .before .before .before .before .before .before .before .both-fit .result) (c .before .before .before .before .before .before .before .before .both-fit .ensures) _ refl (l .result) (l .ensures)
+    step-able (a .chart .now) (a .action) (a .out .now) (a .work .now) (c .before .before .before .before .before .before .before .before .before .before .before .before .before .read-pack .ensures) (u .result) (u .ensures) (c .before .before .before .before .before .before .before .before .both-at-most .result) (c .before .before .before .before .before .before .before .before .both-at-most .ensures) _ refl (l .result) (l .ensures)
     (λ i. omega (arith, c .before .before .before .before .before .before .before .before .before .before .before .before .before .before .before .before .before .before .shared-slice-known .given i)) (λ i. omega (arith, c .before .before .before .before .before .before .before .before .before .before .before .before .before .before .before .before .before .shared-slice-known2 .given i)) (omega (arith, c .before .before .before .before .before .before .before .before .before .before .before .before .before .read-pack .kept)) _ _ (c .before .before .before .before .n .given .1)
 
 returns : tie.Need-returns
@@ -26,14 +26,14 @@ returns c =
     let a = c .before .before .before .before .before .before .before .before .before .before .before .before .before .before .before .before .args in
     let u = c .before .before .before .before .before .before .check-under in
     let l = c .before .before .before .check-lent in
-    step-no (a .chart .now) (a .action) (a .out .now) (a .work .now) (c .before .before .before .before .before .before .before .before .before .before .read-pack .ensures) (u .result) (u .ensures) (c .before .before .before .before .before .both-fit .result) (c .before .before .before .before .before .both-fit .ensures) _ refl (l .result) (l .ensures) _ _ (c .before .k .given .1)
+    step-no (a .chart .now) (a .action) (a .out .now) (a .work .now) (c .before .before .before .before .before .before .before .before .before .before .read-pack .ensures) (u .result) (u .ensures) (c .before .before .before .before .before .both-at-most .result) (c .before .before .before .before .before .both-at-most .ensures) _ refl (l .result) (l .ensures) _ _ (c .before .k .given .1)
 
 returns-2 : tie.Need-returns-2
 returns-2 c =
     let a = c .before .before .before .before .before .before .before .before .before .before .before .before .before .before .before .before .before .before .before .before .before .before .before .before .args in
     let u = c .before .before .before .before .before .before .before .before .before .before .before .before .before .before .check-under in
     let l = c .before .before .before .before .before .before .before .before .before .before .before .check-lent in
-    step-done (a .chart .now) (a .action) (a .out .now) (a .work .now) (c .before .before .before .before .before .before .before .before .before .before .before .before .before .before .before .before .before .before .read-pack .ensures) (u .result) (u .ensures) (c .before .before .before .before .before .before .before .before .before .before .before .before .before .both-fit .result) (c .before .before .before .before .before .before .before .before .before .before .before .before .before .both-fit .ensures) _ refl (l .result) (l .ensures)
+    step-done (a .chart .now) (a .action) (a .out .now) (a .work .now) (c .before .before .before .before .before .before .before .before .before .before .before .before .before .before .before .before .before .before .read-pack .ensures) (u .result) (u .ensures) (c .before .before .before .before .before .before .before .before .before .before .before .before .before .both-at-most .result) (c .before .before .before .before .before .before .before .before .before .before .before .before .before .both-at-most .ensures) _ refl (l .result) (l .ensures)
     (λ i. omega (arith, c .before .before .before .before .before .before .before .before .before .before .before .before .before .before .before .before .before .before .before .before .before .before .before .shared-slice-known .given i)) (λ i. omega (arith, c .before .before .before .before .before .before .before .before .before .before .before .before .before .before .before .before .before .before .before .before .before .before .shared-slice-known2 .given i)) (omega (arith, c .before .before .before .before .before .before .before .before .before .before .before .before .before .before .before .before .before .before .read-pack .kept)) _ _ (c .before .before .before .before .before .before .before .before .before .n .given .1) _ _ _ (c .before .before .before .before .play .ensures)
 
 pub step-spec : {M : Type 1} → statement M

@@ -1,9 +1,0 @@
--- Both tests, one after the other. Assumes nothing.
-use mathlib.Core.Path.{refl}
-use borrow.Author.Tests.{le-leb, lt-leb}
-use Rattle.chart.proofs.Calling.{both-there, not-there}
-use Rattle.chart.proofs.call.both_fit.Statement.{statement}
-use Rattle.chart.proofs.call.both_fit.Tie as tie
-
-pub both-fit-spec : {M : Type 1} → statement M
-both-fit-spec = tie.close (tie.spec (λ c. both-there _ refl (le-leb _ _ (c .if1 .taken))) (λ c. not-there _ refl (lt-leb _ _ (c .if1 .left))))
