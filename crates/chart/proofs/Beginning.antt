@@ -3,6 +3,7 @@ use Prim.Native.Nat.{ℕ}
 use mathlib.Core.Path.{_≡_, refl, sym, ap, _∙_, subst}
 use mathlib.Core.Bool.{Bool, true, _&&_}
 use mathlib.Core.List.{List, []}
+use native.Mathlib.Omega.{arith}
 use lib.ListN.{length}
 use borrow.Author.Tests.{leb-true}
 use Rattle.pack.specs.Syntax.{Node, Pack}
@@ -61,15 +62,19 @@ module _ {pack places : List ℕ} (chart work : List ℕ) {p : Contents} (got : 
         let y = accepted-now .2 .0 in
         let x = y .thePack in
         let f = y .found in
+        let fit = pack-exactly pack bytes x .0 (y .accepted) .0 .nodes in
         let (chart-room, work-room) = and-true (fits chartRoom chart) (fits workRoom work) (y .enough-there) in
         record {
-          domains = x .theory .domains;
           table = x .nodes;
           end = f .rows .end;
-          shaped = record { small = subst (λ (c : ℕ). Small (dims c (x .theory .domains))) (f .characters) (small-pack pack x (y .accepted)); fluents = f .fluents; characters = refl };
-          reads = subst (λ (c : ℕ). many (nodeAt (dims c (x .theory .domains)) (p .nodes)) (p .nodes) pack (p .first) ≡ done (x .nodes) (f .rows .end)) (f .characters) (f .rows .reads);
-          long = f .nodes;
-          fit = subst (λ (c : ℕ). ChartFits c (x .theory .domains) (x .nodes)) (f .characters) (pack-exactly pack bytes x .0 (y .accepted) .0 .nodes);
+          read = record {
+            dimensions = dims (p .characters) (x .theory .domains);
+            shaped = record { small = subst (λ (c : ℕ). Small (dims c (x .theory .domains))) (f .characters) (small-pack pack x (y .accepted)); fluents = f .fluents; characters = refl };
+            some = omega (arith, fit .0, f .nodes);
+            few = omega (arith, fit .1, f .nodes);
+            reads = subst (λ (c : ℕ). many (nodeAt (dims c (x .theory .domains)) (p .nodes)) (p .nodes) pack (p .first) ≡ done (x .nodes) (f .rows .end)) (f .characters) (f .rows .reads);
+          };
+          fit = subst (λ (c : ℕ). ChartFits c (x .theory .domains) (x .nodes)) (f .characters) fit;
           chart-room = leb-true chartRoom (length chart) chart-room;
           work-room = leb-true workRoom (length work) work-room;
         }

@@ -20,7 +20,8 @@ use Rattle.partition.specs.Laws.Built.{built, copied}
 use Rattle.partition.specs.Inner.Out.{Shifts, shifted, RowsPut}
 use Rattle.chart.specs.Inner.Look.{NodesRead}
 use Rattle.chart.specs.Inner.Match.{Joinable, Joined}
-use Rattle.partition.proofs.Cells.{cells-length, row-in, rows-node, rows-most}
+use Rattle.partition.proofs.Cells.{cells-length, row-in, rows-node}
+use Rattle.chart.proofs.Loading.{read-small}
 
 -- the bytes of a chart's nodes
 module _ {chart : List ℕ} {n f c : ℕ} {t : List Node} (r : NodesRead chart n f c t) where
@@ -29,9 +30,6 @@ module _ {chart : List ℕ} {n f c : ℕ} {t : List Node} (r : NodesRead chart n
 
   pub read-closed : Closed c t
   read-closed = subst (λ (k : ℕ). Closed k t) (r .shaped .characters) (nodes-closed (r .dimensions) n chart 1 t (length chart) (r .reads))
-
-  pub read-slim : (f + c ≤ 30) × (c ≤ 6)
-  read-slim = let s = r .shaped in (omega (arith, s .small .characters, s .small .fluents, s .fluents, s .characters), omega (arith, s .small .characters, s .characters))
 
   read-node : (j : ℕ) → j < n → (m : ℕ) × NodeBytes chart (1 + j * (f + c)) f c (node t j) m
   read-node j h = let g = rows-stand (r .dimensions) f c (r .shaped) n (r .few) chart n j 1 t (length chart) nowhere (r .reads) h in (g .end, node-bytes (r .dimensions) f c (r .shaped) n (r .few) chart (1 + j * (f + c)) (node t j) (g .end) (g .reads))
@@ -92,9 +90,7 @@ module _ {first second work : List ℕ} {n m f c : ℕ} (p : Joinable first n se
   w = f + c
 
   pub join-room : (1 + n * w ≤ 961) × ((1 + n * w) + m * w ≤ 1921)
-  join-room =
-      let a = read-slim (p .read) .0 in
-      (omega (arith, rows-most (p .read .few) a), omega (arith, rows-most (p .read .few) a, rows-most (p .read-other .few) a))
+  join-room = (read-small (p .read), omega (arith, read-small (p .read), read-small (p .read-other)))
 
   pub join-inside : (1 + n * w ≤ length first) × (1 + m * w ≤ length second)
   join-inside = (inside (p .read), inside (p .read-other))

@@ -2,6 +2,7 @@
 pub mod Charting
 pub mod Calling
 pub mod Checking
+pub mod Loading
 pub mod Looking
 pub mod Joining
 pub mod Asking

@@ -19,6 +19,7 @@ use Rattle.partition.specs.Inner.Put.{Cleared}
 use Rattle.chart.specs.Inner.Look.{NodesRead, Lookable, Looked}
 use Rattle.partition.proofs.Cells.{cells-length, row-in, rows-most}
 use Rattle.chart.proofs.Charting.{front-back}
+use Rattle.chart.proofs.Loading.{read-small, read-same, read-fits}
 
 -- all bytes of a list
 bytes-length : (s : List ℕ) (at k : ℕ) → length (bytesAt s at k) ≡ k
@@ -43,30 +44,19 @@ cleared-all was {mid} {now} c above long room =
     (λ i h. let g : i < workRoom = omega (arith, cells-length now 0 workRoom) in cells-at now 0 workRoom i g ∙ c .clear i g ∙ sym (getD-replicate {A = ℕ} workRoom i 0 0 g)))
 
 module _ {chart : List ℕ} {nodes f c : ℕ} {chain : List ℕ} {fluent : ℕ} {work : List ℕ} (p : Lookable chart nodes f c chain fluent work) where
-  -- a table is far smaller than the work buffer
-  pub table-small : 1 + nodes * (f + c) ≤ 961
-  table-small =
-      let r = p .read in
-      let s = r .shaped in
-      let a : f + c ≤ 30 = omega (arith, s .small .characters, s .small .fluents, s .fluents, s .characters) in
-      omega (arith, rows-most (r .few) a)
-
-  pub look-copies : TableCopyable chart 1 nodes work 0 f c
-  look-copies = let r = p .read in record { dimensions = r .dimensions; sized = r .shaped; few = r .few; value = p .table; end = length chart; reads = r .reads; room = omega (arith, table-small, p .room) }
-
   abbrev pub lookTable : Table
   lookTable = record { rows = 1; nodes = nodes; fluents = f; characters = c; width = f + c }
 
   module _ {mid : List ℕ} (x : TableCopied chart 1 nodes work mid 0 f c) where
     pub look-table : TableFits lookTable mid
-    look-table = let r = p .read in copied-fits chart 1 nodes work mid 0 f c x (r .dimensions) (r .shaped) (p .table) (length chart) (r .reads) (omega (arith, table-small, p .room))
+    look-table = read-fits (p .read) (p .room) x
 
     pub look-follows : TableFits lookTable mid × (0 < nodes) × (0 + length chain ≤ length chain) × Valid c (bytesAt chain 0 (length chain))
     look-follows = (look-table, p .read .some, omega arith, subst (Valid c) (sym (bytes-whole chain)) (p .valid))
 
     module _ {there : ℕ} (at : there ≡ walk (tableOf lookTable mid) 0 (bytesAt chain 0 (length chain))) (in-table : there < nodes) where
       pub look-in : (1 + there * (f + c)) + fluent < 961
-      look-in = omega (arith, table-small, row-in nodes (f + c) there in-table, p .there)
+      look-in = omega (arith, read-small (p .read), row-in nodes (f + c) there in-table, p .there)
 
       look-value : (t : List Node) → NodesRead chart nodes f c t → getD mid ((1 + there * (f + c)) + fluent) 0 ≡ getD (meaning c t 0 chain) fluent 0
       look-value t r =
@@ -76,7 +66,7 @@ module _ {chart : List ℕ} {nodes f c : ℕ} {chain : List ℕ} {fluent : ℕ} 
           ∙ ap (λ (l : List ℕ). getD l fluent 0) (sym (finds-walk c t chain 0 (p .valid)))
         where
           same : tableOf lookTable mid ≡ t
-          same = x .table (r .dimensions) (r .shaped) t (length chart) (r .reads)
+          same = read-same r x
 
       pub looked : {now : List ℕ} {v : ℕ} → v ≡ getD mid ((1 + there * (f + c)) + fluent) 0 → Cleared mid now 0 workRoom → length now ≡ length work → Looked chart nodes f c chain fluent work now v
-      looked e z long = record { value = λ t r. e ∙ look-value t r; work = cleared-all work z (λ q h. x .above q (omega (arith, table-small))) long (p .room) }
+      looked e z long = record { value = λ t r. e ∙ look-value t r; work = cleared-all work z (λ q h. x .above q (omega (arith, read-small (p .read)))) long (p .room) }

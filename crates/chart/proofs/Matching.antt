@@ -35,7 +35,8 @@ use Rattle.partition.proofs.Parting.{sound-closed}
 use Rattle.chart.proofs.Pairing.{pairs-first}
 use Rattle.chart.proofs.Charting.{front-back}
 use Rattle.chart.proofs.Looking.{cleared-all}
-use Rattle.chart.proofs.Joining.{read-long, read-closed, read-slim, read-values}
+use Rattle.chart.proofs.Loading.{read-slim}
+use Rattle.chart.proofs.Joining.{read-long, read-closed, read-values}
 
 module _ {work : List ℕ} {n m f c : ℕ} {chain : List ℕ} (p : Matchable work n m f c chain) where
   abbrev w : ℕ

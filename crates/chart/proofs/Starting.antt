@@ -31,6 +31,7 @@ use Rattle.chart.specs.Laws.Answers.{written-short, start-table-iff, fit
 use Rattle.partition.proofs.Cells.{rows-same, rows-most}
 use Rattle.partition.proofs.Merging.{ordered-sound, copied-out}
 use Rattle.chart.proofs.Charting.{chart-out}
+use Rattle.chart.proofs.Loading.{read-small, read-same}
 use Rattle.chart.proofs.Looking.{cleared-all}
 
 module _ {was : List ℕ} {n w f c : ℕ} (p : Mergeable was n w f c) where
@@ -79,49 +80,27 @@ module _ {was : List ℕ} {n w f c : ℕ} (p : Mergeable was n w f c) where
 
 -- The chart of a pack's nodes
 module _ {pack : List ℕ} {first nodes f c : ℕ} {chart-was work : List ℕ} (p : Startable pack first nodes f c chart-was work) where
-  narrow : f + c ≤ 30
-  narrow = let s = p .shaped in omega (arith, s .small .characters, s .small .fluents, s .fluents)
-
-  table-size : 1 + nodes * (f + c) ≤ 961
-  table-size = let few : nodes ≤ 32 = omega (arith, p .fit .1, p .long) in omega (arith, rows-most few narrow)
-
-  pub start-copies : TableCopyable pack first nodes work 0 f c
-  start-copies = record { dimensions = dims c (p .domains); sized = p .shaped; few = omega (arith, p .fit .1, p .long); value = p .table; end = p .end; reads = p .reads; room = omega (arith, table-size, p .work-room) }
+  abbrev domains : List ℕ
+  domains = p .read .dimensions .domains
 
   module _ {mid : List ℕ} (x : TableCopied pack first nodes work mid 0 f c) where
-    same-nodes : rowsAt mid (f + c) f c 1 nodes ≡ p .table
-    same-nodes = x .table (dims c (p .domains)) (p .shaped) (p .table) (p .end) (p .reads)
-
-    pub start-merges : Mergeable mid nodes (f + c) f c
-    start-merges = record {
-      some = omega (arith, p .fit .0, p .long);
-      few = omega (arith, p .fit .1, p .long);
-      wide = omega arith;
-      slim = narrow;
-      sound = record {
-        beliefs = λ i k h l. belief-in-table (copied pack first nodes work mid 0 f c x (dims c (p .domains)) (p .shaped) (p .table) (p .end) (p .reads)) mid
-            (copied-fits pack first nodes work mid 0 f c x (dims c (p .domains)) (p .shaped) (p .table) (p .end) (p .reads) (omega (arith, table-size, p .work-room))) i k h l;
-      };
-      room = omega (arith, p .work-room, x .long);
-    }
-
     module _ {mid′ : List ℕ} {r : ℕ} (y : Merged mid mid′ nodes (f + c) f c r) (long′ : length mid′ ≡ length mid) where
       chart-is : startTable c (p .table) ≡ rowsAt mid′ (f + c) f c 2400 r
-      chart-is = start-table-iff c (p .table) (fits-table c (p .domains) (p .table) (p .fit)) (rowsAt mid′ (f + c) f c 2400 r) .0 (y .starts .0, y .starts .1 ∙ ap (λ (t : List Node). meaning c t 0) same-nodes)
+      chart-is = start-table-iff c (p .table) (fits-table c domains (p .table) (p .fit)) (rowsAt mid′ (f + c) f c 2400 r) .0 (y .starts .0, y .starts .1 ∙ ap (λ (t : List Node). meaning c t 0) (read-same (p .read) x))
 
       merged-size : r * (f + c) ≤ 960
-      merged-size = omega (arith, mul-le-mul-right (f + c) (y .few), table-size)
+      merged-size = omega (arith, mul-le-mul-right (f + c) (y .few), read-small (p .read))
 
       pub start-writes : ((r < 256) × (f + c ≤ f + c) × (f + c ≤ f + c) × (2400 + r * (f + c) ≤ length mid′) × (1 + r * (f + c) ≤ length chart-was)) × Sound mid′ r (f + c) f c 2400
-      start-writes = ((omega (arith, y .few, p .fit .1, p .long), omega arith, omega arith, omega (arith, merged-size, p .work-room, x .long), omega (arith, merged-size, p .chart-room)), ordered-sound (y .starts .0 .ordered))
+      start-writes = ((omega (arith, y .few, p .read .few), omega arith, omega arith, omega (arith, merged-size, p .work-room, x .long), omega (arith, merged-size, p .chart-room)), ordered-sound (y .starts .0 .ordered))
 
       pub start-put : {chart-now work-now : List ℕ} {n : ℕ} → (n ≡ 1 + r * (f + c)) × RowsPut mid′ (set chart-was 0 r) chart-now (f + c) f c 2400 1 1 0 r → length chart-now ≡ length chart-was
           → Cleared mid′ work-now 0 workRoom → length work-now ≡ length work → StartPut c (p .table) chart-was chart-now work work-now n
       start-put {chart-now} {work-now} {n} (e, z) long″ clear longer =
-          let fit : ChartFits c (p .domains) (rowsAt mid′ (f + c) f c 2400 r) = subst (ChartFits c (p .domains)) chart-is (start-fits c (p .domains) (p .table) (p .fit)) in
-          let (out, size) = chart-out chart-was (p .domains) refl (p .shaped .fluents) (p .shaped .small .sizes) z (omega (arith, p .chart-room)) fit (omega (arith, merged-size, p .chart-room)) long″ in
+          let fit : ChartFits c domains (rowsAt mid′ (f + c) f c 2400 r) = subst (ChartFits c domains) chart-is (start-fits c domains (p .table) (p .fit)) in
+          let (out, size) = chart-out chart-was domains refl (p .read .shaped .fluents) (p .read .shaped .small .sizes) z (omega (arith, p .chart-room)) fit (omega (arith, merged-size, p .chart-room)) long″ in
           record {
             answer = e ∙ sym size ∙ ap (λ (t : List Node). length (chartBytes t)) (sym chart-is);
             result = out ∙ ap (λ (t : List Node). chartBytes t ++ drop (length (chartBytes t)) chart-was) (sym chart-is);
-            scratch = cleared-all work clear (λ q h. y .high q (omega arith) ∙ x .above q (omega (arith, table-size))) longer (p .work-room);
+            scratch = cleared-all work clear (λ q h. y .high q (omega arith) ∙ x .above q (omega (arith, read-small (p .read)))) longer (p .work-room);
           }

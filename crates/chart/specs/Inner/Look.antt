@@ -10,13 +10,17 @@ use Rattle.pack.specs.Grammar.{Dimensions, nodeAt}
 use Rattle.pack.specs.Copy.{Shaped}
 use Rattle.chart.specs.Call.{workRoom, cleared}
 
--- the nodes of a chart are read behind its count, which is one byte, up to its end
-pub record NodesRead (chart : List ℕ) (nodes fluents characters : ℕ) (t : List Node) : Type 0 where
+-- nodes that are read from a place on, and where they end
+pub record NodesFrom (bytes : List ℕ) (at end nodes fluents characters : ℕ) (t : List Node) : Type 0 where
   pub dimensions : Dimensions
   pub shaped : Shaped dimensions fluents characters
   pub some : 0 < nodes
   pub few : nodes ≤ 32
-  pub reads : many (nodeAt dimensions nodes) nodes chart 1 ≡ done t (length chart)
+  pub reads : many (nodeAt dimensions nodes) nodes bytes at ≡ done t end
+
+-- those of a chart stand behind its count, which is one byte, up to its end
+abbrev pub NodesRead : (chart : List ℕ) (nodes fluents characters : ℕ) (t : List Node) → Type 0
+NodesRead chart nodes fluents characters t = NodesFrom chart 1 (length chart) nodes fluents characters t
 
 pub record Lookable (chart : List ℕ) (nodes fluents characters : ℕ) (chain : List ℕ) (fluent : ℕ) (work : List ℕ) : Type 0 where
   pub table : List Node

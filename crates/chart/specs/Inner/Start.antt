@@ -4,17 +4,14 @@ use mathlib.Core.List.{List, _++_}
 use Prim.Native.Nat.{ℕ, _+_, _<_, _≤_}
 use lib.ListN.{length, drop}
 use Rattle.pack.specs.Syntax.{Node}
-use Rattle.reading.specs.Reading.{done, many}
-use Rattle.pack.specs.Grammar.{nodeAt}
 use Rattle.pack.specs.Layout.{chartBytes, ChartFits}
-use Rattle.pack.specs.Answer.{dims}
-use Rattle.pack.specs.Copy.{Shaped}
 use Rattle.pack.specs.State.{meaning}
 use Rattle.pack.specs.Table.{rowsAt, Above}
 use Rattle.partition.specs.Chart.{Starts}
 use Rattle.chart.specs.Answers.{startTable}
 use Rattle.chart.specs.Call.{chartRoom, workRoom, cleared}
 use Rattle.partition.specs.Inner.Numbers.{Sound}
+use Rattle.chart.specs.Inner.Look.{NodesFrom}
 
 -- at most 32 rows of at most 30 bytes from 1 on, each belief one of them
 pub record Mergeable (work : List ℕ) (n w f c : ℕ) : Type 0 where
@@ -33,13 +30,10 @@ pub record Merged (was now : List ℕ) (n w f c r : ℕ) : Type 0 where
 
 -- the nodes of a pack, read from `first` on, fit a chart, and there is room
 pub record Startable (pack : List ℕ) (first nodes fluents characters : ℕ) (chart work : List ℕ) : Type 0 where
-  pub domains : List ℕ
   pub table : List Node
   pub end : ℕ
-  pub shaped : Shaped (dims characters domains) fluents characters
-  pub reads : many (nodeAt (dims characters domains) nodes) nodes pack first ≡ done table end
-  pub long : length table ≡ nodes
-  pub fit : ChartFits characters domains table
+  pub read : NodesFrom pack first end nodes fluents characters table
+  pub fit : ChartFits characters (read .dimensions .domains) table
   pub chart-room : chartRoom ≤ length chart
   pub work-room : workRoom ≤ length work
 

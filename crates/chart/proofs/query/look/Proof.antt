@@ -3,12 +3,13 @@ use mathlib.Core.Path.{refl}
 use Prim.Native.Nat.{_+_, _*_, _<_}
 use native.Mathlib.Omega.{arith}
 use borrow.Author.Needs.{needs}
-use Rattle.chart.proofs.Looking.{look-copies, look-follows, look-in, looked}
+use Rattle.chart.proofs.Loading.{read-copies}
+use Rattle.chart.proofs.Looking.{look-follows, look-in, looked}
 use Rattle.chart.proofs.query.look.Statement.{statement}
 use Rattle.chart.proofs.query.look.Tie as tie
 
 copy-table-requires : tie.Need-copy-table-requires
-copy-table-requires c κs = look-copies (c .before .before .before .before .pre)
+copy-table-requires c κs = let p = c .before .before .before .before .pre in read-copies (p .read) (p .room)
 
 follow-requires : tie.Need-follow-requires
 follow-requires c κs = look-follows (c .before .before .before .before .before .before .before .before .pre) (c .before .before .before .copy-table .ensures)

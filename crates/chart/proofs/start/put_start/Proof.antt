@@ -1,15 +1,16 @@
 -- Loaded, merged, written out, cleared. Assumes nothing.
 use mathlib.Core.Path.{_∙_}
 use borrow.Author.Needs.{needs}
-use Rattle.chart.proofs.Starting.{start-copies, start-merges, start-writes, start-put}
+use Rattle.chart.proofs.Loading.{read-copies, read-merges}
+use Rattle.chart.proofs.Starting.{start-writes, start-put}
 use Rattle.chart.proofs.start.put_start.Statement.{statement}
 use Rattle.chart.proofs.start.put_start.Tie as tie
 
 copy-table-requires : tie.Need-copy-table-requires
-copy-table-requires c κs = start-copies (c .before .before .before .before .pre)
+copy-table-requires c κs = let p = c .before .before .before .before .pre in read-copies (p .read) (p .work-room)
 
 merge-table-requires : tie.Need-merge-table-requires
-merge-table-requires c κs = start-merges (c .before .before .before .before .before .before .before .before .pre) (c .before .before .before .copy-table .ensures)
+merge-table-requires c κs = let p = c .before .before .before .before .before .before .before .before .pre in read-merges (p .read) (p .work-room) (c .before .before .before .copy-table .ensures)
 
 write-chart-requires : tie.Need-write-chart-requires
 write-chart-requires c κs = let m = c .before .before .before .before .merge-table in start-writes (c .before .before .before .before .before .before .before .before .before .before .before .before .before .pre) (c .before .before .before .before .before .before .before .before .copy-table .ensures) (m .ensures) (m .kept .0)
