@@ -2,22 +2,21 @@
 use Prim.Native.Nat.{ℕ, zero, suc, _+_, _*_, _-_, _<_, _≤_}
 use mathlib.Core.Path.{_≡_, refl, sym, ap, _∙_, subst}
 use mathlib.Core.List.{List, _++_}
-use native.Mathlib.Nat.{add-zero, mul-le-mul-left, mul-le-mul-right}
+use native.Mathlib.Nat.{add-zero}
 use native.Mathlib.Omega.{arith}
 use lib.ListN.{length, getD, drop, replicate, length-replicate, getD-replicate}
 use lib.Seq.{ext-getD}
 use Rattle.pack.specs.Syntax.{Node}
 use Rattle.pack.specs.State.{node, walk, Valid, meaning}
 use Rattle.pack.specs.Table.{bytesAt, tableOf, TableFits, cells, Above}
-use Rattle.pack.specs.Copy.{TableCopyable, TableCopied}
+use Rattle.pack.specs.Copy.{TableCopied}
 use Rattle.pack.specs.Laws.Table.{finds-walk}
 use Rattle.pack.specs.declared.table.Table.{Table}
-use Rattle.pack.proofs.Ready.{copied-fits}
 use Rattle.pack.proofs.Tables.{cells-at, value-at}
 use Rattle.chart.specs.Call.{workRoom, cleared}
 use Rattle.partition.specs.Inner.Put.{Cleared}
 use Rattle.chart.specs.Inner.Look.{NodesRead, Lookable, Looked}
-use Rattle.partition.proofs.Cells.{cells-length, row-in, rows-most}
+use Rattle.partition.proofs.Cells.{cells-length, row-in}
 use Rattle.chart.proofs.Charting.{front-back}
 use Rattle.chart.proofs.Loading.{read-small, read-same, read-fits}
 

@@ -3,7 +3,7 @@ use Prim.Native.Nat.{ℕ, _+_, _*_, _<_, _≤_}
 use mathlib.Core.Path.{_≡_, refl, sym, ap, _∙_, subst}
 use mathlib.Core.Logic.{by-cases}
 use mathlib.Core.List.{List, _++_}
-use native.Mathlib.Nat.{mul-le-mul-left, mul-le-mul-right}
+use native.Mathlib.Nat.{mul-le-mul-right}
 use native.Mathlib.Decide.{decLt}
 use native.Mathlib.Omega.{arith}
 use lib.ListN.{length, drop, set}
@@ -11,10 +11,8 @@ use Rattle.pack.specs.Syntax.{Node}
 use Rattle.pack.specs.State.{meaning, Closed}
 use Rattle.pack.specs.Table.{rowsAt}
 use Rattle.pack.specs.Layout.{chartBytes, ChartFits}
-use Rattle.pack.specs.Answer.{dims}
-use Rattle.pack.specs.Copy.{TableCopyable, TableCopied}
-use Rattle.pack.proofs.Ready.{copied, copied-fits}
-use Rattle.pack.proofs.Tables.{rows-length, belief-in-table}
+use Rattle.pack.specs.Copy.{TableCopied}
+use Rattle.pack.proofs.Tables.{rows-length}
 use Rattle.chart.specs.Answers.{startTable}
 use Rattle.chart.specs.Call.{workRoom}
 use Rattle.partition.specs.Inner.Numbers.{Laid, Copied, Sound}

@@ -10,7 +10,6 @@ use pack::table::follow;
 use partition::bytes::clear;
 use reading::number::Number;
 ghost use Prim.Native.Nat.{_<_};
-ghost use mathlib.Core.Path.{_≡_};
 ghost use Rattle.chart.specs.Inner.Look.{Lookable, Looked};
 ghost use Rattle.chart.specs.Promises.{Asked};
 
