@@ -2,6 +2,7 @@
 use Prim.Native.Nat.{ℕ, _+_, _*_, _≤_}
 use mathlib.Core.Path.{_≡_}
 use mathlib.Core.List.{List}
+use native.Mathlib.Nat.{mul-le-mul-right}
 use native.Mathlib.Omega.{arith}
 use lib.ListN.{length}
 use Rattle.pack.specs.Syntax.{Node}
@@ -13,7 +14,7 @@ use Rattle.pack.proofs.Tables.{belief-in-table}
 use Rattle.partition.proofs.Cells.{rows-most}
 use Rattle.chart.specs.Call.{workRoom}
 use Rattle.chart.specs.Inner.Look.{NodesFrom}
-use Rattle.chart.specs.Inner.Start.{Mergeable}
+use Rattle.chart.specs.Inner.Start.{Mergeable, Merged}
 
 module _ {bytes : List ℕ} {at end nodes f c : ℕ} {t : List Node} (r : NodesFrom bytes at end nodes f c t) where
   pub read-slim : (f + c ≤ 30) × (c ≤ 6)
@@ -28,6 +29,10 @@ module _ {bytes : List ℕ} {at end nodes f c : ℕ} {t : List Node} (r : NodesF
 
   pub read-same : {work mid : List ℕ} → TableCopied bytes at nodes work mid 0 f c → tableOf readTable mid ≡ t
   read-same x = x .table (r .dimensions) (r .shaped) t end (r .reads)
+
+  -- and so is what is left of it when it is merged
+  pub merged-small : {was now : List ℕ} {m : ℕ} → Merged was now nodes (f + c) f c m → m * (f + c) ≤ 960
+  merged-small x = omega (arith, mul-le-mul-right (f + c) (x .few), read-small)
 
   module _ {work : List ℕ} (room : workRoom ≤ length work) where
     pub read-copies : TableCopyable bytes at nodes work 0 f c

@@ -3,7 +3,6 @@ use Prim.Native.Nat.{ℕ, _+_, _*_, _<_, _≤_}
 use mathlib.Core.Path.{_≡_, refl, sym, ap, _∙_, subst}
 use mathlib.Core.Logic.{by-cases}
 use mathlib.Core.List.{List, _++_}
-use native.Mathlib.Nat.{mul-le-mul-right}
 use native.Mathlib.Decide.{decLt}
 use native.Mathlib.Omega.{arith}
 use lib.ListN.{length, drop, set}
@@ -29,13 +28,13 @@ use Rattle.chart.specs.Laws.Answers.{written-short, start-table-iff, fit
 use Rattle.partition.proofs.Cells.{rows-same, rows-most}
 use Rattle.partition.proofs.Merging.{ordered-sound, copied-out}
 use Rattle.chart.proofs.Charting.{chart-out}
-use Rattle.chart.proofs.Loading.{read-small, read-same}
+use Rattle.chart.proofs.Loading.{read-small, read-same, merged-small}
 use Rattle.chart.proofs.Looking.{cleared-all}
 
 module _ {was : List ℕ} {n w f c : ℕ} (p : Mergeable was n w f c) where
   -- fewer rows are smaller
   small : (k : ℕ) → k ≤ n → k * w ≤ 960
-  small k h = omega (arith, rows-most h (p .slim), mul-le-mul-right 30 (p .few))
+  small k h = omega (arith, rows-most h (p .slim), p .few)
 
   pub merge-laid : Laid was n w f c 1 1024 1100
   merge-laid = record { few = omega (arith, p .few); wide = p .wide; source = omega (arith, small n (omega arith)); scratch = omega (arith, p .few); target = omega (arith, small n (omega arith), p .room) }
@@ -86,17 +85,14 @@ module _ {pack : List ℕ} {first nodes f c : ℕ} {chart-was work : List ℕ} (
       chart-is : startTable c (p .table) ≡ rowsAt mid′ (f + c) f c 2400 r
       chart-is = start-table-iff c (p .table) (fits-table c domains (p .table) (p .fit)) (rowsAt mid′ (f + c) f c 2400 r) .0 (y .starts .0, y .starts .1 ∙ ap (λ (t : List Node). meaning c t 0) (read-same (p .read) x))
 
-      merged-size : r * (f + c) ≤ 960
-      merged-size = omega (arith, mul-le-mul-right (f + c) (y .few), read-small (p .read))
-
       pub start-writes : ((r < 256) × (f + c ≤ f + c) × (f + c ≤ f + c) × (2400 + r * (f + c) ≤ length mid′) × (1 + r * (f + c) ≤ length chart-was)) × Sound mid′ r (f + c) f c 2400
-      start-writes = ((omega (arith, y .few, p .read .few), omega arith, omega arith, omega (arith, merged-size, p .work-room, x .long), omega (arith, merged-size, p .chart-room)), ordered-sound (y .starts .0 .ordered))
+      start-writes = ((omega (arith, y .few, p .read .few), omega arith, omega arith, omega (arith, merged-small (p .read) y, p .work-room, x .long), omega (arith, merged-small (p .read) y, p .chart-room)), ordered-sound (y .starts .0 .ordered))
 
       pub start-put : {chart-now work-now : List ℕ} {n : ℕ} → (n ≡ 1 + r * (f + c)) × RowsPut mid′ (set chart-was 0 r) chart-now (f + c) f c 2400 1 1 0 r → length chart-now ≡ length chart-was
           → Cleared mid′ work-now 0 workRoom → length work-now ≡ length work → StartPut c (p .table) chart-was chart-now work work-now n
       start-put {chart-now} {work-now} {n} (e, z) long″ clear longer =
           let fit : ChartFits c domains (rowsAt mid′ (f + c) f c 2400 r) = subst (ChartFits c domains) chart-is (start-fits c domains (p .table) (p .fit)) in
-          let (out, size) = chart-out chart-was domains refl (p .read .shaped .fluents) (p .read .shaped .small .sizes) z (omega (arith, p .chart-room)) fit (omega (arith, merged-size, p .chart-room)) long″ in
+          let (out, size) = chart-out chart-was domains refl (p .read .shaped .fluents) (p .read .shaped .small .sizes) z (omega (arith, p .chart-room)) fit (omega (arith, merged-small (p .read) y, p .chart-room)) long″ in
           record {
             answer = e ∙ sym size ∙ ap (λ (t : List Node). length (chartBytes t)) (sym chart-is);
             result = out ∙ ap (λ (t : List Node). chartBytes t ++ drop (length (chartBytes t)) chart-was) (sym chart-is);
