@@ -7,18 +7,14 @@ use native.Mathlib.Omega.{arith}
 use lib.ListN.{length}
 use borrow.Author.Tests.{leb-true}
 use Rattle.pack.specs.Syntax.{Node, Pack}
-use Rattle.reading.specs.Reading.{done, many, Reply, gives, with, told}
-use Rattle.pack.specs.Grammar.{nodeAt}
+use Rattle.reading.specs.Reading.{Reply, gives, with, told}
 use Rattle.pack.specs.Layout.{chartBytes, ChartFits}
-use Rattle.pack.specs.Answer.{dims}
-use Rattle.pack.specs.Judge.{Small}
 use Rattle.pack.specs.Contents.{PackRead, replied, repliedCount}
 use Rattle.pack.specs.Laws.Exact.{Bytes}
 use Rattle.pack.specs.Laws.PackExact.{pack-exactly}
 use Rattle.pack.specs.declared.contents.Contents.{Contents}
 use Rattle.reading.specs.declared.number.Number.{Number}
 use Rattle.reading.specs.declared.number.Number.the-variants as numbers
-use Rattle.pack.proofs.Ready.{small-pack}
 use Rattle.chart.specs.declared.Charted.the-variants as charted
 use Rattle.chart.specs.Answers.{startTable}
 use Rattle.chart.specs.Call.{fits, chartRoom, workRoom, resultAfter, workAfter}
@@ -26,7 +22,7 @@ use Rattle.chart.specs.Replies.{startReply}
 use Rattle.chart.specs.Promises.{Started}
 use Rattle.chart.specs.Inner.Start.{Startable, StartPut}
 use Rattle.chart.proofs.Calling.{and-true}
-use Rattle.chart.proofs.Checking.{lent, checks, Accepted, refused-by, accepted-by, left-alone, check-none}
+use Rattle.chart.proofs.Checking.{nodes-packed, lent, checks, Accepted, refused-by, accepted-by, left-alone, check-none}
 
 module _ {pack places : List ℕ} (chart work : List ℕ) {p : Contents} (got : PackRead pack places p) (nodes : Number) (under : repliedCount nodes ≡ with (replied (p .answer)) (λ u. gives (p .nodes)))
     (enough : Bool) (here : enough ≡ (fits chartRoom chart && fits workRoom work)) (r : Number) (says : repliedCount r ≡ with (repliedCount nodes) (λ v. lent enough true (gives v))) where
@@ -62,19 +58,12 @@ module _ {pack places : List ℕ} (chart work : List ℕ) {p : Contents} (got : 
         let y = accepted-now .2 .0 in
         let x = y .thePack in
         let f = y .found in
-        let fit = pack-exactly pack bytes x .0 (y .accepted) .0 .nodes in
         let (chart-room, work-room) = and-true (fits chartRoom chart) (fits workRoom work) (y .enough-there) in
         record {
           table = x .nodes;
           end = f .rows .end;
-          read = record {
-            dimensions = dims (p .characters) (x .theory .domains);
-            shaped = record { small = subst (λ (c : ℕ). Small (dims c (x .theory .domains))) (f .characters) (small-pack pack x (y .accepted)); fluents = f .fluents; characters = refl };
-            some = omega (arith, fit .0, f .nodes);
-            few = omega (arith, fit .1, f .nodes);
-            reads = subst (λ (c : ℕ). many (nodeAt (dims c (x .theory .domains)) (p .nodes)) (p .nodes) pack (p .first) ≡ done (x .nodes) (f .rows .end)) (f .characters) (f .rows .reads);
-          };
-          fit = subst (λ (c : ℕ). ChartFits c (x .theory .domains) (x .nodes)) (f .characters) fit;
+          read = nodes-packed bytes (y .accepted) f;
+          fit = subst (λ (c : ℕ). ChartFits c (x .theory .domains) (x .nodes)) (f .characters) (pack-exactly pack bytes x .0 (y .accepted) .0 .nodes);
           chart-room = leb-true chartRoom (length chart) chart-room;
           work-room = leb-true workRoom (length work) work-room;
         }

@@ -16,12 +16,14 @@ use Rattle.pack.specs.Answer.{dims}
 use Rattle.pack.specs.Contents.{PackRead, PackFound, replied}
 use Rattle.reading.specs.Laws.Reading.{never-gives, same-gift, both}
 use Rattle.pack.specs.declared.contents.Contents.{Contents}
+use Rattle.pack.specs.Laws.Exact.{Bytes}
+use Rattle.pack.specs.Laws.PackExact.{pack-exactly}
 use Rattle.pack.proofs.Low.{pack-refusal, chart-refusal}
 use Rattle.pack.proofs.Laws.{between-within}
 use Rattle.pack.proofs.Found.{many-length}
 use Rattle.pack.proofs.Ready.{nodes-first, chart-nodes, pack-shaped}
 use Rattle.chart.specs.Call.{chartsOf, call, byChecks, workAfter, cleared}
-use Rattle.chart.specs.Inner.Look.{NodesRead}
+use Rattle.chart.specs.Inner.Look.{NodesFrom, NodesRead}
 
 -- the numbers that the checks refuse under
 low-checks : (k : ℕ) → k ≤ 9 → byChecks k ≡ true
@@ -201,6 +203,18 @@ nodes-read {pack} {places} {chart} {x} {p} {t} {n} e f read long =
       some = omega (arith, some-nodes (dimensions theory) chart 0 t (length chart) reads);
       few = omega (arith, few);
       reads = ap (λ (k : ℕ). many (nodeAt (dims (theory .characters) (theory .domains)) k) k chart 1) (sym long) ∙ rows;
+    }
+
+-- a pack that was read, by its nodes
+abbrev pub nodes-packed : {pack places : List ℕ} {x : Pack} {p : Contents} → Bytes pack → packOf pack ≡ gives x → (f : PackFound pack places x p) → NodesFrom pack (p .first) (f .rows .end) (p .nodes) (p .fluents) (p .characters) (x .nodes)
+nodes-packed {pack} {places} {x} {p} bytes e f =
+    let fit = pack-exactly pack bytes x .0 e .0 .nodes in
+    record {
+      dimensions = dims (x .theory .characters) (x .theory .domains);
+      shaped = pack-shaped pack places x p e f;
+      some = omega (arith, fit .0, f .nodes);
+      few = omega (arith, fit .1, f .nodes);
+      reads = f .rows .reads;
     }
 
 -- what the checks say where there are no charts, one, or two

@@ -29,8 +29,10 @@ use Rattle.chart.specs.Inner.Look.{NodesRead}
 use Rattle.partition.specs.Inner.Put.{Cleared}
 use Rattle.partition.proofs.Cells.{rows-most}
 use Rattle.chart.proofs.Calling.{and-true}
+use Rattle.chart.proofs.Loading.{read-small}
 use Rattle.chart.proofs.Looking.{cleared-all}
 use Rattle.chart.proofs.Checking.{counted, lent, checks, Accepted, FirstRead, first-read, nodes-read, refused-by, accepted-by, left-alone, check-one}
+use Rattle.transition.proofs.Stepping.{read-tabled}
 use Rattle.transition.proofs.Stepped.{short-pack}
 use Rattle.planner.specs.declared.Judged.the-variants as judged
 use Rattle.explanation.specs.declared.explain.Shape.{Shape}
@@ -54,32 +56,17 @@ module _ {th : Theory} {T : List Node} {pack places : List ℕ} {h : Shape} {cha
   abbrev pub judgeFrom : Table
   judgeFrom = record { rows = 1; nodes = nodes; fluents = f; characters = C; width = f + C }
 
-  table-size : 1 + nodes * (f + C) ≤ 961
-  table-size =
-      let s = x .theorized .small in
-      let narrow : f + C ≤ 30 = omega (arith, s .characters, s .fluents, x .same-characters, x .same-fluents) in
-      omega (arith, rows-most (x .read .few) narrow)
-
-  pub judge-copies : TableCopyable chart 1 nodes work 0 f C
-  judge-copies = let r = x .read in record { dimensions = r .dimensions; sized = r .shaped; few = r .few; value = T; end = length chart; reads = r .reads; room = omega (arith, table-size, x .room) }
-
   pub judge-free : Free 961 (K * e)
   judge-free = omega (arith, mul-le-mul-left K (x .nested), mul-le-mul-right 3 (x .foreseen .1))
 
   module _ {mid : List ℕ} (y : TableCopied chart 1 nodes work mid 0 f C) where
     pub judge-stage : Stage th T pack places h mid judgeFrom 961
-    judge-stage = let r = x .read in record {
+    judge-stage = record {
       theorized = x .theorized;
-      tabled = record {
-        over = record { small = x .theorized .small; characters = x .same-characters; fluents = x .same-fluents };
-        fits = copied-fits chart 1 nodes work mid 0 f C y (r .dimensions) (r .shaped) T (length chart) (r .reads) (omega (arith, table-size, x .room));
-        same = y .table (r .dimensions) (r .shaped) T (length chart) (r .reads);
-        few = r .few;
-        some = r .some;
-      };
+      tabled = read-tabled (x .read) (record { small = x .theorized .small; characters = x .same-characters; fluents = x .same-fluents }) (x .room) y;
       same-fluents = refl;
       same-characters = refl;
-      behind = omega (arith, table-size);
+      behind = omega (arith, read-small (x .read));
       room = omega (arith, y .long, x .room);
       laid = x .laid;
     }
@@ -96,7 +83,7 @@ module _ {th : Theory} {T : List Node} {pack places : List ℕ} {h : Shape} {cha
       judge-high q l = cl .high q (omega arith)
 
     pub judge-verdict : {M : List ℕ → Type 0} {P : Type 0} {then mid′ now : List ℕ} {r : Bool} → Above mid then workRoom → Told M 961 then mid′ r P → Cleared mid′ now 0 workRoom → length now ≡ length work → Verdict P work now r
-    judge-verdict high told cl long = record { sound = told .sound; complete = told .complete; scratch = cleared-all work cl (λ q g. told .high q g ∙ high q g ∙ y .above q (omega (arith, table-size))) long (x .room) }
+    judge-verdict high told cl long = record { sound = told .sound; complete = told .complete; scratch = cleared-all work cl (λ q g. told .high q g ∙ high q g ∙ y .above q (omega (arith, read-small (x .read)))) long (x .room) }
 
 module _ {pack places : List ℕ} (chart : List ℕ) (c a K e : ℕ) (work : List ℕ) {p : Contents} (got : PackRead pack places p) (nodes : Number) (under : repliedCount nodes ≡ with (replied (p .answer)) (λ u. counted p chart))
     (there : Bool) (here : there ≡ (ltb c (p .characters) && (ltb a (p .actions) && (foresightLimit K && nestingLimit e)))) (r : Number) (says : repliedCount r ≡ with (repliedCount nodes) (λ v. lent (fits workRoom work) there (gives v))) where

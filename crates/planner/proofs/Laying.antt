@@ -17,13 +17,14 @@ use Rattle.chart.specs.Call.{workRoom}
 use Rattle.partition.specs.Chart.{Starts}
 use Rattle.partition.specs.Inner.Put.{Cleared, Apart, PartCopied}
 use Rattle.chart.specs.Inner.Start.{Mergeable, Merged}
-use Rattle.partition.proofs.Cells.{rows-same, rows-most}
+use Rattle.partition.proofs.Cells.{rows-same}
+use Rattle.chart.proofs.Loading.{read-small, read-same, merged-small}
 use Rattle.explanation.specs.declared.explain.Shape.{Shape}
 use Rattle.explanation.specs.Inner.Memory.{memoryAt}
 use Rattle.planner.specs.Inner.Search.{Laying, LaidStart}
 use Rattle.explanation.proofs.Remembering.{emptied}
 
-module _ {domains : List ℕ} {T : List Node} {pack : List ℕ} {first nodes : ℕ} {h : Shape} {work : List ℕ} (x : Laying domains T pack first nodes h work) where
+module _ {T : List Node} {pack : List ℕ} {first nodes : ℕ} {h : Shape} {work : List ℕ} (x : Laying T pack first nodes h work) where
   abbrev f : ℕ
   f = h .fluents
 
@@ -33,29 +34,10 @@ module _ {domains : List ℕ} {T : List Node} {pack : List ℕ} {first nodes : �
   abbrev w : ℕ
   w = f + C
 
-  pub lay-narrow : w ≤ 30
-  lay-narrow = let s = x .shaped in omega (arith, s .small .characters, s .small .fluents, s .fluents)
-
-  table-size : 1 + nodes * w ≤ 961
-  table-size = omega (arith, rows-most (x .few) lay-narrow)
-
-  pub lay-copies : TableCopyable pack first nodes work 0 f C
-  lay-copies = record { dimensions = dims C domains; sized = x .shaped; few = x .few; value = T; end = x .end; reads = x .reads; room = omega (arith, table-size, x .room) }
-
   module _ {mid : List ℕ} (y : TableCopied pack first nodes work mid 0 f C) where
-    pub lay-merges : Mergeable mid nodes w f C
-    lay-merges = record {
-      some = x .some;
-      few = x .few;
-      wide = omega arith;
-      slim = lay-narrow;
-      sound = record { beliefs = λ i k g l. belief-in-table (copied pack first nodes work mid 0 f C y (dims C domains) (x .shaped) T (x .end) (x .reads)) mid (copied-fits pack first nodes work mid 0 f C y (dims C domains) (x .shaped) T (x .end) (x .reads) (omega (arith, table-size, x .room))) i k g l };
-      room = omega (arith, x .room, y .long);
-    }
-
     module _ {mid′ : List ℕ} {r : ℕ} (z : Merged mid mid′ nodes w f C r) (long : length mid′ ≡ length mid) where
       pub merged-size : (r < 256) × (r * w ≤ 960)
-      merged-size = (omega (arith, z .few, x .few), omega (arith, mul-le-mul-right w (z .few), table-size))
+      merged-size = (omega (arith, z .few, x .read .few), merged-small (x .read) z)
 
       pub lay-down : Apart 2400 1 (r * w) × (2400 + r * w ≤ length (set mid′ 0 r)) × (1 + r * w ≤ length (set mid′ 0 r))
       lay-down = let room = length-set mid′ 0 r ∙ long ∙ y .long in (omega (arith, merged-size), omega (arith, merged-size, room, x .room), omega (arith, merged-size, room, x .room))
@@ -64,10 +46,10 @@ module _ {domains : List ℕ} {T : List Node} {pack : List ℕ} {first nodes : �
       lay-done {now} {then} c cl =
           let count : getD then 0 0 ≡ r = cl .low 0 (omega arith) ∙ c .low 0 (omega arith) ∙ getD-set-same mid′ 0 r 0 (omega (arith, long, y .long, x .room)) in
           let rows : rowsAt then w f C 1 r ≡ rowsAt mid′ w f C 2400 r = rows-same mid′ then w f C 2400 1 r (omega arith) (λ q l. cl .low (1 + q) (omega (arith, l, merged-size)) ∙ c .part q l ∙ getD-set-other mid′ 0 (2400 + q) r 0 (λ e. omega (arith, e))) in
-          let start : Starts C (meaning C T 0) (rowsAt mid′ w f C 2400 r) = (z .starts .0, z .starts .1 ∙ ap (λ (t : List Node). meaning C t 0) (y .table (dims C domains) (x .shaped) T (x .end) (x .reads))) in
+          let start : Starts C (meaning C T 0) (rowsAt mid′ w f C 2400 r) = (z .starts .0, z .starts .1 ∙ ap (λ (t : List Node). meaning C t 0) (read-same (x .read) y)) in
           record {
-            few = omega (arith, count, z .few, x .few);
+            few = omega (arith, count, z .few, x .read .few);
             starts = subst (λ (n : ℕ). Starts C (meaning C T 0) (rowsAt then w f C 1 n)) (sym count) (subst (Starts C (meaning C T 0)) (sym rows) start);
             empty = emptied cl;
-            high = λ q l. cl .high q (omega arith) ∙ c .high q (omega (arith, l, merged-size)) ∙ getD-set-other mid′ 0 q r 0 (λ e. omega (arith, e, l)) ∙ z .high q (omega (arith, l)) ∙ y .above q (omega (arith, l, table-size));
+            high = λ q l. cl .high q (omega arith) ∙ c .high q (omega (arith, l, merged-size)) ∙ getD-set-other mid′ 0 q r 0 (λ e. omega (arith, e, l)) ∙ z .high q (omega (arith, l)) ∙ y .above q (omega (arith, l, read-small (x .read)));
           }

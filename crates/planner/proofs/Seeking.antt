@@ -34,7 +34,8 @@ use Rattle.partition.specs.Inner.Put.{Cleared}
 use Rattle.chart.proofs.Calling.{and-true}
 use Rattle.partition.proofs.Cells.{cells-length, rows-most}
 use Rattle.chart.proofs.Charting.{front-back}
-use Rattle.chart.proofs.Checking.{lent, checks, Accepted, refused-by, accepted-by, left-alone, check-none}
+use Rattle.chart.proofs.Checking.{nodes-packed, lent, checks, Accepted, refused-by, accepted-by, left-alone, check-none}
+use Rattle.chart.proofs.Loading.{read-slim}
 use Rattle.chart.proofs.Looking.{cleared-all}
 use Rattle.transition.proofs.Stepped.{short-pack}
 use Rattle.planner.specs.declared.Found.{Found}
@@ -51,7 +52,6 @@ use Rattle.explanation.specs.Inner.Lists.{slotTable, Ends}
 use Rattle.explanation.specs.Inner.Explain.{Stage}
 use Rattle.explanation.specs.Inner.Memory.{Memory}
 use Rattle.explanation.proofs.Remembering.{laid-by, memory-clear}
-use Rattle.planner.proofs.Laying.{lay-narrow}
 use Rattle.explanation.proofs.Telling.{counted, slot-stage}
 use Rattle.planner.specs.Inner.Search.{Laying, LaidStart, Chosen, Best, Shortest, Seeking, Seekable, SearchPut}
 
@@ -89,15 +89,15 @@ module _ {th : Theory} {T : List Node} {pack places : List ℕ} {h : Shape} {fir
   abbrev C : ℕ
   C = h .characters
 
-  pub seek-laying : Laying (th .domains) T pack first nodes h work
-  seek-laying = record { shaped = x .shaped; end = x .end; reads = x .reads; few = x .few; some = x .some; room = x .room }
+  pub seek-laying : Laying T pack first nodes h work
+  seek-laying = record { end = x .end; read = x .read; room = x .room }
 
   module _ {then : List ℕ} (y : LaidStart T h work then) (long : length then ≡ length work) where
     abbrev pub seekTable : List Node
     seekTable = tableOf (slotTable h then 0) then
 
     rows-small : getD then 0 0 * (f + C) ≤ 960
-    rows-small = omega (arith, rows-most (y .few) (lay-narrow seek-laying))
+    rows-small = omega (arith, rows-most (y .few) (read-slim (x .read) .0))
 
     pub seek-slot : Stage th seekTable pack places h then (slotTable h then 0) 961
     seek-slot = record {
@@ -254,11 +254,8 @@ module _ {pack places : List ℕ} (T K E : ℕ) (list work : List ℕ) {p : Cont
         let (least, most) = and-true (leb 1 K) (leb K 6) foresight in
         record {
           theorized = record { small = small-pack pack x (y .accepted); found = g .theory; short = short-pack pack x (y .accepted); marked = marked };
-          shaped = record { small = subst (λ (c : ℕ). Small (dims c (x .theory .domains))) (g .characters) (small-pack pack x (y .accepted)); fluents = g .fluents; characters = refl };
           end = g .rows .end;
-          reads = subst (λ (c : ℕ). many (nodeAt (dims c (x .theory .domains)) (p .nodes)) (p .nodes) pack (p .first) ≡ done (x .nodes) (g .rows .end)) (g .characters) (g .rows .reads);
-          few = omega (arith, fit .1, g .nodes);
-          some = omega (arith, fit .0, g .nodes);
+          read = nodes-packed bytes (y .accepted) g;
           same-characters = g .characters;
           same-fluents = g .fluents;
           storied = leb-true T 8 (and-true (leb 1 T) (leb T 8) told .1);

@@ -276,7 +276,7 @@ pub fn limits(story: usize, foresight: usize, nesting: usize) -> bool
 // Lays the nodes that are read from `first` on out in the first slot, merged, and empties the memory.
 pub fn lay_start(pack: &[u8], first: usize, nodes: usize, p: Shape, work: &mut [u8])
     requires { ⌜ Layable (now pack) first nodes p (now work) ⌝ }
-    ensures { λ _. ⌜ ((domains : List ℕ) (T : List Node) → Laying domains T (now (pack .entry)) first nodes p (now (work .entry)) → LaidStart T p (now (work .entry)) (now (work .exit))) ⌝ }
+    ensures { λ _. ⌜ ((T : List Node) → Laying T (now (pack .entry)) first nodes p (now (work .entry)) → LaidStart T p (now (work .entry)) (now (work .exit))) ⌝ }
 {
     copy_table(pack, first, nodes, work, 0, p.fluents, p.characters);
     let width = p.fluents + p.characters;

@@ -11,6 +11,8 @@ use borrow.Author.Tests.{le-ltb, lt-leb}
 use Rattle.pack.specs.Syntax.{Node, Theory}
 use Rattle.pack.specs.State.{State, meaning}
 use Rattle.reading.specs.Reading.{gives, told, pick}
+use Rattle.pack.specs.Grammar.{Dimensions}
+use Rattle.pack.specs.Judge.{Over}
 use Rattle.pack.specs.Layout.{ChartFits}
 use Rattle.pack.specs.Table.{rowsAt}
 use Rattle.pack.specs.Copy.{TableCopyable, TableCopied}
@@ -22,8 +24,10 @@ use Rattle.chart.specs.declared.Charted.the-variants as charted
 use Rattle.partition.specs.Inner.Numbers.{Sound}
 use Rattle.partition.specs.Inner.Out.{RowsPut}
 use Rattle.partition.specs.Inner.Put.{Cleared}
+use Rattle.chart.specs.Inner.Look.{NodesFrom}
 use Rattle.chart.specs.Laws.Answers.{fits-table}
 use Rattle.chart.proofs.Charting.{chart-out}
+use Rattle.chart.proofs.Loading.{read-slim, read-small, readTable, read-same, read-fits}
 use Rattle.chart.proofs.Looking.{cleared-all}
 use Rattle.partition.proofs.Merging.{ordered-sound}
 use Rattle.partition.proofs.Cells.{rows-most}
@@ -32,33 +36,23 @@ use Rattle.transition.specs.Step.{Outcome, leaves, refused, Steps}
 use Rattle.transition.specs.Answers.{stepTable}
 use Rattle.transition.specs.Replies.{outcomeReply}
 use Rattle.transition.specs.Laws.Step.{step-table, step-table-iff}
+use Rattle.transition.specs.Inner.Cause.{Tabled}
 use Rattle.transition.specs.Inner.Play.{Setting, Left, PlayedIn, Stepping, StepSaid}
+
+-- nodes that are read and copied into the work buffer, over dimensions that they keep
+pub read-tabled : {d : Dimensions} {bytes work mid : List ℕ} {at end nodes f c : ℕ} {T : List Node} (r : NodesFrom bytes at end nodes f c T) → Over d (readTable r) → workRoom ≤ length work → TableCopied bytes at nodes work mid 0 f c → Tabled d T mid (readTable r)
+read-tabled r over room x = record { over = over; fits = read-fits r room x; same = read-same r x; few = r .few; some = r .some }
 
 module _ {p : Theory} {T : List Node} {pack places : List ℕ} {actions triggers action : ℕ} {chart : List ℕ} {nodes f c : ℕ} {out work : List ℕ} (x : Stepping p T pack places actions triggers action chart nodes f c out work) where
   abbrev pub stepFrom : Table
   stepFrom = record { rows = 1; nodes = nodes; fluents = f; characters = c; width = f + c }
 
-  narrow : f + c ≤ 30
-  narrow = let s = x .theorized .small in omega (arith, s .characters, s .fluents, x .same-characters, x .same-fluents)
-
-  table-size : 1 + nodes * (f + c) ≤ 961
-  table-size = omega (arith, rows-most (x .read .few) narrow)
-
-  pub step-copies : TableCopyable chart 1 nodes work 0 f c
-  step-copies = let r = x .read in record { dimensions = r .dimensions; sized = r .shaped; few = r .few; value = T; end = length chart; reads = r .reads; room = omega (arith, table-size, x .work-room) }
-
   module _ {mid : List ℕ} (y : TableCopied chart 1 nodes work mid 0 f c) where
     pub step-setting : Setting p T pack places actions triggers mid stepFrom 961
-    step-setting = let r = x .read in record {
+    step-setting = record {
       theorized = x .theorized;
-      tabled = record {
-        over = record { small = x .theorized .small; characters = x .same-characters; fluents = x .same-fluents };
-        fits = copied-fits chart 1 nodes work mid 0 f c y (r .dimensions) (r .shaped) T (length chart) (r .reads) (omega (arith, table-size, x .work-room));
-        same = y .table (r .dimensions) (r .shaped) T (length chart) (r .reads);
-        few = r .few;
-        some = r .some;
-      };
-      room = record { source = omega (arith, table-size); slot-room = omega arith; room = omega (arith, y .long, x .work-room) };
+      tabled = read-tabled (x .read) (record { small = x .theorized .small; characters = x .same-characters; fluents = x .same-fluents }) (x .work-room) y;
+      room = record { source = omega (arith, read-small (x .read)); slot-room = omega arith; room = omega (arith, y .long, x .work-room) };
     }
 
     module _ {mid′ : List ℕ} {r : ℕ} (z : PlayedIn p (meaning c T 0) action stepFrom mid mid′ 961 r) where
@@ -70,7 +64,7 @@ module _ {p : Theory} {T : List Node} {pack places : List ℕ} {actions triggers
 
       -- bytes behind the work buffer's part stay
       behind : (q : ℕ) → workRoom ≤ q → getD mid′ q 0 ≡ getD work q 0
-      behind q h = z .only .high q (omega arith) ∙ y .above q (omega (arith, table-size))
+      behind q h = z .only .high q (omega arith) ∙ y .above q (omega (arith, read-small (x .read)))
 
       pub step-refused : r ≢ 0 → {now : List ℕ} → Cleared mid′ now 0 workRoom → length now ≡ length work → StepSaid (stepTable p T action) out work out now (charted.Refused r 0)
       unfolding resultAfter
@@ -93,7 +87,7 @@ module _ {p : Theory} {T : List Node} {pack places : List ℕ} {actions triggers
         left = z .plays e .2
 
         rows-small : n * (f + c) ≤ 960
-        rows-small = omega (arith, rows-most (left .few) narrow)
+        rows-small = omega (arith, rows-most (left .few) (read-slim (x .read) .0))
 
         leaves-is : stepTable p T action ≡ leaves U
         leaves-is =

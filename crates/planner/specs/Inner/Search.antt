@@ -13,6 +13,7 @@ use Rattle.pack.specs.Table.{tableOf, stateOf, Below, Above}
 use Rattle.chart.specs.Call.{listRoom, workRoom, cleared, resultAfter}
 use Rattle.partition.specs.Chart.{Starts}
 use Rattle.chart.specs.Earliest.{Before}
+use Rattle.chart.specs.Inner.Look.{NodesFrom}
 use Rattle.transition.specs.Inner.Play.{Theorized}
 use Rattle.planner.specs.declared.Found.{Found}
 use Rattle.explanation.specs.declared.explain.Shape.{Shape}
@@ -79,16 +80,13 @@ pub record Shortest (Good : List ℕ → ℕ → Type 0) (story : ℕ) (was now 
   pub high : Above work work′ workRoom
 
 -- the nodes that are read from a place on, and room
-pub record Laying (domains : List ℕ) (T : List Node) (pack : List ℕ) (first nodes : ℕ) (h : Shape) (work : List ℕ) : Type 0 where
-  pub shaped : Shaped (dims (h .characters) domains) (h .fluents) (h .characters)
+pub record Laying (T : List Node) (pack : List ℕ) (first nodes : ℕ) (h : Shape) (work : List ℕ) : Type 0 where
   pub end : ℕ
-  pub reads : many (nodeAt (dims (h .characters) domains) nodes) nodes pack first ≡ done T end
-  pub few : nodes ≤ 32
-  pub some : 0 < nodes
+  pub read : NodesFrom pack first end nodes (h .fluents) (h .characters) T
   pub room : workRoom ≤ length work
 
 abbrev pub Layable : (pack : List ℕ) (first nodes : ℕ) (h : Shape) (work : List ℕ) → Type 0
-Layable pack first nodes h work = (domains : List ℕ) × ((T : List Node) × Laying domains T pack first nodes h work)
+Layable pack first nodes h work = (T : List Node) × Laying T pack first nodes h work
 
 -- in the first slot stands the written chart of what node 0 means, and no entry of the memory is marked
 pub record LaidStart (T : List Node) (h : Shape) (was now : List ℕ) : Type 0 where
@@ -100,11 +98,8 @@ pub record LaidStart (T : List Node) (h : Shape) (was now : List ℕ) : Type 0 w
 -- what the search from a pack's nodes is lent: a theory, found in the pack, its nodes, and room
 pub record Seeking (th : Theory) (T : List Node) (pack places : List ℕ) (h : Shape) (first nodes story nesting foresight : ℕ) (list work : List ℕ) : Type 0 where
   pub theorized : Theorized th pack places (h .actions) (h .triggers)
-  pub shaped : Shaped (dims (h .characters) (th .domains)) (h .fluents) (h .characters)
   pub end : ℕ
-  pub reads : many (nodeAt (dims (h .characters) (th .domains)) nodes) nodes pack first ≡ done T end
-  pub few : nodes ≤ 32
-  pub some : 0 < nodes
+  pub read : NodesFrom pack first end nodes (h .fluents) (h .characters) T
   pub same-characters : th .characters ≡ h .characters
   pub same-fluents : length (th .domains) ≡ h .fluents
   pub storied : story ≤ 8

@@ -1,12 +1,13 @@
 -- The chart laid out as a table, an empty memory, the verdict, and all cleared. Assumes nothing.
 use native.Mathlib.Omega.{arith}
 use borrow.Author.Needs.{needs}
-use Rattle.planner.proofs.Judging.{judge-copies, judge-ready, judge-memory, judge-high, judge-free, judge-verdict}
+use Rattle.chart.proofs.Loading.{read-copies}
+use Rattle.planner.proofs.Judging.{judge-ready, judge-memory, judge-high, judge-free, judge-verdict}
 use Rattle.planner.proofs.judge.judge_chart.Statement.{statement}
 use Rattle.planner.proofs.judge.judge_chart.Tie as tie
 
 copy-table-requires : tie.Need-copy-table-requires
-copy-table-requires c κs = let (th, (T, x)) = c .before .before .before .before .before .pre in judge-copies x
+copy-table-requires c κs = let (th, (T, x)) = c .before .before .before .before .before .pre in read-copies (x .read) (x .room)
 
 clear-requires : tie.Need-clear-requires
 clear-requires c κs = let (th, (T, x)) = c .before .before .before .before .before .before .before .before .before .before .pre in omega (arith, x .room, c .before .before .before .before .copy-table .ensures .long)

@@ -7,7 +7,7 @@ use Rattle.planner.proofs.search.search_nodes.Statement.{statement}
 use Rattle.planner.proofs.search.search_nodes.Tie as tie
 
 lay-start-requires : tie.Need-lay-start-requires
-lay-start-requires c κs = let (th, (T, x)) = c .before .before .before .before .before .pre in (th .domains, (T, seek-laying x))
+lay-start-requires c κs = let (th, (T, x)) = c .before .before .before .before .before .pre in (T, seek-laying x)
 
 slice-read-wide : tie.Need-slice-read-wide
 slice-read-wide c = let (th, (T, x)) = c .before .before .before .before .before .before .before .before .before .pre in omega (arith, x .room, c .before .before .before .lay-start .kept)
@@ -21,14 +21,14 @@ shared-slice-read-utility c = let (th, (T, x)) = c .before .before .before .befo
 utility-requires : tie.Need-utility-requires
 utility-requires c κs =
     let (th, (T, x)) = c .before .before .before .before .before .before .before .before .before .before .before .before .before .pre in
-    let y = c .before .before .before .before .before .before .before .lay-start .ensures (th .domains) T (seek-laying x) in
+    let y = c .before .before .before .before .before .before .before .lay-start .ensures T (seek-laying x) in
     let long = c .before .before .before .before .before .before .before .lay-start .kept .1 .1 .1 .1 .0 in
     author-rules (seek-ready x y long (c .before .before .before .wide .ensures)) 0 (seek-ready x y long (c .before .before .before .wide .ensures) .tabled .some) .0
 
 shortest-requires : tie.Need-shortest-requires
 shortest-requires c κs =
     let (th, (T, x)) = c .before .before .before .before .before .before .before .before .before .before .before .before .before .before .before .before .pre in
-    let y = c .before .before .before .before .before .before .before .before .before .before .lay-start .ensures (th .domains) T (seek-laying x) in
+    let y = c .before .before .before .before .before .before .before .before .before .before .lay-start .ensures T (seek-laying x) in
     let long = c .before .before .before .before .before .before .before .before .before .before .lay-start .kept .1 .1 .1 .1 .0 in
     let is = author-utility (seek-ready x y long (c .before .before .before .before .before .before .wide .ensures)) 0 (c .before .before .utility .ensures) in
     ((th, (seekTable x y long, (seek-slot x y long, seek-memory x y long, seek-base x y long (c .before .before .before .before .before .before .wide .ensures) is))), x .foreseen .0, x .foreseen .1, x .nested, x .storied, x .list-room)
@@ -42,7 +42,7 @@ returns c =
     let e = c .before .before .before .before .before .before .before .before .before .before .shortest in
     let z = c .before .before .before .before .sweep in
     λ th T x.
-    let y = l (th .domains) T (seek-laying x) in
+    let y = l T (seek-laying x) in
     let long = c .before .before .before .before .before .before .before .before .before .before .before .before .before .before .before .before .before .before .before .before .before .lay-start .kept .1 .1 .1 .1 .0 in
     let is = author-utility (seek-ready x y long (c .before .before .before .before .before .before .before .before .before .before .before .before .before .before .before .before .before .wide .ensures)) 0 (c .before .before .before .before .before .before .before .before .before .before .before .before .before .utility .ensures) in
     seek-none x y long (seek-from x y long (c .before .before .before .before .before .before .before .before .before .before .before .before .before .before .before .before .before .wide .ensures) is) (seek-same x y long (e .ensures th (seekTable x y long) (seek-slot x y long) (seek-memory x y long) (seek-base x y long (c .before .before .before .before .before .before .before .before .before .before .before .before .before .before .before .before .before .wide .ensures) is))) (z .ensures) (omega (arith, z .kept, e .kept .1 .1 .1 .0, c .before .before .before .before .before .before .before .before .before .before .before .before .before .before .before .before .before .before .before .before .before .lay-start .kept)) (e .kept .1 .1 .1 .1 .0) (c .if1 .taken)
@@ -53,7 +53,7 @@ returns-2 c =
     let e = c .before .before .before .before .before .before .before .before .before .before .shortest in
     let z = c .before .before .before .before .sweep in
     λ th T x.
-    let y = l (th .domains) T (seek-laying x) in
+    let y = l T (seek-laying x) in
     let long = c .before .before .before .before .before .before .before .before .before .before .before .before .before .before .before .before .before .before .before .before .before .lay-start .kept .1 .1 .1 .1 .0 in
     let is = author-utility (seek-ready x y long (c .before .before .before .before .before .before .before .before .before .before .before .before .before .before .before .before .before .wide .ensures)) 0 (c .before .before .before .before .before .before .before .before .before .before .before .before .before .utility .ensures) in
     seek-found x y long (seek-from x y long (c .before .before .before .before .before .before .before .before .before .before .before .before .before .before .before .before .before .wide .ensures) is) (seek-same x y long (e .ensures th (seekTable x y long) (seek-slot x y long) (seek-memory x y long) (seek-base x y long (c .before .before .before .before .before .before .before .before .before .before .before .before .before .before .before .before .before .wide .ensures) is))) (z .ensures) (omega (arith, z .kept, e .kept .1 .1 .1 .0, c .before .before .before .before .before .before .before .before .before .before .before .before .before .before .before .before .before .before .before .before .before .lay-start .kept)) (e .kept .1 .1 .1 .1 .0) (omega (arith, c .if1 .left))

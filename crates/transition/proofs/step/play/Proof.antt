@@ -2,7 +2,8 @@
 use mathlib.Core.Path.{sym, _∙_}
 use native.Mathlib.Omega.{arith}
 use borrow.Author.Needs.{needs}
-use Rattle.transition.proofs.Stepping.{step-copies, step-setting, step-refused, step-writes, step-left}
+use Rattle.chart.proofs.Loading.{read-copies}
+use Rattle.transition.proofs.Stepping.{step-setting, step-refused, step-writes, step-left}
 use Rattle.transition.proofs.step.play.Statement.{statement}
 use Rattle.transition.proofs.step.play.Tie as tie
 
@@ -35,7 +36,7 @@ pub play-spec : {M : Type 1} → statement M
 play-spec =
     tie.close
     (tie.spec
-    (λ c κs. let (p, (T, (n, x))) = c .before .before .before .before .before .before .pre in step-copies x)
+    (λ c κs. let (p, (T, (n, x))) = c .before .before .before .before .before .before .pre in read-copies (x .read) (x .work-room))
     (λ c. search needs)
     step-slot-requires
     (λ c κs. let (p, (T, (n, x))) = c .before .before .before .before .before .before .before .before .before .before .before .before .before .before .before .pre in omega (arith, x .work-room, c .before .before .before .before .step-slot .kept .1 .1 .1 .1 .0, c .before .before .before .before .before .before .before .before .copy-table .ensures .long))
