@@ -4,7 +4,6 @@ use mathlib.Core.Path.{_≡_, refl, sym, ap, ap₂, _∙_, subst}
 use mathlib.Core.Bool.{Bool, _||_}
 use mathlib.Core.Logic.{_≢_}
 use mathlib.Core.List.{List}
-use native.Mathlib.Nat.{mul-le-mul-left, mul-le-mul-right}
 use native.Mathlib.Omega.{arith}
 use lib.ListN.{length, getD, set}
 use borrow.Author.Tests.{le-ltb, lt-leb}
@@ -15,9 +14,8 @@ use Rattle.pack.specs.Grammar.{Dimensions}
 use Rattle.pack.specs.Judge.{Over}
 use Rattle.pack.specs.Layout.{ChartFits}
 use Rattle.pack.specs.Table.{rowsAt}
-use Rattle.pack.specs.Copy.{TableCopyable, TableCopied}
+use Rattle.pack.specs.Copy.{TableCopied}
 use Rattle.pack.specs.declared.table.Table.{Table}
-use Rattle.pack.proofs.Ready.{copied-fits}
 use Rattle.chart.specs.Call.{workRoom, resultAfter, workAfter, cleared}
 use Rattle.partition.specs.Chart.{Starts}
 use Rattle.chart.specs.declared.Charted.the-variants as charted
