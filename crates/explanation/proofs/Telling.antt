@@ -2,17 +2,16 @@
 use Prim.Native.Nat.{ℕ, zero, suc, _+_, _*_, _-_, _<_, _≤_}
 use mathlib.Core.Path.{_≡_, refl, sym, ap, _∙_, subst}
 use mathlib.Core.Bool.{Bool, true, false}
-use mathlib.Core.Logic.{_≢_, by-cases}
-use mathlib.Core.List.{List, [], _∷_, List·Memᴰ}
-use native.Mathlib.Decide.{ℕ-discrete}
-use native.Mathlib.Nat.{mul-suc, mul-le-mul-left, mul-le-mul-right}
+use mathlib.Core.Logic.{_≢_}
+use mathlib.Core.List.{List, [], _∷_}
+use native.Mathlib.Nat.{mul-suc}
 use native.Mathlib.Omega.{arith}
 use lib.ListN.{length, getD}
 use lib.Dec.{ltb}
 use borrow.Author.Count.{below-more}
 use Rattle.pack.specs.Syntax.{Node, Theory, Rule}
 use Rattle.pack.specs.State.{State, belief, meaning, target}
-use Rattle.reading.specs.Reading.{Reader, done, refused, pick, bind, mapped, runs}
+use Rattle.reading.specs.Reading.{Reader, done, refused, pick, mapped, runs}
 use Rattle.reading.specs.Number.{item, between, risingAt}
 use Rattle.pack.specs.Answer.{dims}
 use Rattle.pack.specs.Grammar.{Dimensions, consentersAt, rulesAt}
@@ -31,10 +30,8 @@ use Rattle.partition.specs.Chart.{Starts}
 use Rattle.partition.specs.Laws.Lists.{stands, place}
 use Rattle.partition.specs.Laws.Unique.{some}
 use Rattle.partition.proofs.Cells.{rows-most}
-use Rattle.change.specs.Happening.{nothing, actionOf, Plays, Refuses}
+use Rattle.change.specs.Happening.{nothing, actionOf, Plays}
 use Rattle.transition.specs.Laws.Settled.{plays-one, plays-refuses}
-use Rattle.change.specs.Inner.Cause.{Tabled}
-use Rattle.transition.specs.Inner.Stage.{StageRoom, SlotOnly}
 use Rattle.transition.specs.Inner.Play.{Setting, Left, PlayedIn}
 use Rattle.change.proofs.Changing.{tabled-same, small, row-inside, belief-is, belief-in as inside-table}
 use Rattle.explanation.specs.declared.explain.Shape.{Shape}

@@ -34,7 +34,7 @@ use Rattle.transition.specs.Step.{Outcome, leaves, refused, Steps}
 use Rattle.transition.specs.Answers.{stepTable}
 use Rattle.transition.specs.Replies.{outcomeReply}
 use Rattle.transition.specs.Laws.Step.{step-table, step-table-iff}
-use Rattle.transition.specs.Inner.Cause.{Tabled}
+use Rattle.change.specs.Inner.Cause.{Tabled}
 use Rattle.transition.specs.Inner.Play.{Setting, Left, PlayedIn, Stepping, StepSaid}
 
 -- nodes that are read and copied into the work buffer, over dimensions that they keep

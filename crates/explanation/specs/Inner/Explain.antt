@@ -3,7 +3,7 @@ use mathlib.Core.Path.{_≡_}
 use mathlib.Core.Bool.{Bool, true, false}
 use mathlib.Core.List.{List}
 use Prim.Native.Nat.{ℕ, _+_, _*_, _<_, _≤_}
-use lib.ListN.{length, getD}
+use lib.ListN.{length}
 use Rattle.pack.specs.Syntax.{Node, Theory}
 use Rattle.pack.specs.Answer.{dims}
 use Rattle.pack.specs.Table as table

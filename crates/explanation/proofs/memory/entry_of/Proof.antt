@@ -1,5 +1,5 @@
 -- The place of an entry. Assumes nothing.
-use Prim.Native.Nat.{_+_, _*_, _%_, _<_}
+use Prim.Native.Nat.{_%_, _<_}
 use mathlib.Core.Path.{refl}
 use native.Mathlib.Nat.{mod-lt}
 use native.Mathlib.Omega.{arith}
