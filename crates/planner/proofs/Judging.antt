@@ -12,7 +12,7 @@ use Rattle.pack.specs.Syntax.{Theory, Node, Pack}
 use Rattle.pack.specs.State.{meaning}
 use Rattle.reading.specs.Reading.{Reply, gives, with, told}
 use Rattle.pack.specs.Grammar.{packOf}
-use Rattle.pack.specs.Copy.{TableCopyable, TableCopied}
+use Rattle.pack.specs.Copy.{TableCopied}
 use Rattle.pack.specs.Contents.{PackRead, replied, repliedCount}
 use Rattle.pack.specs.Table.{Above}
 use Rattle.pack.specs.Laws.Exact.{Bytes}
@@ -20,14 +20,13 @@ use Rattle.pack.specs.declared.contents.Contents.{Contents}
 use Rattle.reading.specs.declared.number.Number.{Number}
 use Rattle.reading.specs.declared.number.Number.the-variants as numbers
 use Rattle.pack.specs.declared.table.Table.{Table}
-use Rattle.pack.proofs.Ready.{copied-fits, small-pack}
+use Rattle.pack.proofs.Ready.{small-pack}
 use Rattle.chart.specs.Call.{fits, workRoom, workAfter}
 use Rattle.chart.specs.Replies.{firstOf}
 use Rattle.chart.specs.Laws.Answers.{fits-table}
 use Rattle.chart.specs.Laws.Replies.{chart-fits}
 use Rattle.chart.specs.Inner.Look.{NodesRead}
 use Rattle.partition.specs.Inner.Put.{Cleared}
-use Rattle.partition.proofs.Cells.{rows-most}
 use Rattle.chart.proofs.Calling.{and-true}
 use Rattle.chart.proofs.Loading.{read-small}
 use Rattle.chart.proofs.Looking.{cleared-all}

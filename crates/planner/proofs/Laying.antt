@@ -2,21 +2,16 @@
 use Prim.Native.Nat.{ℕ, _+_, _*_, _-_, _<_, _≤_}
 use mathlib.Core.Path.{_≡_, refl, sym, ap, _∙_, subst}
 use mathlib.Core.List.{List}
-use native.Mathlib.Nat.{mul-le-mul-left, mul-le-mul-right}
 use native.Mathlib.Omega.{arith}
 use lib.ListN.{length, getD, set, length-set}
 use lib.Seq.{getD-set-same, getD-set-other}
 use Rattle.pack.specs.Syntax.{Node}
-use Rattle.pack.specs.State.{State, meaning}
-use Rattle.pack.specs.Answer.{dims}
-use Rattle.pack.specs.Copy.{TableCopyable, TableCopied}
-use Rattle.pack.specs.Table.{rowsAt, Above}
-use Rattle.pack.proofs.Ready.{copied, copied-fits}
-use Rattle.pack.proofs.Tables.{belief-in-table}
-use Rattle.chart.specs.Call.{workRoom}
+use Rattle.pack.specs.State.{meaning}
+use Rattle.pack.specs.Copy.{TableCopied}
+use Rattle.pack.specs.Table.{rowsAt}
 use Rattle.partition.specs.Chart.{Starts}
 use Rattle.partition.specs.Inner.Put.{Cleared, Apart, PartCopied}
-use Rattle.chart.specs.Inner.Start.{Mergeable, Merged}
+use Rattle.chart.specs.Inner.Start.{Merged}
 use Rattle.partition.proofs.Cells.{rows-same}
 use Rattle.chart.proofs.Loading.{read-small, read-same, merged-small}
 use Rattle.explanation.specs.declared.explain.Shape.{Shape}

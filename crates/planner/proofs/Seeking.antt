@@ -5,7 +5,6 @@ use mathlib.Core.Logic.{by-cases}
 use mathlib.Core.Bool.{Bool, _&&_}
 use mathlib.Core.List.{List, [], _++_}
 use native.Mathlib.Decide.{ℕ-discrete, decLe}
-use native.Mathlib.Nat.{mul-le-mul-left, mul-le-mul-right}
 use native.Mathlib.Omega.{arith}
 use lib.ListN.{length, getD, drop}
 use lib.Dec.{leb}
@@ -13,17 +12,14 @@ use borrow.Author.Tests.{leb-true}
 use lib.Seq.{ext-getD}
 use Rattle.pack.specs.Syntax.{Node, Theory, Pack}
 use Rattle.pack.specs.State.{State, meaning}
-use Rattle.reading.specs.Reading.{done, many, Reply, gives, with, told}
-use Rattle.pack.specs.Grammar.{nodeAt}
+use Rattle.reading.specs.Reading.{Reply, gives, with, told}
 use Rattle.pack.specs.Layout.{ChartFits}
-use Rattle.pack.specs.Judge.{Small}
 use Rattle.pack.specs.Contents.{PackRead, replied, repliedCount}
 use Rattle.pack.specs.Laws.Exact.{Bytes}
 use Rattle.pack.specs.Laws.PackExact.{pack-exactly}
 use Rattle.pack.specs.declared.contents.Contents.{Contents}
 use Rattle.reading.specs.declared.number.Number.{Number}
 use Rattle.reading.specs.declared.number.Number.the-variants as numbers
-use Rattle.pack.specs.Answer.{dims}
 use Rattle.pack.specs.Table.{tableOf, Below, Above, cells}
 use Rattle.pack.proofs.Ready.{small-pack}
 use Rattle.pack.proofs.Tables.{cells-at, rows-length}

@@ -5,10 +5,7 @@ use mathlib.Core.List.{List}
 use lib.ListN.{length, getD}
 use Rattle.pack.specs.Syntax.{Node, Theory}
 use Rattle.pack.specs.State.{State, meaning}
-use Rattle.reading.specs.Reading.{done, many, told}
-use Rattle.pack.specs.Answer.{dims}
-use Rattle.pack.specs.Grammar.{nodeAt}
-use Rattle.pack.specs.Copy.{Shaped}
+use Rattle.reading.specs.Reading.{told}
 use Rattle.pack.specs.Table.{tableOf, stateOf, Below, Above}
 use Rattle.chart.specs.Call.{listRoom, workRoom, cleared, resultAfter}
 use Rattle.partition.specs.Chart.{Starts}
