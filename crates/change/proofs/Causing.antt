@@ -40,9 +40,6 @@ module _ (pack : List ℕ) (at whom : ℕ) where
   abbrev pub Telled : (n left : ℕ) → Type 0
   Telled n left = (h : at < length pack) × ((d : Dimensions) → Small d → (es : List Effect) (x : EffectsAt d pack at es) → Left (effectAt d) pack n left (λ xs. told xs whom) es (x .some h .end))
 
-  pub tell-inside : Telling pack at → at < length pack → at < length pack
-  tell-inside t h = h
-
   pub tell-start : (h : at < length pack) (k : ℕ) → getD pack at 0 ≡ k → Telled (at + 1) k
   unfolding effectsAt
   tell-start h k e = (h, λ d small es x. left-start (effectAt d) pack (λ xs. told xs whom) es (x .some h .end) k (at + 1) (counted-starts 17 (effectAt d) pack at es (x .some h .end) (omega arith) (x .some h .reads) k e .0))

@@ -5,7 +5,7 @@ use mathlib.Core.Bool.{Bool, true, false}
 use mathlib.Core.Logic.{by-cases}
 use mathlib.Core.List.{List, _∷_}
 use native.Mathlib.Decide.{decLt}
-use native.Mathlib.Nat.{add-zero, zero-mul, suc-mul, mul-le-mul-left, mul-le-mul-right}
+use native.Mathlib.Nat.{add-zero, zero-mul, suc-mul}
 use native.Mathlib.Omega.{arith}
 use lib.ListN.{length, getD, List·getD-eq-default}
 use lib.Dec.{ltb, leb, eqb}
@@ -18,8 +18,8 @@ use Rattle.pack.specs.State.{Closed, nowhere}
 use Rattle.pack.specs.Answer.{dims}
 use Rattle.pack.specs.Contents.{Gives, PackFound, bodyAt}
 use Rattle.pack.specs.Table.{tableOf, TableFits}
-use Rattle.pack.specs.Judge.{Small, Over, Readable, Judged}
-use Rattle.pack.specs.Copy.{Shaped, TableCopyable, TableCopied}
+use Rattle.pack.specs.Judge.{Small}
+use Rattle.pack.specs.Copy.{Shaped, TableCopied}
 use Rattle.pack.specs.declared.contents.Contents.{Contents}
 use Rattle.pack.specs.declared.table.Table.{Table}
 use Rattle.reading.specs.Laws.Reading.{never-gives, ended-gives, same-value, same-place, same-gift, both, unmapped, passed, failed}
@@ -83,21 +83,6 @@ pub record Given {A B : Type 0} (g : A → B) (x : Reply A) (b : B) : Type 0 whe
 pub given : {A B : Type 0} (g : A → B) (x : Reply A) (b : B) → told g x ≡ gives b → Given g x b
 given g (gives a) b e = record { value = a; gives = refl; told = same-gift e }
 given g (refuses k p) b e = never-gives e
-
--- a table of at most 32 rows over small dimensions has at most 960 bytes behind its count
-pub table-room : (nodes F C : ℕ) → nodes ≤ 32 → F ≤ 24 → C ≤ 6 → nodes * (F + C) ≤ 960
-table-room nodes F C h f c =
-    let a = mul-le-mul-right (F + C) h in
-    let b = mul-le-mul-left {m = F + C} {n = 30} 32 (omega arith) in
-    omega arith
-
--- what is read at a place can be passed over, and judged over a table
-pub gives-readable : {A : Type 0} (p : Dimensions → Reader A) (d : Dimensions) → Small d → (s : List ℕ) (at : ℕ) (a : A) → Gives (p d) s at a → Readable p s at
-gives-readable p d small s at a g = record { over = d; small = small; value = a; end = g .end; reads = g .reads }
-
-pub gives-judged : {A : Type 0} (p : Dimensions → Reader A) (d : Dimensions) (s : List ℕ) (at : ℕ) (a : A) → Gives (p d) s at a
-    → (t : Table) (buffer : List ℕ) (node : ℕ) → TableFits t buffer → node < t .nodes → Over d t → Judged p s at t buffer node
-gives-judged p d s at a g t buffer node fits there over = record { table = fits; there = there; dimensions = d; over = over; value = a; end = g .end; reads = g .reads }
 
 -- the nodes begin one byte after their count
 pub nodes-first : (d : Dimensions) (s : List ℕ) (at : ℕ) (t : List Node) (n : ℕ) → nodesAt d s at ≡ done t n
@@ -187,27 +172,6 @@ module _ (s : List ℕ) (at nodes : ℕ) (was now : List ℕ) (base F C : ℕ) (
     closed = subst (Closed C) (sym copied-nodes) (subst (λ (k : ℕ). Closed k t) (shaped .characters) (nodes-closed d nodes s at t n e));
   }
 
-  pub copied-over : Over d copied
-  copied-over = record { small = shaped .small; characters = shaped .characters; fluents = shaped .fluents }
-
--- the nodes of an accepted pack, and of a chart, can be copied where there is room
+-- the nodes of an accepted pack are rows of so many values and beliefs
 pub pack-shaped : (s places : List ℕ) (p : Pack) (r : Contents) → packOf s ≡ gives p → PackFound s places p r → Shaped (dims (p .theory .characters) (p .theory .domains)) (r .fluents) (r .characters)
 pack-shaped s places p r e f = record { small = small-pack s p e; fluents = f .fluents; characters = f .characters }
-
-pub pack-copyable : (s places : List ℕ) (p : Pack) (r : Contents) → packOf s ≡ gives p → PackFound s places p r
-    → (buffer : List ℕ) (base : ℕ) → (base + 1) + r .nodes * (r .fluents + r .characters) ≤ length buffer → TableCopyable s (r .first) (r .nodes) buffer base (r .fluents) (r .characters)
-pack-copyable s places p r e f buffer base room = record {
-  dimensions = dims (p .theory .characters) (p .theory .domains);
-  sized = pack-shaped s places p r e f;
-  few = f .mostNodes;
-  value = p .nodes;
-  end = f .rows .end;
-  reads = f .rows .reads;
-  room = room;
-}
-
-pub chart-copyable : (p : Theory) (s : List ℕ) (t : List Node) → chartOf p s ≡ gives t → (F C : ℕ) → Shaped (dimensions p) F C
-    → (buffer : List ℕ) (base : ℕ) → (base + 1) + length t * (F + C) ≤ length buffer → TableCopyable s 1 (length t) buffer base F C
-chart-copyable p s t e F C shaped buffer base room =
-    let (reads, few, count) = nodes-first (dimensions p) s 0 t (length s) (chart-nodes p s t e) in
-    record { dimensions = dimensions p; sized = shaped; few = few; value = t; end = length s; reads = reads; room = room }

@@ -188,11 +188,6 @@ module _ (C : ℕ) {K : Type 0} (Real : K → Type 0) (val : K → List ℕ) (ne
       high = λ p h. let x = row-in size w i (omega (arith, g .room)) in r .high p (omega arith) ∙ g .high p h;
     }
 
-  pub going-ordered : (was now : List ℕ) (m size t w f i count : ℕ) → Going was now m size t w f i count → count ≤ i → Ordered C (rowsAt now w f C t count)
-  going-ordered was now m size t w f i count g h =
-      let e : i ≡ count = omega (arith, g .reach) in
-      rw (sym e) (pass-end C Real val next (rowsAt now w f C t i) (λ k. of (keyAt now m size k)) (g .pass) (g .count-met ∙ sym e ∙ sym (rows-length now w f C t i)) .1)
-
   pub going-end : (sem : K → State) → Family C Real sem val next → (was now : List ℕ) (m size t w f i count : ℕ) → Going was now m size t w f i count → count ≤ i
       → Ordered C (rowsAt now w f C t count) × (meaning C (rowsAt now w f C t count) 0 ≡ sem (of (keyAt was m size 0)))
   going-end sem fam was now m size t w f i count g h =

@@ -15,9 +15,6 @@ use borrow.Author.Tests.{leb-true, le-leb}
 true-not-false : {r : Bool} → r ≡ true → r ≡ false → ⊥
 true-not-false p q = let z : _≡_ {A = ℕ} 0 1 = cc in omega arith
 
-pub decided-yes : {P : Type 0} → P → Decides true P
-decided-yes p = record { yes = λ _. p; no = λ _. refl }
-
 pub decided-no : {P : Type 0} → (P → ⊥) → Decides false P
 decided-no n = record { yes = λ e. absurd (true-not-false e refl); no = λ p. absurd (n p) }
 
