@@ -8,18 +8,18 @@ use native.Mathlib.Omega.{arith}
 use lib.ListN.{length, getD}
 use lib.Dec.{eqb}
 use borrow.Author.Tests.{eq-eqb, ne-eqb}
-use Rattle.pack.specs.Syntax.{Effect, Node}
-use Rattle.pack.specs.State.{meaning}
+use Rattle.state.specs.Syntax.{Effect, Node}
+use Rattle.state.specs.State.{meaning}
 use Rattle.reading.specs.Reading.{done}
-use Rattle.pack.specs.Grammar.{Dimensions, conditionAt, effectAt, effectsAt}
-use Rattle.pack.specs.Condition.{holds, write}
-use Rattle.pack.specs.Judge.{Small, Over, Judged}
-use Rattle.pack.specs.Table.{cells, stateOf}
-use Rattle.pack.specs.Write.{Writable, EffectsWritten}
-use Rattle.pack.specs.declared.table.Table.{Table}
-use Rattle.pack.proofs.Judging.{Left, Next, left-start, left-one, left-next, left-none, counted-starts}
-use Rattle.pack.proofs.OneByte.{effect-bytes}
-use Rattle.pack.proofs.Writing.{only-none}
+use Rattle.state.specs.Grammar.{Dimensions, conditionAt, effectAt, effectsAt}
+use Rattle.state.specs.Condition.{holds, write}
+use Rattle.state.specs.Judge.{Small, Over, Judged}
+use Rattle.state.specs.Table.{cells, stateOf}
+use Rattle.state.specs.Write.{Writable, EffectsWritten}
+use Rattle.state.specs.declared.table.Table.{Table}
+use Rattle.state.proofs.Judging.{Left, Next, left-start, left-one, left-next, left-none, counted-starts}
+use Rattle.state.proofs.OneByte.{effect-bytes}
+use Rattle.state.proofs.Writing.{only-none}
 use Rattle.change.specs.Inner.Cause.{told, EffectsAt, Telling, ToldWritten, Watched, Took}
 
 -- effects that are not meant for whom write nothing for whom
@@ -100,7 +100,7 @@ module _ (pack places work : List ℕ) (observed m c : ℕ) (t : Table) where
       record { table = w .stands .fits; there = w .row; dimensions = w .dimensions; over = w .stands .over; value = w .observes .condition ne c (w .character); end = g .end; reads = g .reads }
 
   pub took-judged : {r : Bool} → Watched pack places observed work t m c → observed ≢ 327
-      → ((d : Dimensions) → Over d t → (x : Rattle.pack.specs.Syntax.Condition) (n : ℕ) → conditionAt d pack (getD places (observed + c) 0) ≡ done x n → r ≡ holds (stateOf t work m) x) → Took pack places observed work t m c r
+      → ((d : Dimensions) → Over d t → (x : Rattle.state.specs.Syntax.Condition) (n : ℕ) → conditionAt d pack (getD places (observed + c) 0) ≡ done x n → r ≡ holds (stateOf t work m) x) → Took pack places observed work t m c r
   took-judged w ne f d table takes s o =
       let g = o .stands ne c (w .character) in
       f d (s .over) (o .condition ne c (w .character)) (g .end) (g .reads)

@@ -10,13 +10,13 @@ use lib.ListN.{length, getD, set}
 use lib.Seq.{getD-set-same, getD-set-other}
 use borrow.Author.Tests.{eq-eqb, ne-eqb}
 use borrow.Author.Count.{below-more}
-use Rattle.pack.specs.Syntax.{Node}
-use Rattle.pack.specs.State.{node, target, Closed}
-use Rattle.pack.specs.Grammar.{Dimensions}
-use Rattle.pack.specs.Condition.{write}
-use Rattle.pack.specs.Table.{cells, tableOf, Below}
-use Rattle.pack.specs.declared.table.Table.{Table}
-use Rattle.pack.proofs.Tables.{belief-at, rows-length}
+use Rattle.state.specs.Syntax.{Node}
+use Rattle.state.specs.State.{node, target, Closed}
+use Rattle.state.specs.Grammar.{Dimensions}
+use Rattle.state.specs.Condition.{write}
+use Rattle.state.specs.Table.{cells, tableOf, Below}
+use Rattle.state.specs.declared.table.Table.{Table}
+use Rattle.state.proofs.Tables.{belief-at, rows-length}
 use Rattle.partition.proofs.Cells.{cells-same, row-in, rows-node, rows-same}
 use Rattle.partition.specs.Inner.Put.{PartCopied}
 use Rattle.change.specs.declared.change.Change.{Change}
@@ -104,13 +104,13 @@ module _ {s : Scene} {pack places effects work : List ℕ} {h : Change} {t : Tab
   watched m c l g = record { dimensions = s .dimensions; table = T; stands = x .tabled; takes = s .takes; observes = x .observes; row = l; character = g }
 
   -- whether a row tells a character something, as it is read
-  tells-is : {r : Bool} (m d : ℕ) → m < t .nodes → ((d′ : Dimensions) → Rattle.pack.specs.Judge.Small d′ → (es : List Rattle.pack.specs.Syntax.Effect) → EffectsAt d′ pack (getD effects m 0) es → r ≡ told es (d + 1)) → tells s C m d ≡ r
+  tells-is : {r : Bool} (m d : ℕ) → m < t .nodes → ((d′ : Dimensions) → Rattle.state.specs.Judge.Small d′ → (es : List Rattle.state.specs.Syntax.Effect) → EffectsAt d′ pack (getD effects m 0) es → r ≡ told es (d + 1)) → tells s C m d ≡ r
   tells-is m d l f = ap (told (s .causes (at s C m))) (sym (add-one d)) ∙ sym (f (s .dimensions) (x .tabled .over .small) (s .causes (at s C m)) (x .effects-stand m l))
 
   took-is : {r : Bool} (m c : ℕ) → Took pack places (h .observed) work t m c r → s .takes (at s C m) c ≡ r
   took-is m c f = sym (f (s .dimensions) T (s .takes) (x .tabled) (x .observes))
 
-  module _ {m d : ℕ} (hm : m < t .nodes) (hd : d < C) {r : Bool} (told-r : (d′ : Dimensions) → Rattle.pack.specs.Judge.Small d′ → (es : List Rattle.pack.specs.Syntax.Effect) → EffectsAt d′ pack (getD effects m 0) es → r ≡ told es (d + 1)) where
+  module _ {m d : ℕ} (hm : m < t .nodes) (hd : d < C) {r : Bool} (told-r : (d′ : Dimensions) → Rattle.state.specs.Judge.Small d′ → (es : List Rattle.state.specs.Syntax.Effect) → EffectsAt d′ pack (getD effects m 0) es → r ≡ told es (d + 1)) where
     pub slot-told : r ≡ true → SlotIs h (t .nodes) (believed s C m d) (m * 7 + d)
     slot-told e =
         let yes : tells s C m d ≡ true = tells-is m d hm told-r ∙ e in

@@ -4,8 +4,8 @@ use mathlib.Core.Path.{_≡_, refl, sym, ap, _∙_, subst}
 use mathlib.Core.List.{List}
 use native.Mathlib.Omega.{arith}
 use lib.ListN.{length, getD}
-use Rattle.pack.specs.Table.{Below, Above}
-use Rattle.pack.specs.declared.table.Table.{Table}
+use Rattle.state.specs.Table.{Below, Above}
+use Rattle.state.specs.declared.table.Table.{Table}
 use Rattle.partition.specs.Inner.Numbers.{Numbering, Named, Given, keyAt}
 use Rattle.partition.proofs.Cells.{row-in}
 use Rattle.partition.proofs.Numbering.{few}

@@ -5,9 +5,9 @@ use mathlib.Core.Bool.{Bool, true, false, cond}
 use mathlib.Core.Option.{Option, none, some}
 use mathlib.Core.List.{List, [], _∷_}
 use lib.ListN.{getD, length}
-use Rattle.pack.specs.Syntax.{Effect, Action, Trigger, Theory}
-use Rattle.pack.specs.State.{State, belief, after, Valid}
-use Rattle.pack.specs.Condition.{holds, write}
+use Rattle.state.specs.Syntax.{Effect, Action, Trigger, Theory}
+use Rattle.state.specs.State.{State, belief, after, Valid}
+use Rattle.state.specs.Condition.{holds, write}
 use Rattle.partition.specs.States.{AtMost}
 
 -- f of the values where the chain has ended: what is written into a belief is written into its own values, and into nothing that it believes in turn

@@ -1,13 +1,13 @@
 // What takes effect where: effects at a place of the pack, none at a place behind its end, and who takes part.
-use pack::judge::holds;
-use pack::table::Table;
-use pack::write::write_effects;
 use reading::number::wide;
+use state::judge::holds;
+use state::table::Table;
+use state::write::write_effects;
 ghost use mathlib.Core.Path.{_≡_};
 ghost use mathlib.Core.List.{List};
-ghost use Rattle.pack.specs.Syntax.{Effect};
-ghost use Rattle.pack.specs.Grammar.{Dimensions};
-ghost use Rattle.pack.specs.Judge.{Small};
+ghost use Rattle.state.specs.Syntax.{Effect};
+ghost use Rattle.state.specs.Grammar.{Dimensions};
+ghost use Rattle.state.specs.Judge.{Small};
 ghost use Rattle.change.specs.Inner.Cause.{told, EffectsAt, Telling, Tellable, ToldWritten, Watched, Took};
 
 // Whether some effect at a place is meant for whom.

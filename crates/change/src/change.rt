@@ -3,13 +3,13 @@
 use crate::cause::takes;
 use crate::cause::tells;
 use crate::cause::write_told;
-use pack::table::Table;
 use partition::bytes::clear;
 use partition::bytes::copy_part;
 use partition::number::more;
 use partition::number::name_beliefs;
 use partition::number::number_of;
 use reading::number::wide;
+use state::table::Table;
 ghost use Prim.Native.Nat.{_+_, _*_, _<_, _≤_};
 ghost use lib.ListN.{length};
 ghost use Rattle.partition.specs.Inner.Numbers.{Numbering, keyAt};

@@ -6,9 +6,9 @@ use mathlib.Core.List.{List, []}
 use native.Mathlib.Omega.{arith}
 use lib.ListN.{length}
 use borrow.Author.Tests.{leb-true}
-use Rattle.pack.specs.Syntax.{Node, Pack}
+use Rattle.state.specs.Syntax.{Node, Pack}
 use Rattle.reading.specs.Reading.{Reply, gives, with, told}
-use Rattle.pack.specs.Layout.{chartBytes, ChartFits}
+use Rattle.state.specs.Layout.{chartBytes, ChartFits}
 use Rattle.pack.specs.Contents.{PackRead, replied, repliedCount}
 use Rattle.pack.specs.Laws.Exact.{Bytes}
 use Rattle.pack.specs.Laws.PackExact.{pack-exactly}

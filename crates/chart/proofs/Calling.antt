@@ -7,7 +7,7 @@ use native.Mathlib.Omega.{arith}
 use lib.ListN.{length, getD}
 use lib.Dec.{ltb}
 use borrow.Author.Tests.{lt-ltb, le-ltb, ltb-true}
-use Rattle.pack.specs.State.{Valid}
+use Rattle.state.specs.State.{Valid}
 use Rattle.reading.specs.Reading.{Reply, gives, refuses, with, pick}
 use Rattle.pack.specs.Contents.{replied, repliedCount}
 use Rattle.reading.specs.declared.number.Checked.{Checked}

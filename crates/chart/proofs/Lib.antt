@@ -4,12 +4,6 @@ pub mod Calling
 pub mod Checking
 pub mod Loading
 pub mod Looking
-pub mod Joining
 pub mod Asking
 pub mod Starting
 pub mod Beginning
-pub mod Pairing
-pub mod Seeking
-pub mod Tracing
-pub mod Matching
-pub mod Comparing

@@ -6,12 +6,12 @@ use mathlib.Core.List.{List, _++_}
 use native.Mathlib.Decide.{decLt}
 use native.Mathlib.Omega.{arith}
 use lib.ListN.{length, drop, set}
-use Rattle.pack.specs.Syntax.{Node}
-use Rattle.pack.specs.State.{meaning, Closed}
-use Rattle.pack.specs.Table.{rowsAt}
-use Rattle.pack.specs.Layout.{chartBytes, ChartFits}
-use Rattle.pack.specs.Copy.{TableCopied}
-use Rattle.pack.proofs.Tables.{rows-length}
+use Rattle.state.specs.Syntax.{Node}
+use Rattle.state.specs.State.{meaning, Closed}
+use Rattle.state.specs.Table.{rowsAt}
+use Rattle.state.specs.Layout.{chartBytes, ChartFits}
+use Rattle.state.specs.Copy.{TableCopied}
+use Rattle.state.proofs.Tables.{rows-length}
 use Rattle.chart.specs.Answers.{startTable}
 use Rattle.chart.specs.Call.{workRoom}
 use Rattle.partition.specs.Inner.Numbers.{Laid, Copied, Sound}

@@ -7,6 +7,5 @@ pub mod Tables
 pub mod Comparing
 pub mod Answers
 pub mod Replies
-pub mod Breadth
 pub mod Needed
 pub mod NoVerdict

@@ -8,7 +8,7 @@ ghost use mathlib.Core.Bool.{_&&_};
 ghost use lib.ListN.{length};
 ghost use lib.Dec.{ltb, leb};
 ghost use Rattle.reading.specs.Reading.{gives, refuses, with, told, pick, whole};
-ghost use Rattle.pack.specs.Grammar.{nodesAt, inChart};
+ghost use Rattle.state.specs.Grammar.{nodesAt, inChart};
 ghost use Rattle.pack.specs.Answer.{dims};
 ghost use Rattle.pack.specs.Contents.{replied, repliedCount};
 ghost use Rattle.chart.specs.Replies.{allBelow};

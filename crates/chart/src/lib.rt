@@ -1,7 +1,5 @@
-// The chart layer: states of nested belief, written as charts and compared. What it promises stands in specs/; here are the answers that its public calls hand back.
+// The chart layer: states of nested belief, written as charts. What its public calls promise stands in specs/; here are the answers that they hand back. Compare itself is crate difference.
 pub mod call;
-pub mod compare;
-pub mod pairs;
 pub mod query;
 pub mod start;
 

@@ -5,13 +5,13 @@ use crate::call::both_at_most;
 use crate::call::check_lent;
 use crate::call::unless_refused;
 use pack::contents::read_contents;
-use pack::copy::copy_table;
 use partition::bytes::clear;
 use partition::bytes::copy_part;
 use partition::merge::write_merged;
 use partition::partition::partition;
 use partition::write::write_chart;
 use reading::number::Number;
+use state::copy::copy_table;
 ghost use Rattle.chart.specs.Promises.{Started};
 ghost use Rattle.chart.specs.Inner.Start.{Mergeable, Merged, Startable, StartPut};
 

@@ -8,18 +8,18 @@ use lib.ListN.{length, getD}
 use lib.Dec.{eqb}
 use borrow.Author.Count.{below-more}
 use borrow.Author.Tests.{eq-eqb, ne-eqb, lt-ltb, le-ltb}
-use Rattle.pack.specs.Syntax.{Effect, Trigger, Test, Condition, Rule, Theory}
-use Rattle.pack.specs.State.{State}
+use Rattle.state.specs.Syntax.{Effect, Trigger, Test, Condition, Rule, Theory}
+use Rattle.state.specs.State.{State}
 use Rattle.reading.specs.Reading.{Reading, done, Reader, pick}
 use Rattle.reading.specs.Number.{counted, numberAt}
-use Rattle.pack.specs.Grammar.{Dimensions, dimensions, testAt, conditionAt, rulesAt, ruleAt, effectAt, effectsAt}
-use Rattle.pack.specs.Condition.{compares, passes, holds, utility}
+use Rattle.state.specs.Grammar.{Dimensions, dimensions, testAt, conditionAt, rulesAt, ruleAt, effectAt, effectsAt}
+use Rattle.state.specs.Condition.{compares, passes, holds, utility}
 use Rattle.pack.specs.Contents.{Gives}
-use Rattle.pack.specs.Judge.{alternativeAt, Small, Over, Readable, Judged}
-use Rattle.pack.specs.Table.{stateOf, bytesAt}
-use Rattle.pack.specs.declared.table.Table.{Table}
-use Rattle.pack.proofs.Judging.{Left, Next, left-start, left-one, left-next, left-none, counted-starts, test-ends, RuleParts, rule-parts}
-use Rattle.pack.proofs.OneByte.{test-bytes, effect-bytes}
+use Rattle.state.specs.Judge.{alternativeAt, Small, Over, Readable, Judged}
+use Rattle.state.specs.Table.{stateOf, bytesAt}
+use Rattle.state.specs.declared.table.Table.{Table}
+use Rattle.state.proofs.Judging.{Left, Next, left-start, left-one, left-next, left-none, counted-starts, test-ends, RuleParts, rule-parts}
+use Rattle.state.proofs.OneByte.{test-bytes, effect-bytes}
 use Rattle.change.specs.Happening.{nothing, actionOf}
 use Rattle.transition.specs.Laws.Still.{writes, triggerWrites, plays-still, couldAt, couldPass, couldAll, couldHold, couldExceed, no-exceed}
 use Rattle.explanation.specs.Inner.Look.{movedBy, Acting, Acted, Moved, Looking, Lookable, Looked, Tryable, Hopeless}

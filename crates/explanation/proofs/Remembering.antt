@@ -9,10 +9,10 @@ use native.Mathlib.Nat.{mul-comm, zero-mul, div-add-mod, mod-lt}
 use native.Mathlib.Omega.{arith}
 use lib.ListN.{length, getD, set, length-set}
 use lib.Seq.{getD-set-same, getD-set-other}
-use Rattle.pack.specs.Syntax.{Node, Theory}
-use Rattle.pack.specs.State.{State, meaning}
+use Rattle.state.specs.Syntax.{Node, Theory}
+use Rattle.state.specs.State.{State, meaning}
 use Rattle.reading.specs.Reading.{pick}
-use Rattle.pack.specs.Table.{rowsAt, tableOf, stateOf}
+use Rattle.state.specs.Table.{rowsAt, tableOf, stateOf}
 use Rattle.chart.specs.Call.{workRoom}
 use Rattle.partition.specs.Inner.Put.{Cleared, PartCopied}
 use Rattle.partition.specs.Inner.Level.{Agrees, SameByte}

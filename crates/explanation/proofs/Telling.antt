@@ -9,22 +9,22 @@ use native.Mathlib.Omega.{arith}
 use lib.ListN.{length, getD}
 use lib.Dec.{ltb}
 use borrow.Author.Count.{below-more}
-use Rattle.pack.specs.Syntax.{Node, Theory, Rule}
-use Rattle.pack.specs.State.{State, belief, meaning, target}
+use Rattle.state.specs.Syntax.{Node, Theory, Rule}
+use Rattle.state.specs.State.{State, belief, meaning, target}
 use Rattle.reading.specs.Reading.{Reader, done, refused, pick, mapped, runs}
 use Rattle.reading.specs.Number.{item, between, risingAt}
 use Rattle.pack.specs.Answer.{dims}
-use Rattle.pack.specs.Grammar.{Dimensions, consentersAt, rulesAt}
-use Rattle.pack.specs.Condition as condition
+use Rattle.state.specs.Grammar.{Dimensions, consentersAt, rulesAt}
+use Rattle.state.specs.Condition as condition
 use Rattle.pack.specs.Contents.{Gives}
-use Rattle.pack.specs.Judge.{Over, Judged, Small, Readable}
-use Rattle.pack.specs.Table.{rowsAt, tableOf, stateOf, Below, Above}
+use Rattle.state.specs.Judge.{Over, Judged, Small, Readable}
+use Rattle.state.specs.Table.{rowsAt, tableOf, stateOf, Below, Above}
 use Rattle.reading.specs.Laws.Reading.{both, unmapped, failed}
-use Rattle.pack.specs.Laws.Table.{belief-in}
-use Rattle.pack.specs.declared.table.Table.{Table}
-use Rattle.pack.proofs.Laws.{between-within}
-use Rattle.pack.proofs.OneByte.{consenter-bytes}
-use Rattle.pack.proofs.Tables.{rows-length}
+use Rattle.state.specs.Laws.Table.{belief-in}
+use Rattle.state.specs.declared.table.Table.{Table}
+use Rattle.reading.specs.Laws.Number.{between-within}
+use Rattle.state.proofs.OneByte.{consenter-bytes}
+use Rattle.state.proofs.Tables.{rows-length}
 use Rattle.chart.specs.Call.{workRoom}
 use Rattle.partition.specs.Chart.{Starts}
 use Rattle.partition.specs.Laws.Lists.{stands, place}
@@ -151,7 +151,7 @@ module _ {th : Theory} {T : List Node} {pack places : List ℕ} {h : Shape} {was
           fits = record {
             wide = refl;
             inside = omega (arith, rows-small, f, long, x .room);
-            closed = subst (λ (c : ℕ). Rattle.pack.specs.State.Closed c nextTable) (sym (x .same-characters)) (starts .0 .ordered .closed);
+            closed = subst (λ (c : ℕ). Rattle.state.specs.State.Closed c nextTable) (sym (x .same-characters)) (starts .0 .ordered .closed);
           };
           same = refl;
           few = left .few;

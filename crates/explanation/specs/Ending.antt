@@ -3,9 +3,9 @@ use Prim.Native.Nat.{ℕ, zero, suc, _<_, _≤_}
 use mathlib.Core.Path.{_≡_}
 use mathlib.Core.List.{List, [], _∷_, List·Memᴰ}
 use lib.ListN.{getD, length}
-use Rattle.pack.specs.Syntax.{Theory}
-use Rattle.pack.specs.State.{State, belief}
-use Rattle.pack.specs.Condition.{utility}
+use Rattle.state.specs.Syntax.{Theory}
+use Rattle.state.specs.State.{State, belief}
+use Rattle.state.specs.Condition.{utility}
 use Rattle.change.specs.Happening.{Plays, actionOf}
 
 -- "worths, the author's first, then each character's"

@@ -1,23 +1,23 @@
 // A look before an action is tried: no step is made for one whose condition fails, nor for a last one after which no rule above some utility could hold. What effects may write, and what is believed, is left open.
 use crate::explain::Shape;
-use pack::judge::after_alternative;
-use pack::judge::after_condition;
-use pack::judge::holds;
-use pack::judge::passes;
-use pack::table::Table;
 use reading::number::Number;
 use reading::number::read_number;
 use reading::number::wide;
+use state::judge::after_alternative;
+use state::judge::after_condition;
+use state::judge::holds;
+use state::judge::passes;
+use state::table::Table;
 ghost use Prim.Native.Nat.{ℕ};
 ghost use mathlib.Core.Path.{_≡_};
 ghost use mathlib.Core.Bool.{Bool, false, _&&_};
 ghost use mathlib.Core.List.{List};
 ghost use lib.Dec.{eqb};
-ghost use Rattle.pack.specs.Syntax.{Effect};
-ghost use Rattle.pack.specs.State.{State};
-ghost use Rattle.pack.specs.Grammar.{Dimensions, testAt, conditionAt, rulesAt, effectAt, effectsAt};
+ghost use Rattle.state.specs.Syntax.{Effect};
+ghost use Rattle.state.specs.State.{State};
+ghost use Rattle.state.specs.Grammar.{Dimensions, testAt, conditionAt, rulesAt, effectAt, effectsAt};
 ghost use Rattle.pack.specs.Contents.{Gives};
-ghost use Rattle.pack.specs.Judge.{alternativeAt, Small, Readable};
+ghost use Rattle.state.specs.Judge.{alternativeAt, Small, Readable};
 ghost use Rattle.transition.specs.Laws.Still as still;
 ghost use Rattle.explanation.specs.Inner.Look.{Acted, Moved, Lookable, Looked, Tryable, Hopeless};
 

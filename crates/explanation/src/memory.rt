@@ -7,8 +7,8 @@ ghost use mathlib.Core.Path.{_≡_};
 ghost use mathlib.Core.Bool.{true};
 ghost use Prim.Native.Nat.{ℕ, _+_, _*_, _<_, _≤_};
 ghost use lib.ListN.{length, getD};
-ghost use Rattle.pack.specs.Syntax.{Theory};
-ghost use Rattle.pack.specs.Table.{stateOf};
+ghost use Rattle.state.specs.Syntax.{Theory};
+ghost use Rattle.state.specs.Table.{stateOf};
 ghost use Rattle.explanation.specs.Inner.Lists.{slotTable};
 ghost use Rattle.explanation.specs.Inner.Memory.{Fact, Memory, Slotted, Place, Storable, Remembered, KeyPut, keyAt};
 

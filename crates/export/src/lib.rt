@@ -3,14 +3,14 @@
 use chart::Charted;
 use chart::Matched;
 use chart::Queried;
-use chart::compare::compare;
 use chart::query::query;
 use chart::start::start;
+use difference::compare::compare;
 use planner::Found;
 use planner::Judged;
 use planner::judge::judge;
 use planner::search::search;
-use transition::step::step;
+use step::play::step;
 ghost use mathlib.Core.Path.{_≡_};
 ghost use mathlib.Core.List.{[], _∷_};
 ghost use lib.ListN.{set};

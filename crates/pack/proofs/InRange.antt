@@ -8,7 +8,7 @@ use lib.ListN.{length, getD}
 use borrow.Author.Tests.{lt-ltb, le-ltb}
 use Rattle.reading.specs.Reading.{done, mapped, many}
 use Rattle.reading.specs.Number.{between, item}
-use Rattle.pack.specs.Grammar.{testAt}
+use Rattle.state.specs.Grammar.{testAt}
 use Rattle.reading.specs.Said.{forget}
 use Rattle.pack.specs.Answer.{dims, claimAt}
 use Rattle.pack.specs.Laws.Accepts.{one}

@@ -1,4 +1,4 @@
--- What the functions' proofs cite: one of a run and the rest, and the limits of a number that was read. Assumes nothing.
+-- What the functions' proofs cite: one of a run and the rest, and what a number that was read is below. Assumes nothing.
 use Prim.Native.Nat.{ℕ, zero, suc, _+_, _-_, _<_, _≤_}
 use mathlib.Core.Path.{_≡_, refl, sym, ap, _∙_}
 use mathlib.Core.List.{List, [], _∷_, _++_, append-assoc, append-nil}
@@ -7,15 +7,15 @@ use native.Mathlib.Omega.{arith}
 use lib.ListN.{length, take, set}
 use lib.Seq.{take-suc-set}
 use lib.Dec.{ltb}
-use borrow.Author.Tests.{ltb-true, ltb-false}
 use Rattle.reading.specs.Reading.{Reading, done, refused, Reader, pick, bind, mapped, runs, many}
 use Rattle.reading.specs.Number.{numberAt, between, item, counted, beliefAt, risingAt}
-use Rattle.pack.specs.Grammar.{Dimensions, testAt, conditionAt, effectAt, effectsAt, consentersAt, actionAt, triggerAt, ruleAt, rulesAt, theoryAt, nodeAt, nodesAt}
+use Rattle.state.specs.Grammar.{Dimensions, testAt, conditionAt, effectAt, effectsAt, consentersAt, actionAt, triggerAt, ruleAt, rulesAt, theoryAt, nodeAt, nodesAt}
 use Rattle.reading.specs.Said.{forget, answered}
 use Rattle.pack.specs.Answer.{claimAt, valuesAt}
 use Rattle.reading.specs.declared.number.Checked.{Checked}
 use Rattle.reading.specs.declared.number.Checked.the-variants.{Passed, Refused}
-use Rattle.reading.specs.Laws.Reading.{mapped-mapped, mapped-bind, bind-mapped, bind-bind, both, passed, failed, same-value}
+use Rattle.reading.specs.Laws.Number.{between-within}
+use Rattle.reading.specs.Laws.Reading.{mapped-mapped, mapped-bind, bind-mapped, bind-bind, both, failed, same-value}
 
 -- nothing is left to read
 pub runs-none : {S A B : Type 0} (p : S → Reader A) (next : S → A → S) (z : S) (g : List A → B) (k : ℕ) (s : List ℕ) (at : ℕ) → k ≤ 0 → mapped g (runs p next z k s at) ≡ done (g []) at
@@ -41,16 +41,6 @@ many-forget p (suc k) s at h = simp (sub-one, mapped-bind, bind-mapped, mapped-m
 pub three-forget : {A B C D X Y : Type 0} (g : A → X) (h : B → Y) (mk : A → B → C → D) (x : Reading A) (y : ℕ → Reading B) (z : ℕ → Reading C)
     → mapped forget (bind x (λ a n. bind (y n) (λ b n. mapped (mk a b) (z n)))) ≡ bind (mapped g x) (λ k n. bind (mapped h (y n)) (λ l n. mapped forget (z n)))
 three-forget g h mk x y z = simp (mapped-bind, bind-mapped, mapped-mapped)
-
--- a number that is read between limits is within them
-pub between-within : (low limit number : ℕ) (s : List ℕ) (at v n : ℕ) → between low limit number s at ≡ done v n → (low ≤ v) × (v < limit)
-unfolding between
-between-within low limit number s at v n e =
-    let b = both (numberAt s at) (λ v n. pick (ltb v low) (refused number at) (pick (ltb v limit) (done v n) (refused number at))) v n e in
-    let (under, rest) = failed (ltb (b .value) low) number at (pick (ltb (b .value) limit) (done (b .value) (b .place)) (refused number at)) v n (b .right) in
-    let (below, given) = passed (ltb (b .value) limit) number at (done (b .value) (b .place)) v n rest in
-    let same = same-value given in
-    (omega (arith, ltb-false (b .value) low under), omega (arith, ltb-true (b .value) limit below))
 
 -- a consenter that is read is one of the characters
 pub rising-below : (characters least : ℕ) (s : List ℕ) (at v n : ℕ) → risingAt characters least s at ≡ done v n → v < characters

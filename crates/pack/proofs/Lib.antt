@@ -2,11 +2,6 @@ pub mod Laws
 pub mod Marks
 pub mod Found
 pub mod Low
-pub mod Tables
-pub mod OneByte
 pub mod InRange
-pub mod Judging
-pub mod Writing
-pub mod Copying
 pub mod Ready
 pub mod Opening

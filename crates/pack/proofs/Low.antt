@@ -6,10 +6,10 @@ use mathlib.Core.List.{List, _∷_}
 use native.Mathlib.Omega.{arith}
 use lib.ListN.{length, getD}
 use lib.Dec.{ltb, leb, eqb}
-use Rattle.pack.specs.Syntax.{Theory, Node}
+use Rattle.state.specs.Syntax.{Theory, Node}
 use Rattle.reading.specs.Reading.{Reading, done, refused, Reader, pick, bind, mapped, runs, many, Reply, gives, refuses, ended, whole}
 use Rattle.reading.specs.Number.{numberAt, between, item, counted, beliefAt, risingAt}
-use Rattle.pack.specs.Grammar.{Dimensions, headAt, fluentAt, valueAt, nodeAt, nodesAt, testAt, conditionAt, effectAt, effectsAt, consentersAt, actionAt, triggerAt, ruleAt, rulesAt, theoryAt, packAt, packOf, inChart, dimensions, chartOf}
+use Rattle.state.specs.Grammar.{Dimensions, headAt, fluentAt, valueAt, nodeAt, nodesAt, testAt, conditionAt, effectAt, effectsAt, consentersAt, actionAt, triggerAt, ruleAt, rulesAt, theoryAt, packAt, packOf, inChart, dimensions, chartOf}
 use Rattle.reading.specs.Laws.Reading.{never-gives, same-number}
 
 abbrev pub Low : {A : Type 0} → Reading A → Type 0

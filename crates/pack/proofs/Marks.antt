@@ -9,7 +9,7 @@ use native.Mathlib.Omega.{arith}
 use lib.ListN.{length, getD, set, length-set}
 use lib.Seq.{getD-set-same, getD-set-other}
 use Rattle.reading.specs.Reading.{Reading, done, refused, Reader, bind, mapped, runs, many}
-use Rattle.pack.specs.Grammar.{Dimensions, conditionAt, effectsAt, consentersAt}
+use Rattle.state.specs.Grammar.{Dimensions, conditionAt, effectsAt, consentersAt}
 use Rattle.reading.specs.Said.{forget, whenPassed}
 use Rattle.pack.specs.Places.{Ends, Marked, KeptBelow, ActionParts, TriggerParts}
 use Rattle.reading.specs.declared.number.Checked.{Checked}

@@ -6,7 +6,7 @@ use lib.ListN.{length, getD, take}
 use Rattle.reading.specs.Reading.{Reading, Reader, bind, mapped, runs, many}
 use Rattle.reading.specs.Number.{between, item}
 use Rattle.reading.specs.Said.{answered, forget}
-use Rattle.pack.specs.Grammar.{Dimensions, headAt}
+use Rattle.state.specs.Grammar.{Dimensions, headAt}
 use Rattle.pack.specs.declared.head.Domains.{Domains}
 use Rattle.pack.specs.declared.head.Head.{Head}
 

@@ -4,9 +4,9 @@ use Prim.Native.Nat.{ℕ, _+_, _*_, _<_, _≤_}
 use mathlib.Core.Path.{_≡_}
 use mathlib.Core.List.{List, []}
 use lib.ListN.{length, getD, take}
-use Rattle.pack.specs.Syntax.{Action, Trigger, Theory, Pack}
+use Rattle.state.specs.Syntax.{Action, Trigger, Theory, Pack}
 use Rattle.reading.specs.Reading.{done, Reader, bind, mapped, many, Reply, gives, refuses, told}
-use Rattle.pack.specs.Grammar.{Dimensions, nodeAt, nodesAt, packAt, conditionAt, effectsAt, consentersAt, rulesAt, theoryAt, packOf}
+use Rattle.state.specs.Grammar.{Dimensions, nodeAt, nodesAt, packAt, conditionAt, effectsAt, consentersAt, rulesAt, theoryAt, packOf}
 use Rattle.reading.specs.Said.{shown, forget}
 use Rattle.pack.specs.Answer.{dims}
 use Rattle.reading.specs.declared.number.Number.{Number}

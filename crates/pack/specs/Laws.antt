@@ -1,5 +1,3 @@
-pub mod Table
-pub mod Fits
 pub mod Accepts
 pub mod PackBack
 pub mod Exact

@@ -1,13 +1,4 @@
-pub mod Syntax
-pub mod State
-pub mod Condition
-pub mod Grammar
-pub mod Layout
 pub mod Answer
 pub mod Places
 pub mod Contents
-pub mod Table
-pub mod Judge
-pub mod Write
-pub mod Copy
 pub mod Laws

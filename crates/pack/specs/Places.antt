@@ -5,7 +5,7 @@ use mathlib.Core.List.{List}
 use lib.ListN.{length, getD}
 use Rattle.reading.specs.Reading.{done, Reader, mapped, many}
 use Rattle.reading.specs.Number.{between, counted}
-use Rattle.pack.specs.Grammar.{Dimensions, conditionAt, effectsAt, consentersAt, actionAt, triggerAt, rulesAt}
+use Rattle.state.specs.Grammar.{Dimensions, conditionAt, effectsAt, consentersAt, actionAt, triggerAt, rulesAt}
 use Rattle.reading.specs.Said.{said, shown, forget, whenPassed, whenIs}
 use Rattle.reading.specs.declared.number.Number.{Number}
 use Rattle.reading.specs.declared.number.Checked.{Checked}

@@ -8,7 +8,7 @@ use reading::number::wide;
 ghost use mathlib.Core.Path.{_≡_};
 ghost use Rattle.reading.specs.Reading.{mapped, many};
 ghost use Rattle.reading.specs.Number.{item, counted};
-ghost use Rattle.pack.specs.Grammar.{testAt, conditionAt};
+ghost use Rattle.state.specs.Grammar.{testAt, conditionAt};
 ghost use Rattle.reading.specs.Said.{shown, forget};
 ghost use Rattle.pack.specs.Answer.{dims, claimAt};
 

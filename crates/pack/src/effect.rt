@@ -7,7 +7,7 @@ use reading::number::read_rising;
 ghost use mathlib.Core.Path.{_≡_};
 ghost use Prim.Native.Nat.{_+_, _≤_};
 ghost use Rattle.reading.specs.Reading.{mapped};
-ghost use Rattle.pack.specs.Grammar.{effectAt, effectsAt, consentersAt};
+ghost use Rattle.state.specs.Grammar.{effectAt, effectsAt, consentersAt};
 ghost use Rattle.reading.specs.Said.{shown, forget};
 ghost use Rattle.pack.specs.Answer.{dims};
 

@@ -9,7 +9,7 @@ ghost use lib.ListN.{length};
 ghost use Prim.Native.Nat.{_+_};
 ghost use Rattle.reading.specs.Reading.{mapped, many, told, whole};
 ghost use Rattle.reading.specs.Number.{beliefAt};
-ghost use Rattle.pack.specs.Grammar.{nodeAt, nodesAt, inChart};
+ghost use Rattle.state.specs.Grammar.{nodeAt, nodesAt, inChart};
 ghost use Rattle.reading.specs.Said.{shown, said, forget};
 ghost use Rattle.pack.specs.Answer.{dims, valuesAt};
 ghost use Rattle.pack.specs.Contents.{repliedCount};

@@ -7,7 +7,7 @@ ghost use mathlib.Core.Path.{_≡_};
 ghost use mathlib.Core.Bool.{true};
 ghost use Rattle.reading.specs.Reading.{done, mapped, many};
 ghost use Rattle.reading.specs.Number.{item};
-ghost use Rattle.pack.specs.Grammar.{testAt};
+ghost use Rattle.state.specs.Grammar.{testAt};
 ghost use Rattle.reading.specs.Said.{forget};
 ghost use Rattle.pack.specs.Answer.{dims, claimAt};
 

@@ -8,7 +8,7 @@ ghost use Prim.Native.Nat.{_≤_};
 ghost use mathlib.Core.Path.{_≡_};
 ghost use lib.ListN.{length};
 ghost use Rattle.reading.specs.Reading.{mapped};
-ghost use Rattle.pack.specs.Grammar.{ruleAt, rulesAt};
+ghost use Rattle.state.specs.Grammar.{ruleAt, rulesAt};
 ghost use Rattle.reading.specs.Said.{shown, forget};
 ghost use Rattle.pack.specs.Answer.{dims};
 ghost use Rattle.pack.specs.Places.{UtilitiesRead};

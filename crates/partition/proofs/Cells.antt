@@ -10,9 +10,9 @@ use native.Mathlib.Omega.{arith}
 use lib.ListN.{length, getD, set}
 use lib.Seq.{getD-set-same, getD-set-other}
 use borrow.Author.Count.{below-more}
-use Rattle.pack.specs.State.{node, nowhere}
-use Rattle.pack.proofs.Tables.{upto-length, upto-at}
-use Rattle.pack.specs.Table.{upto, cells, rowAt, rowsAt}
+use Rattle.state.specs.State.{node, nowhere}
+use Rattle.state.proofs.Tables.{upto-length, upto-at}
+use Rattle.state.specs.Table.{upto, cells, rowAt, rowsAt}
 use Rattle.partition.specs.Inner.Put.{Cleared, Apart, PartCopied}
 
 upto-same : {A : Type 0} (g h : ℕ → A) (n : ℕ) → ((i : ℕ) → i < n → g i ≡ h i) → upto g n ≡ upto h n

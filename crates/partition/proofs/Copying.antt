@@ -4,13 +4,13 @@ use mathlib.Core.List.{List}
 use Prim.Native.Nat.{ℕ, suc, _+_, _*_, _<_, _≤_, max}
 use native.Mathlib.Omega.{arith}
 use lib.ListN.{length, getD}
-use Rattle.pack.specs.Syntax.{Node}
-use Rattle.pack.specs.State.{node, meaning}
-use Rattle.pack.specs.State.{target}
+use Rattle.state.specs.Syntax.{Node}
+use Rattle.state.specs.State.{node, meaning}
+use Rattle.state.specs.State.{target}
 use Rattle.partition.specs.Laws.Built.{copied}
-use Rattle.pack.specs.Table.{cells, rowsAt, Below, Above}
+use Rattle.state.specs.Table.{cells, rowsAt, Below, Above}
 use Rattle.partition.specs.Inner.Numbers.{keyAt, Given, RowFilled, Laid, Sound, Copied}
-use Rattle.pack.proofs.Tables.{cells-at}
+use Rattle.state.proofs.Tables.{cells-at}
 use Rattle.partition.proofs.Cells.{cells-same, row-in, rows-node, rows-same}
 use Rattle.partition.proofs.Passing.{Going, going-start, going-row, going-end}
 

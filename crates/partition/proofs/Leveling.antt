@@ -7,7 +7,7 @@ use native.Mathlib.Decide.{decLt}
 use native.Mathlib.Omega.{arith}
 use lib.ListN.{getD, length, set, length-set}
 use lib.Seq.{getD-set-same, getD-set-other}
-use Rattle.pack.specs.Table.{Below, Above, Between}
+use Rattle.state.specs.Table.{Below, Above, Between}
 use Rattle.partition.specs.Inner.Numbers.{Sound}
 use Rattle.partition.specs.Inner.Classed.{classAt}
 use Rattle.partition.specs.Inner.Level.{Placed, SameValues, Alike, RowOk, Against, Levels, Finer, Sorted, RowClassed, Leveled}

@@ -9,16 +9,16 @@ use native.Mathlib.Omega.{arith}
 use lib.ListN.{length, getD, set, length-map}
 use lib.Seq.{getD-set-same, getD-set-other, ext-getD}
 use borrow.Author.Count.{below-more}
-use Rattle.pack.specs.Syntax.{Node}
-use Rattle.pack.specs.State.{node, meaning}
+use Rattle.state.specs.Syntax.{Node}
+use Rattle.state.specs.State.{node, meaning}
 use Rattle.partition.specs.Chart.{Ordered, Written}
 use Rattle.partition.specs.Laws.Unique.{some}
 use Rattle.partition.specs.Laws.Merged.{classes, getD-map, Numbered, no-more, all-apart, grows, Merged, merged, kept}
-use Rattle.pack.specs.Table.{cells, rowsAt, Below, Above}
+use Rattle.state.specs.Table.{cells, rowsAt, Below, Above}
 use Rattle.partition.specs.Inner.Put.{PartCopied}
 use Rattle.partition.specs.Inner.Numbers.{Sound}
 use Rattle.partition.specs.Inner.Classed.{classAt, Mapped, RowPut, ClassPut, Room, Classed, WrittenOut}
-use Rattle.pack.proofs.Tables.{cells-at, rows-length}
+use Rattle.state.proofs.Tables.{cells-at, rows-length}
 use Rattle.partition.proofs.Cells.{cells-length, cells-same, row-in, rows-node, rows-same}
 
 pub mapped-none : (was : List ℕ) (from to k : ℕ) → Mapped was was from to k 0

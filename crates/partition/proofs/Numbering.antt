@@ -8,7 +8,7 @@ use native.Mathlib.Decide.{decLt, ℕ-discrete}
 use native.Mathlib.Omega.{arith}
 use lib.ListN.{length, getD, set, length-set}
 use lib.Seq.{getD-set-same, getD-set-other}
-use Rattle.pack.specs.Table.{Between}
+use Rattle.state.specs.Table.{Between}
 use Rattle.partition.specs.Laws.Count.{all, count-all, count-inj}
 use Rattle.partition.specs.Inner.Put.{Cleared}
 use Rattle.partition.specs.Inner.Numbers.{slotAt, keyAt, Numbering, Given}

@@ -6,20 +6,20 @@ use Prim.Native.Nat.{ℕ, suc, _+_, _*_, _<_, _≤_}
 use native.Mathlib.Omega.{arith}
 use lib.ListN.{getD, length}
 use lib.Seq.{ext-getD}
-use Rattle.pack.specs.Syntax.{Node}
-use Rattle.pack.specs.State.{target, meaning, Closed}
+use Rattle.state.specs.Syntax.{Node}
+use Rattle.state.specs.State.{target, meaning, Closed}
 use Rattle.partition.specs.States.{AtMost}
 use Rattle.partition.specs.Chart.{Ordered}
 use Rattle.partition.specs.Laws.Merged.{classes, Numbered, no-more, all-apart, grows, first}
 use Rattle.partition.specs.Laws.Bridge.{val, exact, coarse, many}
 use Rattle.partition.specs.Laws.Moore as moore
-use Rattle.pack.specs.Table.{cells, rowsAt, Below, Above}
+use Rattle.state.specs.Table.{cells, rowsAt, Below, Above}
 use Rattle.partition.specs.Inner.Put.{PartCopied}
 use Rattle.partition.specs.Inner.Numbers.{Sound}
 use Rattle.partition.specs.Inner.Classed.{classAt}
 use Rattle.partition.specs.Inner.Level.{SameValues, Alike, Levels, Finer, Leveled, Parted}
 use Rattle.partition.specs.Inner.Values.{Valued}
-use Rattle.pack.proofs.Tables.{cells-at, rows-length}
+use Rattle.state.proofs.Tables.{cells-at, rows-length}
 use Rattle.partition.proofs.Cells.{cells-length, row-in, rows-node, rows-same}
 use Rattle.partition.proofs.Sorting.{classes-same}
 use Rattle.partition.proofs.Merging.{ordered-sound}

@@ -7,17 +7,17 @@ use native.Mathlib.Omega.{arith}
 use lib.ListN.{length, getD, set}
 use lib.Seq.{getD-set-same, getD-set-other}
 use borrow.Author.Count.{below-more}
-use Rattle.pack.specs.State.{State}
-use Rattle.pack.specs.Syntax.{Node}
-use Rattle.pack.specs.State.{meaning}
+use Rattle.state.specs.State.{State}
+use Rattle.state.specs.Syntax.{Node}
+use Rattle.state.specs.State.{meaning}
 use Rattle.partition.specs.Laws.Built.{Family, built}
 use Rattle.partition.specs.Chart.{meets, Fresh, met, Ordered}
 use Rattle.partition.specs.Laws.Unique.{named}
 use Rattle.partition.specs.Laws.Merged.{meets-up, meets-in}
 use Rattle.partition.specs.Laws.Pass.{numbered, Pass, pass-start, pass-row, pass-count, pass-end}
-use Rattle.pack.specs.Table.{cells, rowsAt, Below, Above}
+use Rattle.state.specs.Table.{cells, rowsAt, Below, Above}
 use Rattle.partition.specs.Inner.Numbers.{keyAt, Numbering, Given, Named, RowFilled}
-use Rattle.pack.proofs.Tables.{cells-at, rows-length}
+use Rattle.state.proofs.Tables.{cells-at, rows-length}
 use Rattle.partition.proofs.Cells.{cells-length, cells-none, cells-more, cells-same, row-in, rows-none, rows-more, rows-same}
 use Rattle.partition.proofs.Numbering.{few, numbering-same}
 

@@ -8,7 +8,7 @@ use native.Mathlib.Decide.{decLt}
 use native.Mathlib.Omega.{arith}
 use lib.ListN.{getD, length, set, length-set}
 use lib.Seq.{getD-set-same, getD-set-other}
-use Rattle.pack.specs.Table.{Below, Above}
+use Rattle.state.specs.Table.{Below, Above}
 use Rattle.partition.specs.Inner.Classed.{classAt}
 use Rattle.partition.specs.Inner.Level.{Agrees, Placed, SameByte, SameValues, Levels, Sorted}
 use Rattle.partition.specs.Inner.Values.{sumOf, markOf, leadMark, Last, Chain, Chained, Valuable, RowValued, Valued}

@@ -4,9 +4,9 @@ use Prim.Native.Nat.{ℕ, zero, suc, _<_, _≤_, max}
 use mathlib.Core.Path.{_≡_}
 use mathlib.Core.List.{List, [], _∷_}
 use lib.ListN.{length}
-use Rattle.pack.specs.Syntax.{Node}
-use Rattle.pack.specs.State.{State, node, meaning, Closed}
-use Rattle.pack.specs.Layout.{chartBytes, ChartFits}
+use Rattle.state.specs.Syntax.{Node}
+use Rattle.state.specs.State.{State, node, meaning, Closed}
+use Rattle.state.specs.Layout.{chartBytes, ChartFits}
 
 -- k nodes are met; how many are once these beliefs are read, "characters in rising order"
 unfoldable pub meets : ℕ → List ℕ → ℕ

@@ -3,7 +3,7 @@ use Prim.Native.Nat.{ℕ, _≤_}
 use mathlib.Core.Path.{_≡_}
 use mathlib.Core.List.{List, List·Memᴰ}
 use lib.ListN.{length}
-use Rattle.pack.specs.State.{State, after, Valid}
+use Rattle.state.specs.State.{State, after, Valid}
 
 -- Document 01, "Happenings": "the chains must lead to at most 32 different states". A list of at most n chains such that every chain leads where one of them leads
 unfoldable pub AtMost : ℕ → ℕ → State → Type 0

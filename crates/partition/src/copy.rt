@@ -7,7 +7,7 @@ use crate::number::number_of;
 use reading::number::wide;
 ghost use Prim.Native.Nat.{_+_, _*_, _<_};
 ghost use lib.ListN.{getD};
-ghost use Rattle.pack.specs.Table.{cells};
+ghost use Rattle.state.specs.Table.{cells};
 ghost use Rattle.partition.specs.Inner.Numbers.{Numbering, RowFilled, Laid, Sound, Copied, keyAt};
 
 // Fills row i: the values and the beliefs of the source row that number i was given to.

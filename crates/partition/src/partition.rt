@@ -6,7 +6,7 @@ ghost use mathlib.Core.Path.{_≡_};
 ghost use Prim.Native.Nat.{ℕ, _+_, _*_, _<_, _≤_};
 ghost use lib.ListN.{length, getD};
 ghost use Rattle.partition.specs.Chart.{Ordered};
-ghost use Rattle.pack.specs.Table.{rowsAt};
+ghost use Rattle.state.specs.Table.{rowsAt};
 ghost use Rattle.partition.specs.Inner.Numbers.{Sound};
 ghost use Rattle.partition.specs.Inner.Level.{Decides, Agrees, Placed, SameValues, SameClass, Alike, RowOk, Against, Levels, Finer, RowClassed, Leveled, Parted};
 

@@ -6,15 +6,15 @@ use mathlib.Core.List.{List, [], _∷_}
 use native.Mathlib.Decide.{decLe, ℕ-discrete}
 use native.Mathlib.Omega.{arith}
 use lib.ListN.{length, getD}
-use Rattle.pack.specs.Syntax.{Node, Theory, Rule}
-use Rattle.pack.specs.State.{State, meaning}
+use Rattle.state.specs.Syntax.{Node, Theory, Rule}
+use Rattle.state.specs.State.{State, meaning}
 use Rattle.reading.specs.Reading.{done}
 use Rattle.pack.specs.Answer.{dims}
-use Rattle.pack.specs.Grammar.{Dimensions, rulesAt}
-use Rattle.pack.specs.Condition as condition
-use Rattle.pack.specs.Judge.{Over, Judged}
-use Rattle.pack.specs.Table.{stateOf, Below, Above}
-use Rattle.pack.specs.declared.table.Table.{Table}
+use Rattle.state.specs.Grammar.{Dimensions, rulesAt}
+use Rattle.state.specs.Condition as condition
+use Rattle.state.specs.Judge.{Over, Judged}
+use Rattle.state.specs.Table.{stateOf, Below, Above}
+use Rattle.state.specs.declared.table.Table.{Table}
 use Rattle.chart.specs.Call.{workRoom}
 use Rattle.chart.specs.Earliest.{Before}
 use Rattle.partition.specs.Laws.Lists.{place}

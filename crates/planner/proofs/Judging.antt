@@ -8,18 +8,18 @@ use native.Mathlib.Omega.{arith}
 use lib.ListN.{length, getD}
 use lib.Dec.{ltb, leb}
 use borrow.Author.Tests.{ltb-true, leb-true}
-use Rattle.pack.specs.Syntax.{Theory, Node, Pack}
-use Rattle.pack.specs.State.{meaning}
+use Rattle.state.specs.Syntax.{Theory, Node, Pack}
+use Rattle.state.specs.State.{meaning}
 use Rattle.reading.specs.Reading.{Reply, gives, with, told}
-use Rattle.pack.specs.Grammar.{packOf}
-use Rattle.pack.specs.Copy.{TableCopied}
+use Rattle.state.specs.Grammar.{packOf}
+use Rattle.state.specs.Copy.{TableCopied}
 use Rattle.pack.specs.Contents.{PackRead, replied, repliedCount}
-use Rattle.pack.specs.Table.{Above}
+use Rattle.state.specs.Table.{Above}
 use Rattle.pack.specs.Laws.Exact.{Bytes}
 use Rattle.pack.specs.declared.contents.Contents.{Contents}
 use Rattle.reading.specs.declared.number.Number.{Number}
 use Rattle.reading.specs.declared.number.Number.the-variants as numbers
-use Rattle.pack.specs.declared.table.Table.{Table}
+use Rattle.state.specs.declared.table.Table.{Table}
 use Rattle.pack.proofs.Ready.{small-pack}
 use Rattle.chart.specs.Call.{fits, workRoom, workAfter}
 use Rattle.chart.specs.Replies.{firstOf}
@@ -31,8 +31,8 @@ use Rattle.chart.proofs.Calling.{and-true}
 use Rattle.chart.proofs.Loading.{read-small}
 use Rattle.chart.proofs.Looking.{cleared-all}
 use Rattle.chart.proofs.Checking.{counted, lent, checks, Accepted, FirstRead, first-read, nodes-read, refused-by, accepted-by, left-alone, check-one}
-use Rattle.transition.proofs.Stepping.{read-tabled}
-use Rattle.transition.proofs.Stepped.{short-pack}
+use Rattle.transition.proofs.Loaded.{read-tabled}
+use Rattle.transition.proofs.Loaded.{short-pack}
 use Rattle.planner.specs.declared.Judged.the-variants as judged
 use Rattle.explanation.specs.declared.explain.Shape.{Shape}
 use Rattle.explanation.specs.Ending.{Explained}

@@ -5,10 +5,10 @@ use mathlib.Core.List.{List}
 use native.Mathlib.Omega.{arith}
 use lib.ListN.{length, getD, set, length-set}
 use lib.Seq.{getD-set-same, getD-set-other}
-use Rattle.pack.specs.Syntax.{Node}
-use Rattle.pack.specs.State.{meaning}
-use Rattle.pack.specs.Copy.{TableCopied}
-use Rattle.pack.specs.Table.{rowsAt}
+use Rattle.state.specs.Syntax.{Node}
+use Rattle.state.specs.State.{meaning}
+use Rattle.state.specs.Copy.{TableCopied}
+use Rattle.state.specs.Table.{rowsAt}
 use Rattle.partition.specs.Chart.{Starts}
 use Rattle.partition.specs.Inner.Put.{Cleared, Apart, PartCopied}
 use Rattle.chart.specs.Inner.Start.{Merged}

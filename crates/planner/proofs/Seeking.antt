@@ -10,19 +10,19 @@ use lib.ListN.{length, getD, drop}
 use lib.Dec.{leb}
 use borrow.Author.Tests.{leb-true}
 use lib.Seq.{ext-getD}
-use Rattle.pack.specs.Syntax.{Node, Theory, Pack}
-use Rattle.pack.specs.State.{State, meaning}
+use Rattle.state.specs.Syntax.{Node, Theory, Pack}
+use Rattle.state.specs.State.{State, meaning}
 use Rattle.reading.specs.Reading.{Reply, gives, with, told}
-use Rattle.pack.specs.Layout.{ChartFits}
+use Rattle.state.specs.Layout.{ChartFits}
 use Rattle.pack.specs.Contents.{PackRead, replied, repliedCount}
 use Rattle.pack.specs.Laws.Exact.{Bytes}
 use Rattle.pack.specs.Laws.PackExact.{pack-exactly}
 use Rattle.pack.specs.declared.contents.Contents.{Contents}
 use Rattle.reading.specs.declared.number.Number.{Number}
 use Rattle.reading.specs.declared.number.Number.the-variants as numbers
-use Rattle.pack.specs.Table.{tableOf, Below, Above, cells}
+use Rattle.state.specs.Table.{tableOf, Below, Above, cells}
 use Rattle.pack.proofs.Ready.{small-pack}
-use Rattle.pack.proofs.Tables.{cells-at, rows-length}
+use Rattle.state.proofs.Tables.{cells-at, rows-length}
 use Rattle.chart.specs.Call.{fits, listRoom, workRoom, cleared, resultAfter, workAfter}
 use Rattle.chart.specs.Laws.Answers.{fits-table}
 use Rattle.partition.specs.Laws.Unique.{some}
@@ -33,7 +33,7 @@ use Rattle.chart.proofs.Charting.{front-back}
 use Rattle.chart.proofs.Checking.{nodes-packed, lent, checks, Accepted, refused-by, accepted-by, left-alone, check-none}
 use Rattle.chart.proofs.Loading.{read-slim}
 use Rattle.chart.proofs.Looking.{cleared-all}
-use Rattle.transition.proofs.Stepped.{short-pack}
+use Rattle.transition.proofs.Loaded.{short-pack}
 use Rattle.planner.specs.declared.Found.{Found}
 use Rattle.planner.specs.declared.Found.the-variants as found
 use Rattle.explanation.specs.declared.explain.Shape.{Shape}

@@ -5,7 +5,7 @@ use mathlib.Core.Bool.{Bool, true, false}
 use mathlib.Core.List.{List, [], _∷_}
 use lib.ListN.{length}
 use Rattle.reading.specs.Reading.{Reply, gives, refuses}
-use Rattle.pack.specs.Grammar.{packOf}
+use Rattle.state.specs.Grammar.{packOf}
 use Rattle.chart.specs.Compare.{Verdict, same, differ}
 use Rattle.chart.specs.Call.{chartRoom, chainRoom, listRoom, workRoom}
 use Rattle.chart.specs.Replies.{startReply, compareReply}

@@ -3,8 +3,8 @@
 use Prim.Native.Nat.{ℕ}
 use mathlib.Core.Path.{_≡_}
 use mathlib.Core.List.{List}
-use Rattle.pack.specs.Syntax.{Theory}
-use Rattle.pack.specs.State.{State}
+use Rattle.state.specs.Syntax.{Theory}
+use Rattle.state.specs.State.{State}
 use Rattle.chart.specs.Earliest.{Earliest}
 use Rattle.explanation.specs.Ending.{Ending, authorUtility}
 

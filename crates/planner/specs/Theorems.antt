@@ -5,11 +5,11 @@ use mathlib.Core.Bool.{Bool, true, false, _&&_}
 use mathlib.Core.Logic.{_↔_, _⊎_, ⊎-elim}
 use mathlib.Core.List.{List}
 use lib.ListN.{length, getD}
-use Rattle.pack.specs.Syntax.{Theory, Node, Pack, fluents}
-use Rattle.pack.specs.State.{State, Valid, meaning}
+use Rattle.state.specs.Syntax.{Theory, Node, Pack, fluents}
+use Rattle.state.specs.State.{State, Valid, meaning}
 use Rattle.reading.specs.Reading.{gives, refuses, pick}
-use Rattle.pack.specs.Grammar.{packOf, chartOf}
-use Rattle.pack.specs.Layout.{packBytes, PackFits, Each}
+use Rattle.state.specs.Grammar.{packOf, chartOf}
+use Rattle.state.specs.Layout.{packBytes, PackFits, Each}
 use Rattle.pack.specs.Laws.PackBack.{pack-back}
 use Rattle.pack.specs.Laws.Exact.{Bytes}
 use Rattle.pack.specs.Laws.PackExact.{pack-exactly}

@@ -4,9 +4,9 @@ use mathlib.Core.Path.{_≡_, refl, sym, ap, _∙_}
 use mathlib.Core.List.{List}
 use native.Mathlib.Omega.{arith}
 use lib.ListN.{length, take, length-take}
-use Rattle.pack.specs.Syntax.{Pack}
+use Rattle.state.specs.Syntax.{Pack}
 use Rattle.reading.specs.Reading.{Reply, gives, refuses, with, told, whole}
-use Rattle.pack.specs.Grammar.{nodesAt, packOf, chartOf, inChart}
+use Rattle.state.specs.Grammar.{nodesAt, packOf, chartOf, inChart}
 use Rattle.reading.specs.Said.{forget}
 use Rattle.pack.specs.Answer.{dims}
 use Rattle.pack.specs.Contents.{replied, PackRead, PackFound}

@@ -6,11 +6,11 @@ use mathlib.Core.Logic.{⊎-elim}
 use mathlib.Core.List.{List, []}
 use native.Mathlib.Omega.{arith}
 use lib.ListN.{length, getD, replicate, length-replicate, getD-replicate}
-use Rattle.pack.specs.Syntax.{Action, Effect, Node, Theory}
-use Rattle.pack.specs.State.{meaning}
+use Rattle.state.specs.Syntax.{Action, Effect, Node, Theory}
+use Rattle.state.specs.State.{meaning}
 use Rattle.pack.specs.Answer.{dims}
 use Rattle.pack.specs.Contents.{ActionStands}
-use Rattle.pack.specs.declared.table.Table.{Table}
+use Rattle.state.specs.declared.table.Table.{Table}
 use Rattle.change.specs.declared.change.Change.{Change}
 use Rattle.change.specs.Happening.{nothing, actionOf, observes, act}
 use Rattle.change.specs.Inner.Cause.{told, EffectsAt, Telling}
@@ -68,7 +68,7 @@ module _ {p : Theory} {T : List Node} {pack places : List ℕ} {actions triggers
       keeps = λ m d hm hd e. omega arith;
     }
 
-    pub act-stands : (u : ℕ) → ((d : Rattle.pack.specs.Grammar.Dimensions) → Rattle.pack.specs.Judge.Small d → (es : List Effect) → EffectsAt d pack (getD places (9 * a + 1) 0) es → Untold es C u)
+    pub act-stands : (u : ℕ) → ((d : Rattle.state.specs.Grammar.Dimensions) → Rattle.state.specs.Judge.Small d → (es : List Effect) → EffectsAt d pack (getD places (9 * a + 1) 0) es → Untold es C u)
         → Stands scene pack places (replicate 32 (getD places (9 * a + 1) 0)) (part u) work t
     act-stands u y = record {
       tabled = x .tabled;

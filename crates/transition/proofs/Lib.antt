@@ -5,5 +5,4 @@ pub mod Acting
 pub mod Settling
 pub mod Rounding
 pub mod Playing
-pub mod Stepping
-pub mod Stepped
+pub mod Loaded

@@ -8,12 +8,12 @@ use native.Mathlib.Decide.{decLt}
 use native.Mathlib.Omega.{arith}
 use lib.ListN.{length, getD, set}
 use borrow.Author.Count.{below-more}
-use Rattle.pack.specs.Syntax.{Effect, Node}
-use Rattle.pack.specs.State.{State, node, target, meaning}
-use Rattle.pack.specs.Condition.{write}
-use Rattle.pack.specs.Table.{cells, rowsAt, tableOf, stateOf}
-use Rattle.pack.specs.declared.table.Table.{Table}
-use Rattle.pack.proofs.Tables.{rows-length}
+use Rattle.state.specs.Syntax.{Effect, Node}
+use Rattle.state.specs.State.{State, node, target, meaning}
+use Rattle.state.specs.Condition.{write}
+use Rattle.state.specs.Table.{cells, rowsAt, tableOf, stateOf}
+use Rattle.state.specs.declared.table.Table.{Table}
+use Rattle.state.proofs.Tables.{rows-length}
 use Rattle.partition.specs.Chart.{met, Ordered, Starts}
 use Rattle.partition.specs.Inner.Put.{PartCopied}
 use Rattle.partition.specs.Inner.Classed.{Room, Classed, WrittenOut}

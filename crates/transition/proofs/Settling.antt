@@ -7,12 +7,12 @@ use mathlib.Core.Logic.{_≢_}
 use mathlib.Core.List.{List}
 use native.Mathlib.Omega.{arith}
 use lib.ListN.{length}
-use Rattle.pack.specs.Syntax.{Node, Theory}
-use Rattle.pack.specs.State.{State, meaning}
+use Rattle.state.specs.Syntax.{Node, Theory}
+use Rattle.state.specs.State.{State, meaning}
 use Rattle.pack.specs.Answer.{dims}
-use Rattle.pack.specs.Table.{rowsAt}
-use Rattle.pack.specs.declared.table.Table.{Table}
-use Rattle.pack.proofs.Tables.{rows-length}
+use Rattle.state.specs.Table.{rowsAt}
+use Rattle.state.specs.declared.table.Table.{Table}
+use Rattle.state.proofs.Tables.{rows-length}
 use Rattle.partition.specs.Chart.{Starts}
 use Rattle.partition.specs.States.{AtMost}
 use Rattle.partition.specs.Laws.Counted.{counted}

@@ -7,12 +7,12 @@ use native.Mathlib.Decide.{decLt}
 use native.Mathlib.Omega.{arith}
 use lib.ListN.{length, getD, set}
 use lib.Seq.{getD-set-same, getD-set-other}
-use Rattle.pack.specs.Syntax.{Node}
-use Rattle.pack.specs.State.{State, meaning, walk, after}
-use Rattle.pack.specs.Table.{rowsAt, Below, Above}
-use Rattle.pack.specs.Laws.Table.{walk-inside, after-walk}
-use Rattle.pack.specs.declared.table.Table.{Table}
-use Rattle.pack.proofs.Tables.{rows-length}
+use Rattle.state.specs.Syntax.{Node}
+use Rattle.state.specs.State.{State, meaning, walk, after}
+use Rattle.state.specs.Table.{rowsAt, Below, Above}
+use Rattle.state.specs.Laws.Table.{walk-inside, after-walk}
+use Rattle.state.specs.declared.table.Table.{Table}
+use Rattle.state.proofs.Tables.{rows-length}
 use Rattle.chart.specs.Call.{workRoom}
 use Rattle.partition.specs.Chart.{Ordered, Written, Starts}
 use Rattle.partition.specs.States.{AtMost}

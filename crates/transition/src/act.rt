@@ -2,13 +2,13 @@
 use crate::stage::stage;
 use change::cause::tells;
 use change::change::Change;
-use pack::table::Table;
+use state::table::Table;
 ghost use mathlib.Core.List.{List};
 ghost use Prim.Native.Nat.{ℕ, _<_};
-ghost use Rattle.pack.specs.Syntax.{Effect, Node, Theory};
-ghost use Rattle.pack.specs.State.{meaning};
-ghost use Rattle.pack.specs.Grammar.{Dimensions};
-ghost use Rattle.pack.specs.Judge.{Small};
+ghost use Rattle.state.specs.Syntax.{Effect, Node, Theory};
+ghost use Rattle.state.specs.State.{meaning};
+ghost use Rattle.state.specs.Grammar.{Dimensions};
+ghost use Rattle.state.specs.Judge.{Small};
 ghost use Rattle.change.specs.Happening.{actionOf};
 ghost use Rattle.change.specs.Inner.Cause.{EffectsAt, Telling};
 ghost use Rattle.transition.specs.Inner.Play.{Untold, Setting, Actable, Acted};

@@ -1,13 +1,13 @@
 // Triggers: the lowest that holds in each row.
-use pack::judge::holds;
-use pack::table::Table;
+use state::judge::holds;
+use state::table::Table;
 ghost use Prim.Native.Nat.{_<_, _≤_};
 ghost use mathlib.Core.Path.{_≡_};
 ghost use mathlib.Core.Bool.{_||_};
 ghost use mathlib.Core.List.{List};
 ghost use lib.ListN.{length};
-ghost use Rattle.pack.specs.Syntax.{Trigger, Node};
-ghost use Rattle.pack.specs.Grammar.{Dimensions};
+ghost use Rattle.state.specs.Syntax.{Trigger, Node};
+ghost use Rattle.state.specs.Grammar.{Dimensions};
 ghost use Rattle.change.specs.Inner.Cause.{Tabled};
 ghost use Rattle.transition.specs.Inner.Fire.{Triggered, Firable, Fires, FiredBelow};
 

@@ -1,4 +1,4 @@
-// The transition layer: what actions and triggers make of a state. What it promises stands in specs/; Step hands back chart's `Charted`.
+// The transition layer: what actions and triggers make of a state, in slots of the work buffer. What Step promises stands in specs/; its call is crate step.
 pub mod act;
 pub mod fire;
 pub mod round;

@@ -1,10 +1,10 @@
 // A stage of Step, part 1 or a round: the pass, the partition, and the merged table, which is put into a slot of the work buffer.
 use change::change::Change;
 use change::change::change_table;
-use pack::table::Table;
 use partition::bytes::copy_part;
 use partition::merge::write_merged;
 use partition::partition::partition;
+use state::table::Table;
 ghost use Rattle.change.specs.Inner.Change.{Scene, Stands, Scened};
 ghost use Rattle.transition.specs.Inner.Stage.{StageRoom, Staged};
 

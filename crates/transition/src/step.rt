@@ -1,24 +1,13 @@
-// Step: an action, and the triggers after it.
+// An action, and the triggers after it, from slot to slot.
 use crate::act::act;
 use crate::settle::settle;
-use chart::Charted;
-use chart::call::both_at_most;
-use chart::call::check_lent;
-use chart::call::check_under;
-use pack::contents::read_pack;
-use pack::copy::copy_table;
-use pack::judge::holds;
-use pack::table::Table;
-use partition::bytes::sweep;
-use partition::write::write_chart;
-use reading::number::Number;
-use reading::number::wide;
+use state::judge::holds;
+use state::table::Table;
 ghost use mathlib.Core.List.{List};
 ghost use Prim.Native.Nat.{ℕ, _<_};
-ghost use Rattle.pack.specs.Syntax.{Node, Theory};
-ghost use Rattle.pack.specs.State.{meaning};
-ghost use Rattle.transition.specs.Promises.{Stepped};
-ghost use Rattle.transition.specs.Inner.Play.{Setting, Playable, PlayedIn, Steppable, StepPut};
+ghost use Rattle.state.specs.Syntax.{Node, Theory};
+ghost use Rattle.state.specs.State.{meaning};
+ghost use Rattle.transition.specs.Inner.Play.{Setting, Playable, PlayedIn};
 
 // Plays an action in what a row of a table means, into a slot: 0, or 10, 11 or 12.
 pub fn step_slot(
@@ -50,74 +39,4 @@ pub fn step_slot(
         width: t.width,
     };
     settle(pack, places, triggers, work, left, slot)
-}
-
-// Plays an action in a chart of so many nodes and writes the chart of what it leaves. The work buffer is cleared.
-pub fn play(
-    pack: &[u8],
-    places: &[usize],
-    triggers: usize,
-    action: usize,
-    chart: &[u8],
-    nodes: usize,
-    fluents: usize,
-    characters: usize,
-    out: &mut [u8],
-    work: &mut [u8],
-) -> Charted
-    requires { ⌜ Steppable (now pack) (now places) triggers action (now chart) nodes fluents characters (now out) (now work) ⌝ }
-    ensures { λ r. ⌜ StepPut (now (pack .entry)) (now (places .entry)) triggers action (now (chart .entry)) nodes fluents characters (now (out .entry)) (now (work .entry)) (now (out .exit)) (now (work .exit)) r ⌝ }
-{
-    copy_table(chart, 1, nodes, work, 0, fluents, characters);
-    let t = Table {
-        rows: 1,
-        nodes,
-        fluents,
-        characters,
-        width: fluents + characters,
-    };
-    let number = step_slot(pack, places, triggers, action, work, t, 0, 961);
-    if number != 0 {
-        sweep(work, 0, 49152);
-        return Charted::Refused(number, 0);
-    }
-    let rows = wide(work[961]);
-    let length = write_chart(
-        work,
-        rows,
-        fluents + characters,
-        fluents,
-        characters,
-        962,
-        out,
-    );
-    sweep(work, 0, 49152);
-    Charted::Chart(length)
-}
-
-// Step(pack, chart, action, chart out, work): the length of the chart of what the action leaves, which is written, or a refusal's number and place.
-pub fn step(pack: &[u8], chart: &[u8], action: usize, out: &mut [u8], work: &mut [u8]) -> Charted
-    ensures { λ r. ⌜ Stepped (now (pack .entry)) (now (chart .entry)) action (now (out .entry)) (now (work .entry)) (now (out .exit)) (now (work .exit)) r ⌝ }
-{
-    let mut places = [0usize; 327];
-    let p = read_pack(pack, &mut places);
-    let sizes = p.sizes;
-    let answer = p.answer;
-    let nodes = check_under(answer, p.characters, &sizes[..p.fluents], chart);
-    let enough = both_at_most(961, out.len(), 49152, work.len());
-    match check_lent(nodes, enough, action < p.actions) {
-        Number::Refused(k, at) => Charted::Refused(k, at),
-        Number::Is(n, _) => play(
-            pack,
-            &places,
-            p.triggers,
-            action,
-            chart,
-            n,
-            p.fluents,
-            p.characters,
-            out,
-            work,
-        ),
-    }
 }

@@ -4,7 +4,7 @@
 use crate::calls::CALLS;
 use std::collections::BTreeSet;
 use std::fs;
-use std::io::Result;
+use std::io::{Error, Result};
 use std::path::{Path, PathBuf};
 
 /// A module of definitions, with its lines that are neither blank nor comments.
@@ -15,8 +15,10 @@ pub struct Module {
 
 /// The modules whose names a public contract may use: those with promises, and what these reach.
 pub fn reached(repository: &Path) -> Result<Vec<Module>> {
-    let mut open: Vec<PathBuf> = CALLS.iter().map(|(of, _, _)| module(repository, of, "Promises")).collect();
-    open.push(module(repository, "export", "Exports"));
+    let mut open = vec![module(repository, "export", "Exports")];
+    for (of, file, _) in CALLS {
+        open.push(promises(repository, of, file)?);
+    }
     let mut seen = BTreeSet::new();
     while let Some(path) = open.pop() {
         if !seen.insert(path.clone()) {
@@ -30,6 +32,16 @@ pub fn reached(repository: &Path) -> Result<Vec<Module>> {
         }
     }
     seen.into_iter().map(|path| Ok(Module { lines: lines(&fs::read_to_string(&path)?), path })).collect()
+}
+
+/// The module of promises that the source of a public call names: its crate's own, or that of its layer.
+fn promises(repository: &Path, of: &str, file: &str) -> Result<PathBuf> {
+    let source = repository.join("crates").join(of).join("src").join(file).with_extension("rt");
+    let text = fs::read_to_string(&source)?;
+    let named =
+        text.lines().filter_map(|line| used(line.strip_prefix("ghost ")?)).find(|(_, name)| *name == "Promises");
+    let missing = || Error::other(format!("{} names no promise", source.display()));
+    named.map(|(other, name)| module(repository, other.unwrap_or(of), name)).ok_or_else(missing)
 }
 
 /// The crate (or nothing: the same) and the module that a `use` line of antt names, if it is one of definitions.

@@ -9,8 +9,8 @@ use std::path::Path;
 pub const CALLS: [(&str, &str, &str); 6] = [
     ("chart", "start", "start"),
     ("chart", "query", "query"),
-    ("chart", "compare", "compare"),
-    ("transition", "step", "step"),
+    ("difference", "compare", "compare"),
+    ("step", "play", "step"),
     ("planner", "judge", "judge"),
     ("planner", "search", "search"),
 ];

@@ -44,8 +44,8 @@ fn definitions_are_reached() {
         "partition/specs/Chart.antt",
         "chart/specs/Call.antt",
         "reading/specs/Number.antt",
-        "pack/specs/Grammar.antt",
-        "pack/specs/State.antt",
+        "state/specs/Grammar.antt",
+        "state/specs/State.antt",
         "export/specs/Exports.antt",
     ] {
         assert!(has(end), "{end} is not reached");
@@ -54,9 +54,9 @@ fn definitions_are_reached() {
 
 #[test]
 fn use_lines_are_read() {
-    assert_eq!(believed::used("use Rattle.pack.specs.Syntax.{Node}"), Some((Some("pack"), "Syntax")));
+    assert_eq!(believed::used("use Rattle.state.specs.Syntax.{Node}"), Some((Some("state"), "Syntax")));
     assert_eq!(believed::used("use Rattle.chart.specs.Laws.Moore as moore"), Some((None, "Laws.Moore")));
-    assert_eq!(believed::used("use Rattle.pack.specs.declared.table.Table.{Table}"), None);
+    assert_eq!(believed::used("use Rattle.state.specs.declared.table.Table.{Table}"), None);
     assert_eq!(believed::used("use lib.ListN.{length}"), None);
 }
 
@@ -115,6 +115,6 @@ fn declares(line: &str, law: &str) -> bool {
 
 #[test]
 fn paths_in_a_cell_are_read() {
-    assert_eq!(audit::paths(" `pack/specs/State`, `Condition` "), ["pack/specs/State", "pack/specs/Condition"]);
+    assert_eq!(audit::paths(" `state/specs/State`, `Condition` "), ["state/specs/State", "state/specs/Condition"]);
     assert!(declares("  pub starts-one : (C : ℕ)", "starts-one") && !declares("pub starts-one-more : ℕ", "starts-one"));
 }

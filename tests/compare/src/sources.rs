@@ -7,7 +7,8 @@ use std::path::{Path, PathBuf};
 use std::process::Command;
 
 /// The crates, each over those before it.
-const CRATES: [&str; 8] = ["reading", "pack", "partition", "chart", "change", "transition", "explanation", "planner"];
+const CRATES: [&str; 9] =
+    ["reading", "state", "pack", "partition", "chart", "change", "transition", "explanation", "planner"];
 
 /// Something that the search does without, by changed lines: the file, what it says, and what it is to say.
 pub struct Off {

@@ -6,15 +6,15 @@ use mathlib.Core.List.{List, [], _∷_}
 use Prim.Native.Nat.{ℕ, _+_, _<_, _≤_}
 use lib.ListN.{length, getD}
 use lib.Dec.{eqb}
-use Rattle.pack.specs.Syntax.{Condition, Effect, Node}
-use Rattle.pack.specs.State.{State, meaning}
-use Rattle.pack.specs.Condition.{holds, write}
-use Rattle.pack.specs.Grammar.{Dimensions, conditionAt, effectsAt}
+use Rattle.state.specs.Syntax.{Condition, Effect, Node}
+use Rattle.state.specs.State.{State, meaning}
+use Rattle.state.specs.Condition.{holds, write}
+use Rattle.state.specs.Grammar.{Dimensions, conditionAt, effectsAt}
 use Rattle.pack.specs.Contents.{Gives}
-use Rattle.pack.specs.Judge.{Small, Over}
-use Rattle.pack.specs.Table.{cells, tableOf, TableFits}
-use Rattle.pack.specs.Write.{RowOnly}
-use Rattle.pack.specs.declared.table.Table.{Table}
+use Rattle.state.specs.Judge.{Small, Over}
+use Rattle.state.specs.Table.{cells, tableOf, TableFits}
+use Rattle.state.specs.Write.{RowOnly}
+use Rattle.state.specs.declared.table.Table.{Table}
 
 -- some of the effects are meant for whom
 unfoldable pub told : List Effect → ℕ → Bool

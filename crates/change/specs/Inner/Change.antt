@@ -6,12 +6,12 @@ use mathlib.Core.List.{List}
 use Prim.Native.Nat.{ℕ, suc, _+_, _*_, _/_, _%_, _<_, _≤_}
 use lib.ListN.{length, getD}
 use lib.Dec.{eqb}
-use Rattle.pack.specs.Syntax.{Effect, Node}
-use Rattle.pack.specs.State.{State, meaning, target}
+use Rattle.state.specs.Syntax.{Effect, Node}
+use Rattle.state.specs.State.{State, meaning, target}
 use Rattle.reading.specs.Reading.{pick}
-use Rattle.pack.specs.Grammar.{Dimensions}
-use Rattle.pack.specs.Table.{cells, rowsAt, Below, Above}
-use Rattle.pack.specs.declared.table.Table.{Table}
+use Rattle.state.specs.Grammar.{Dimensions}
+use Rattle.state.specs.Table.{cells, rowsAt, Below, Above}
+use Rattle.state.specs.declared.table.Table.{Table}
 use Rattle.partition.specs.Chart.{Ordered}
 use Rattle.partition.specs.Inner.Numbers.{keyAt, RowFilled}
 use Rattle.change.specs.declared.change.Change.{Change}

@@ -5,10 +5,10 @@ use mathlib.Core.Bool.{Bool, true, false, cond}
 use mathlib.Core.List.{List, [], _∷_}
 use lib.ListN.{length}
 use native.Mathlib.Omega.{arith}
-use Rattle.pack.specs.Condition.{write}
-use Rattle.pack.specs.State.{State, belief, node, meaning, target}
-use Rattle.pack.specs.Syntax.{Effect, Node}
-use Rattle.pack.specs.Laws.Table.{blank, belief-in, belief-out}
+use Rattle.state.specs.Condition.{write}
+use Rattle.state.specs.State.{State, belief, node, meaning, target}
+use Rattle.state.specs.Syntax.{Effect, Node}
+use Rattle.state.specs.Laws.Table.{blank, belief-in, belief-out}
 use Rattle.partition.specs.Laws.Built.{Family, Rows, built}
 use Rattle.change.specs.Happening.{atRoot, change}
 

@@ -5,11 +5,11 @@ use mathlib.Core.Logic.{dite, _↔_}
 use mathlib.Core.List.{List, []}
 use lib.ListN.{length}
 use native.Mathlib.Omega.{arith}
-use Rattle.pack.specs.State.{State, Valid, meaning, Closed, nowhere, node, walk, after}
-use Rattle.pack.specs.Syntax.{Node}
-use Rattle.pack.specs.Layout.{Valued, NodeFits, ChartFits}
-use Rattle.pack.specs.Laws.Fits.{each-from, fits-node, fits-closed, fits-sized}
-use Rattle.pack.specs.Laws.Table.{same-valid, finds-walk, walk-inside, after-walk}
+use Rattle.state.specs.State.{State, Valid, meaning, Closed, nowhere, node, walk, after}
+use Rattle.state.specs.Syntax.{Node}
+use Rattle.state.specs.Layout.{Valued, NodeFits, ChartFits}
+use Rattle.state.specs.Laws.Fits.{each-from, fits-node, fits-closed, fits-sized}
+use Rattle.state.specs.Laws.Table.{same-valid, finds-walk, walk-inside, after-walk}
 use Rattle.chart.specs.Answers.{startTable, compareTable}
 use Rattle.partition.specs.Chart.{Written, Starts}
 use Rattle.chart.specs.Compare.{Compared, Verdict, same, differ}

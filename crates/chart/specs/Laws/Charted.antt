@@ -8,8 +8,8 @@ use native.Mathlib.Nat.{eq-or-lt-of-le, le-of-suc-le-suc}
 use native.Mathlib.Decide.{decLt, decLe, map-dec}
 use native.Mathlib.Omega.{arith}
 use Rattle.partition.specs.Laws.Moore as moore
-use Rattle.pack.specs.State.{State, node, nowhere, meaning, target, Closed}
-use Rattle.pack.specs.Syntax.{Node}
+use Rattle.state.specs.State.{State, node, nowhere, meaning, target, Closed}
+use Rattle.state.specs.Syntax.{Node}
 use Rattle.partition.specs.Chart.{Ordered, Written}
 use Rattle.partition.specs.States.{AtMost}
 use Rattle.partition.specs.Laws.Bridge.{val, meaning-at}

@@ -8,8 +8,8 @@ use lib.Seq.{getD-append-seam}
 use native.Mathlib.Nat.{eq-or-lt-of-le, le-of-suc-le-suc}
 use native.Mathlib.Decide.{ℕ-discrete, decLt}
 use native.Mathlib.Omega.{arith}
-use Rattle.pack.specs.State.{node, nowhere, meaning, target, Closed}
-use Rattle.pack.specs.Syntax.{Node}
+use Rattle.state.specs.State.{node, nowhere, meaning, target, Closed}
+use Rattle.state.specs.Syntax.{Node}
 use Rattle.partition.specs.Chart.{meets, Fresh, met, Ordered}
 use Rattle.partition.specs.Laws.Built.{built, copied}
 use Rattle.partition.specs.Laws.Count.{all, count-all, count-inj, least, turn}

@@ -6,7 +6,7 @@ use mathlib.Core.List.{List, [], _∷_}
 use lib.ListN.{length}
 use native.Mathlib.Decide.{decLe}
 use native.Mathlib.Omega.{arith}
-use Rattle.pack.specs.State.{Valid}
+use Rattle.state.specs.State.{Valid}
 use Rattle.chart.specs.Earliest.{Before, Earliest}
 use Rattle.partition.specs.Laws.Count.{least}
 

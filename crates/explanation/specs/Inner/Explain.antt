@@ -4,10 +4,10 @@ use mathlib.Core.Bool.{Bool, true, false}
 use mathlib.Core.List.{List}
 use Prim.Native.Nat.{ℕ, _+_, _*_, _<_, _≤_}
 use lib.ListN.{length}
-use Rattle.pack.specs.Syntax.{Node, Theory}
+use Rattle.state.specs.Syntax.{Node, Theory}
 use Rattle.pack.specs.Answer.{dims}
-use Rattle.pack.specs.Table as table
-use Rattle.pack.specs.declared.table.Table.{Table}
+use Rattle.state.specs.Table as table
+use Rattle.state.specs.declared.table.Table.{Table}
 use Rattle.chart.specs.Call.{workRoom, cleared}
 use Rattle.chart.specs.Inner.Look.{NodesRead}
 use Rattle.change.specs.Inner.Cause.{Tabled}

@@ -3,9 +3,9 @@ use mathlib.Core.Path.{_≡_}
 use mathlib.Core.List.{List, _∷_}
 use Prim.Native.Nat.{ℕ, _+_, _<_}
 use lib.ListN.{getD}
-use Rattle.pack.specs.Syntax.{Theory}
-use Rattle.pack.specs.State.{State}
-use Rattle.pack.specs.declared.table.Table.{Table}
+use Rattle.state.specs.Syntax.{Theory}
+use Rattle.state.specs.State.{State}
+use Rattle.state.specs.declared.table.Table.{Table}
 use Rattle.change.specs.Happening.{actionOf}
 use Rattle.explanation.specs.declared.explain.Shape.{Shape}
 use Rattle.explanation.specs.Ending.{Explained, utilityTo, authorUtility}

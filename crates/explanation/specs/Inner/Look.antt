@@ -4,15 +4,15 @@ use mathlib.Core.Bool.{Bool, _||_}
 use mathlib.Core.List.{List, []}
 use Prim.Native.Nat.{ℕ, _+_, _<_, _≤_}
 use lib.ListN.{getD}
-use Rattle.pack.specs.Syntax.{Theory}
-use Rattle.pack.specs.State.{State}
-use Rattle.pack.specs.Condition.{utility}
+use Rattle.state.specs.Syntax.{Theory}
+use Rattle.state.specs.State.{State}
+use Rattle.state.specs.Condition.{utility}
 use Rattle.reading.specs.Reading.{Reader}
-use Rattle.pack.specs.Grammar.{Dimensions, dimensions}
+use Rattle.state.specs.Grammar.{Dimensions, dimensions}
 use Rattle.pack.specs.Contents.{Gives}
-use Rattle.pack.specs.Judge.{Over}
-use Rattle.pack.specs.Table.{stateOf, TableFits}
-use Rattle.pack.specs.declared.table.Table.{Table}
+use Rattle.state.specs.Judge.{Over}
+use Rattle.state.specs.Table.{stateOf, TableFits}
+use Rattle.state.specs.declared.table.Table.{Table}
 use Rattle.change.specs.Happening.{Plays, actionOf}
 use Rattle.transition.specs.Laws.Still.{writes, triggerWrites}
 use Rattle.transition.specs.Inner.Play.{Theorized}

@@ -3,9 +3,9 @@ use mathlib.Core.Path.{_≡_}
 use mathlib.Core.List.{List}
 use Prim.Native.Nat.{ℕ, suc, _+_, _*_, _<_, _≤_}
 use lib.ListN.{length, getD}
-use Rattle.pack.specs.Syntax.{Theory}
-use Rattle.pack.specs.State.{State}
-use Rattle.pack.specs.Table as table
+use Rattle.state.specs.Syntax.{Theory}
+use Rattle.state.specs.State.{State}
+use Rattle.state.specs.Table as table
 use Rattle.chart.specs.Call.{workRoom}
 use Rattle.explanation.specs.declared.explain.Shape.{Shape}
 use Rattle.explanation.specs.declared.memory.Key.{Key}

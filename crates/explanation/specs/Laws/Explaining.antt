@@ -6,8 +6,8 @@ use mathlib.Core.List.{List, [], _∷_, List·Memᴰ, List·Memᴰ·head, List·
 use lib.ListN.{length}
 use native.Mathlib.Decide.{ℕ-discrete, decLt, map-dec}
 use native.Mathlib.Omega.{arith}
-use Rattle.pack.specs.State.{State, belief}
-use Rattle.pack.specs.Syntax.{Theory}
+use Rattle.state.specs.State.{State, belief}
+use Rattle.state.specs.Syntax.{Theory}
 use Rattle.partition.specs.Laws.Count.{any}
 use Rattle.chart.specs.Laws.Tabled.{Tabled, tabled-belief}
 use Rattle.change.specs.Happening.{Plays, actionOf}

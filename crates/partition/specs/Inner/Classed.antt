@@ -4,10 +4,10 @@ use mathlib.Core.Logic.{_↔_}
 use mathlib.Core.List.{List}
 use Prim.Native.Nat.{ℕ, _+_, _*_, _<_, _≤_}
 use lib.ListN.{getD, length}
-use Rattle.pack.specs.State.{meaning}
+use Rattle.state.specs.State.{meaning}
 use Rattle.partition.specs.Chart.{Ordered, Written}
 use Rattle.partition.specs.Laws.Merged.{Numbered}
-use Rattle.pack.specs.Table.{rowsAt, Below, Above}
+use Rattle.state.specs.Table.{rowsAt, Below, Above}
 
 -- the class of row i: the classes stand from k on
 abbrev pub classAt : List ℕ → ℕ → ℕ → ℕ

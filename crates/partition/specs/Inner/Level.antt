@@ -5,11 +5,11 @@ use mathlib.Core.Logic.{_↔_}
 use mathlib.Core.List.{List}
 use Prim.Native.Nat.{ℕ, _+_, _*_, _<_, _≤_}
 use lib.ListN.{getD, length}
-use Rattle.pack.specs.State.{node, target, meaning}
+use Rattle.state.specs.State.{node, target, meaning}
 use Rattle.partition.specs.States.{AtMost}
 use Rattle.partition.specs.Laws.Merged.{classes, Numbered}
 use Rattle.partition.specs.Laws.Moore as moore
-use Rattle.pack.specs.Table.{rowsAt, Below, Above, Between}
+use Rattle.state.specs.Table.{rowsAt, Below, Above, Between}
 use Rattle.partition.specs.Inner.Classed.{classAt, Classed}
 
 -- the flag r says whether P holds

@@ -3,9 +3,9 @@ use mathlib.Core.Path.{_≡_}
 use mathlib.Core.List.{List}
 use Prim.Native.Nat.{ℕ, suc, _+_, _*_, _<_, _≤_, max}
 use lib.ListN.{getD, length}
-use Rattle.pack.specs.State.{meaning}
+use Rattle.state.specs.State.{meaning}
 use Rattle.partition.specs.Chart.{meets, Fresh, Ordered}
-use Rattle.pack.specs.Table.{cells, rowsAt, Below, Above, Between}
+use Rattle.state.specs.Table.{cells, rowsAt, Below, Above, Between}
 
 -- one more than slot x's number; and the slot that number i was given to
 abbrev pub slotAt : List ℕ → ℕ → ℕ → ℕ

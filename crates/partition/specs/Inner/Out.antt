@@ -3,7 +3,7 @@ use mathlib.Core.Path.{_≡_}
 use mathlib.Core.List.{List}
 use Prim.Native.Nat.{ℕ, _+_, _*_, _-_, _<_, _≤_}
 use lib.ListN.{getD}
-use Rattle.pack.specs.Table.{Below, Above}
+use Rattle.state.specs.Table.{Below, Above}
 
 -- a byte of src as it is put
 abbrev pub shifted : List ℕ → (more less p : ℕ) → ℕ

@@ -3,7 +3,7 @@ use mathlib.Core.Path.{_≡_}
 use mathlib.Core.List.{List}
 use Prim.Native.Nat.{ℕ, _+_, _-_, _<_, _≤_}
 use lib.ListN.{getD}
-use Rattle.pack.specs.Table.{Below, Above}
+use Rattle.state.specs.Table.{Below, Above}
 
 -- the k bytes from a on are 0
 pub record Cleared (was now : List ℕ) (a k : ℕ) : Type 0 where

@@ -5,7 +5,7 @@ use Prim.Native.Nat.{ℕ, zero, suc, _+_, _*_, _%_, _<_, _≤_}
 use lib.ListN.{getD, length}
 use Rattle.partition.specs.Inner.Classed.{classAt}
 use Rattle.partition.specs.Inner.Level.{Placed, SameValues, Sorted}
-use Rattle.pack.specs.Table.{Below, Above}
+use Rattle.state.specs.Table.{Below, Above}
 
 -- the f bytes from a on as one number of 32 bits, each byte counted twice as much as the one behind it
 unfoldable pub sumOf : List ℕ → ℕ → ℕ → ℕ

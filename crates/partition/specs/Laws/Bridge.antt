@@ -6,8 +6,8 @@ use mathlib.Core.List.{List, [], _∷_}
 use lib.ListN.{length}
 use native.Mathlib.Omega.{arith}
 use Rattle.partition.specs.Laws.Moore as moore
-use Rattle.pack.specs.State.{State, node, meaning, target, Closed}
-use Rattle.pack.specs.Syntax.{Node}
+use Rattle.state.specs.State.{State, node, meaning, target, Closed}
+use Rattle.state.specs.Syntax.{Node}
 use Rattle.partition.specs.Chart.{Ordered}
 use Rattle.partition.specs.States.{AtMost}
 use Rattle.partition.specs.Laws.Counted.{at-least}

@@ -3,9 +3,9 @@ use Prim.Native.Nat.{ℕ, _<_, _≤_}
 use mathlib.Core.Path.{_≡_, refl, sym, _∙_, ap}
 use mathlib.Core.List.{List, []}
 use lib.ListN.{length}
-use Rattle.pack.specs.State.{State, belief, node, meaning, target}
-use Rattle.pack.specs.Syntax.{Node}
-use Rattle.pack.specs.Laws.Table.{means, blank, belief-in, belief-out}
+use Rattle.state.specs.State.{State, belief, node, meaning, target}
+use Rattle.state.specs.Syntax.{Node}
+use Rattle.state.specs.Laws.Table.{means, blank, belief-in, belief-out}
 
 -- members of K stand for states: the values of each, and what each believes, again a member
 pub record Family (C : ℕ) {K : Type 0} (Real : K → Type 0) (sem : K → State) (values : K → List ℕ) (next : K → ℕ → K) : Type 0 where

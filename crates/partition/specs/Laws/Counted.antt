@@ -7,9 +7,9 @@ use lib.ListN.{getD, length}
 use native.Mathlib.Nat.{eq-or-lt-of-le, le-of-suc-le-suc}
 use native.Mathlib.Decide.{decLt}
 use native.Mathlib.Omega.{arith}
-use Rattle.pack.specs.State.{State, after, Valid, meaning, target, Closed, walk}
-use Rattle.pack.specs.Syntax.{Node}
-use Rattle.pack.specs.Laws.Table.{after-walk, walk-inside}
+use Rattle.state.specs.State.{State, after, Valid, meaning, target, Closed, walk}
+use Rattle.state.specs.Syntax.{Node}
+use Rattle.state.specs.Laws.Table.{after-walk, walk-inside}
 use Rattle.partition.specs.Chart.{Apart}
 use Rattle.partition.specs.States.{AtMost}
 use Rattle.partition.specs.Laws.Count.{all, count-all, count-inj}

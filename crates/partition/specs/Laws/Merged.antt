@@ -7,9 +7,9 @@ use lib.ListN.{getD, length, length-map}
 use native.Mathlib.Nat.{eq-or-lt-of-le, le-of-suc-le-suc}
 use native.Mathlib.Decide.{decLt}
 use native.Mathlib.Omega.{arith}
-use Rattle.pack.specs.State.{State, belief, node, nowhere, meaning, target}
-use Rattle.pack.specs.Syntax.{Node}
-use Rattle.pack.specs.Laws.Table.{belief-in, belief-out}
+use Rattle.state.specs.State.{State, belief, node, nowhere, meaning, target}
+use Rattle.state.specs.Syntax.{Node}
+use Rattle.state.specs.Laws.Table.{belief-in, belief-out}
 use Rattle.partition.specs.Chart.{meets, Fresh, met, Ordered, Written}
 use Rattle.partition.specs.Laws.Unique.{some}
 

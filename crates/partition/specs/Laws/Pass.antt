@@ -7,8 +7,8 @@ use lib.ListN.{getD, length, length-append, List·getD-append}
 use lib.Seq.{getD-append-seam}
 use native.Mathlib.Nat.{eq-or-lt-of-le, le-of-suc-le-suc}
 use native.Mathlib.Omega.{arith}
-use Rattle.pack.specs.State.{node, nowhere, target, Closed}
-use Rattle.pack.specs.Syntax.{Node}
+use Rattle.state.specs.State.{node, nowhere, target, Closed}
+use Rattle.state.specs.Syntax.{Node}
 use Rattle.partition.specs.Chart.{meets, Fresh, met, Ordered}
 use Rattle.partition.specs.Laws.Built.{Rows}
 use Rattle.partition.specs.Laws.Merged.{meets-in, met-up}

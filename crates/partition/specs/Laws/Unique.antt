@@ -8,9 +8,9 @@ use lib.Seq.{ext-getD}
 use native.Mathlib.Nat.{eq-or-lt-of-le, le-of-suc-le-suc}
 use native.Mathlib.Decide.{decLt}
 use native.Mathlib.Omega.{arith}
-use Rattle.pack.specs.State.{State, belief, Valid, node, nowhere, meaning, target}
-use Rattle.pack.specs.Syntax.{Node}
-use Rattle.pack.specs.Laws.Table.{belief-in, same-valid}
+use Rattle.state.specs.State.{State, belief, Valid, node, nowhere, meaning, target}
+use Rattle.state.specs.Syntax.{Node}
+use Rattle.state.specs.Laws.Table.{belief-in, same-valid}
 use Rattle.partition.specs.Chart.{meets, Fresh, met, Ordered, Written}
 use Rattle.partition.specs.Laws.Counted.{Reached, by-parents}
 

@@ -3,10 +3,10 @@ use Prim.Native.Nat.{ℕ, _+_, _*_, _-_, _<_, _≤_}
 use mathlib.Core.Path.{_≡_}
 use mathlib.Core.List.{List}
 use lib.ListN.{length, getD}
-use Rattle.pack.specs.Syntax.{Node, Theory}
-use Rattle.pack.specs.State.{State, meaning}
+use Rattle.state.specs.Syntax.{Node, Theory}
+use Rattle.state.specs.State.{State, meaning}
 use Rattle.reading.specs.Reading.{told}
-use Rattle.pack.specs.Table.{tableOf, stateOf, Below, Above}
+use Rattle.state.specs.Table.{tableOf, stateOf, Below, Above}
 use Rattle.chart.specs.Call.{listRoom, workRoom, cleared, resultAfter}
 use Rattle.partition.specs.Chart.{Starts}
 use Rattle.chart.specs.Earliest.{Before}

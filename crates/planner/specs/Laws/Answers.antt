@@ -4,8 +4,8 @@ use mathlib.Core.Path.{_≡_, refl, sym, subst}
 use mathlib.Core.Bool.{Bool, true, false, true≢false}
 use mathlib.Core.Logic.{_↔_}
 use mathlib.Core.List.{List}
-use Rattle.pack.specs.State.{State, meaning}
-use Rattle.pack.specs.Syntax.{Theory, Node}
+use Rattle.state.specs.State.{State, meaning}
+use Rattle.state.specs.Syntax.{Theory, Node}
 use Rattle.chart.specs.Laws.Tables.{on-table, IsTable}
 use Rattle.planner.specs.Answers.{says, explainedTable, searchTable}
 use Rattle.explanation.specs.Ending.{Explained}

@@ -4,8 +4,8 @@ use mathlib.Core.Path.{_≡_, refl, sym, ap, subst}
 use mathlib.Core.List.{List, [], _∷_}
 use mathlib.Core.Logic.{_↔_}
 use native.Mathlib.Omega.{arith}
-use Rattle.pack.specs.State.{State, meaning}
-use Rattle.pack.specs.Syntax.{Theory, Node}
+use Rattle.state.specs.State.{State, meaning}
+use Rattle.state.specs.Syntax.{Theory, Node}
 use Rattle.chart.specs.Answers.{startTable}
 use Rattle.partition.specs.Chart.{Written}
 use Rattle.chart.specs.Laws.Answers.{start-table-iff, written-table}

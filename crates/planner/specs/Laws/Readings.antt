@@ -6,10 +6,10 @@ use mathlib.Core.Logic.{⊎-elim, _≢_}
 use mathlib.Core.List.{List, [], _∷_, List·Memᴰ, List·Memᴰ·head, List·Memᴰ·eq-of-singleton}
 use lib.ListN.{getD, length}
 use native.Mathlib.Omega.{arith}
-use Rattle.pack.specs.Condition.{holds, allPass, passes, compares, utility, write}
-use Rattle.pack.specs.State.{State, belief, Valid, node, meaning, target}
-use Rattle.pack.specs.Syntax.{is, Condition, Action, Theory, Node}
-use Rattle.pack.specs.Laws.Table.{means, belief-out}
+use Rattle.state.specs.Condition.{holds, allPass, passes, compares, utility, write}
+use Rattle.state.specs.State.{State, belief, Valid, node, meaning, target}
+use Rattle.state.specs.Syntax.{is, Condition, Action, Theory, Node}
+use Rattle.state.specs.Laws.Table.{means, belief-out}
 use Rattle.partition.specs.Chart.{Written, met, meets, Fresh}
 use Rattle.chart.specs.Compare.{Differ}
 use Rattle.chart.specs.Earliest.{Before}

@@ -7,8 +7,8 @@ use mathlib.Core.List.{List, []}
 use lib.ListN.{length, getD}
 use lib.Dec.{ltb, leb}
 use borrow.Author.Tests.{lt-ltb, le-leb}
-use Rattle.pack.specs.Syntax.{Node, Pack}
-use Rattle.pack.specs.State.{State, meaning}
+use Rattle.state.specs.Syntax.{Node, Pack}
+use Rattle.state.specs.State.{State, meaning}
 use Rattle.reading.specs.Reading.{gives}
 use Rattle.reading.specs.Laws.Reading.{same-gift, never-gives}
 use Rattle.chart.specs.Call.{listRoom, workRoom, fits}

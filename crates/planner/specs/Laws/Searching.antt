@@ -5,8 +5,8 @@ use mathlib.Core.Logic.{_⊎_, ⊎-elim, _↔_}
 use mathlib.Core.List.{List}
 use lib.ListN.{length}
 use native.Mathlib.Decide.{decLe, decLt}
-use Rattle.pack.specs.State.{State}
-use Rattle.pack.specs.Syntax.{Theory}
+use Rattle.state.specs.State.{State}
+use Rattle.state.specs.Syntax.{Theory}
 use Rattle.chart.specs.Earliest.{Earliest}
 use Rattle.chart.specs.Laws.Seek.{seek}
 use Rattle.chart.specs.Laws.Tabled.{Tabled}

@@ -5,11 +5,11 @@ use mathlib.Core.Option.{Option, none, some}
 use mathlib.Core.List.{List}
 use Prim.Native.Nat.{ℕ, _+_, _*_, _<_, _≤_}
 use lib.ListN.{length, getD}
-use Rattle.pack.specs.Syntax.{Trigger, Node}
-use Rattle.pack.specs.State.{State, meaning}
-use Rattle.pack.specs.Grammar.{Dimensions}
+use Rattle.state.specs.Syntax.{Trigger, Node}
+use Rattle.state.specs.State.{State, meaning}
+use Rattle.state.specs.Grammar.{Dimensions}
 use Rattle.pack.specs.Contents.{TriggerStands}
-use Rattle.pack.specs.declared.table.Table.{Table}
+use Rattle.state.specs.declared.table.Table.{Table}
 use Rattle.change.specs.Happening.{firing, effectsOf}
 use Rattle.change.specs.Inner.Cause.{EffectsAt, Tabled}
 

@@ -5,10 +5,10 @@ use mathlib.Core.Logic.{_⊎_}
 use mathlib.Core.List.{List}
 use Prim.Native.Nat.{ℕ, suc, _+_, _*_, _<_, _≤_}
 use lib.ListN.{length, getD}
-use Rattle.pack.specs.Syntax.{Effect}
-use Rattle.pack.specs.Condition.{write}
-use Rattle.pack.specs.Table.{cells, tableOf}
-use Rattle.pack.specs.declared.table.Table.{Table}
+use Rattle.state.specs.Syntax.{Effect}
+use Rattle.state.specs.Condition.{write}
+use Rattle.state.specs.Table.{cells, tableOf}
+use Rattle.state.specs.declared.table.Table.{Table}
 use Rattle.chart.specs.Call.{workRoom}
 use Rattle.partition.specs.Chart.{Ordered}
 use Rattle.change.specs.declared.change.Change.{Change}

@@ -6,9 +6,9 @@ use mathlib.Core.Logic.{_⊎_, inl, inr, ⊎-elim, by-cases, _↔_}
 use mathlib.Core.Option.{Option}
 use lib.ListN.{length}
 use native.Mathlib.Decide.{decLt, map-dec}
-use Rattle.pack.specs.Condition.{holds}
-use Rattle.pack.specs.State.{State, meaning}
-use Rattle.pack.specs.Syntax.{Theory, Trigger}
+use Rattle.state.specs.Condition.{holds}
+use Rattle.state.specs.State.{State, meaning}
+use Rattle.state.specs.Syntax.{Theory, Trigger}
 use Rattle.partition.specs.States.{AtMost}
 use Rattle.chart.specs.Laws.Charted.{Charting, chart, few?}
 use Rattle.partition.specs.Laws.Count.{every}

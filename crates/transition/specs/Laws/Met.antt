@@ -7,9 +7,9 @@ use mathlib.Core.Option.{Option, none, some}
 use mathlib.Core.List.{List, [], _∷_, _++_, append-nil, List·Memᴰ·head}
 use native.Mathlib.Omega.{arith}
 use lib.ListN.{length, getD}
-use Rattle.pack.specs.Syntax.{Condition, Effect, Action, Trigger, Theory}
-use Rattle.pack.specs.State.{State, belief, after, Valid}
-use Rattle.pack.specs.Condition.{holds, allPass, write}
+use Rattle.state.specs.Syntax.{Condition, Effect, Action, Trigger, Theory}
+use Rattle.state.specs.State.{State, belief, after, Valid}
+use Rattle.state.specs.Condition.{holds, allPass, write}
 use Rattle.partition.specs.States.{AtMost}
 use Rattle.partition.specs.Laws.Count.{count, all, count-all, count-inj}
 use Rattle.partition.specs.Laws.Lists.{place}

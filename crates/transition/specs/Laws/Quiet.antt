@@ -6,9 +6,9 @@ use mathlib.Core.Option.{Option, none, some}
 use mathlib.Core.List.{List}
 use lib.ListN.{length}
 use native.Mathlib.Omega.{arith}
-use Rattle.pack.specs.State.{State, meaning, Closed, walk}
-use Rattle.pack.specs.Syntax.{Theory, Trigger, Node}
-use Rattle.pack.specs.Laws.Table.{after-walk, walk-inside}
+use Rattle.state.specs.State.{State, meaning, Closed, walk}
+use Rattle.state.specs.Syntax.{Theory, Trigger, Node}
+use Rattle.state.specs.Laws.Table.{after-walk, walk-inside}
 use Rattle.partition.specs.Laws.Counted.{there, Reached}
 use Rattle.change.specs.Happening.{Quiet, firing}
 

@@ -8,10 +8,10 @@ use mathlib.Core.List.{List, []}
 use lib.ListN.{length, getD}
 use lib.Dec.{ltb}
 use borrow.Author.Tests.{lt-ltb}
-use Rattle.pack.specs.Syntax.{Node, Pack}
-use Rattle.pack.specs.State.{State, meaning}
+use Rattle.state.specs.Syntax.{Node, Pack}
+use Rattle.state.specs.State.{State, meaning}
 use Rattle.reading.specs.Reading.{gives, refuses}
-use Rattle.pack.specs.Layout.{chartBytes}
+use Rattle.state.specs.Layout.{chartBytes}
 use Rattle.partition.specs.Chart.{ChartOf}
 use Rattle.chart.specs.Call.{chartRoom, workRoom, fits}
 use Rattle.chart.specs.Laws.Answers.{fits-table}

@@ -2,8 +2,8 @@
 use Prim.Native.Nat.{ℕ, suc}
 use mathlib.Core.Path.{_≡_, refl, sym, _∙_}
 use mathlib.Core.Bool.{true≢false}
-use Rattle.pack.specs.State.{State}
-use Rattle.pack.specs.Syntax.{Theory}
+use Rattle.state.specs.State.{State}
+use Rattle.state.specs.Syntax.{Theory}
 use Rattle.partition.specs.States.{AtMost}
 use Rattle.change.specs.Happening.{Quiet, Settles, round, Plays, Stops, Refuses}
 

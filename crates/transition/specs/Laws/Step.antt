@@ -4,10 +4,10 @@ use mathlib.Core.Path.{_≡_, refl, sym, subst}
 use mathlib.Core.Logic.{_↔_}
 use mathlib.Core.List.{List}
 use lib.ListN.{length}
-use Rattle.pack.specs.State.{State, meaning}
-use Rattle.pack.specs.Syntax.{Theory, Node, Pack}
+use Rattle.state.specs.State.{State, meaning}
+use Rattle.state.specs.Syntax.{Theory, Node, Pack}
 use Rattle.partition.specs.Chart.{Written}
-use Rattle.pack.specs.Layout.{PackFits, ChartFits}
+use Rattle.state.specs.Layout.{PackFits, ChartFits}
 use Rattle.chart.specs.Laws.Answers.{written-fits, fits-table, fits-everywhere}
 use Rattle.partition.specs.Laws.Counted.{counted}
 use Rattle.chart.specs.Laws.Tables.{IsTable, on-table}

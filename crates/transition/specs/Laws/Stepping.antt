@@ -5,8 +5,8 @@ use mathlib.Core.Logic.{⊎-elim, by-cases, _↔_}
 use lib.ListN.{length}
 use native.Mathlib.Decide.{decLt}
 use native.Mathlib.Omega.{arith}
-use Rattle.pack.specs.State.{State}
-use Rattle.pack.specs.Syntax.{Theory}
+use Rattle.state.specs.State.{State}
+use Rattle.state.specs.Syntax.{Theory}
 use Rattle.chart.specs.Laws.Charted.{chart}
 use Rattle.chart.specs.Laws.Tabled.{Tabled}
 use Rattle.partition.specs.Laws.Unique.{unique}

@@ -7,9 +7,9 @@ use mathlib.Core.List.{List, [], _∷_, _++_, map, List·Memᴰ, List·Memᴰ·h
 use lib.ListN.{length}
 use native.Mathlib.Nat.{eq-or-lt-of-le, le-of-suc-le-suc}
 use native.Mathlib.Omega.{arith}
-use Rattle.pack.specs.State.{State, meaning, target, Closed}
-use Rattle.pack.specs.Syntax.{Action, Trigger, Effect, Node}
-use Rattle.pack.specs.Laws.Table.{means}
+use Rattle.state.specs.State.{State, meaning, target, Closed}
+use Rattle.state.specs.Syntax.{Action, Trigger, Effect, Node}
+use Rattle.state.specs.Laws.Table.{means}
 use Rattle.partition.specs.Laws.Lists.{below, map-in, map-out, below-in, below-out}
 use Rattle.chart.specs.Laws.Tabled.{enumerated, tabled-same, Tabled}
 use Rattle.change.specs.Happening.{act, change, fires, observes, round}

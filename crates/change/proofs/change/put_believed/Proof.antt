@@ -4,7 +4,7 @@ use Prim.Native.Nat.{_+_, _*_, _<_, _≤_}
 use lib.ListN.{length}
 use native.Mathlib.Omega.{arith}
 use borrow.Author.Needs.{needs}
-use Rattle.pack.specs.State.{target}
+use Rattle.state.specs.State.{target}
 use Rattle.change.specs.Inner.Change.{Scene, Stands}
 use Rattle.change.proofs.Changing.{row-inside, watched, belief-is, belief-in, believed-acted, believed-old, believed-keeps}
 use Rattle.change.proofs.change.put_believed.Statement.{statement}

@@ -5,9 +5,9 @@ use mathlib.Core.List.{List}
 use lib.ListN.{length, length-set, getD}
 use native.Mathlib.Omega.{arith}
 use borrow.Author.Needs.{needs}
-use Rattle.pack.specs.Syntax.{Node}
-use Rattle.pack.specs.State.{target}
-use Rattle.pack.specs.Grammar.{Dimensions}
+use Rattle.state.specs.Syntax.{Node}
+use Rattle.state.specs.State.{target}
+use Rattle.state.specs.Grammar.{Dimensions}
 use Rattle.change.specs.Laws.Changed.{old}
 use Rattle.change.specs.Inner.Cause.{Tabled}
 use Rattle.change.specs.Inner.Change.{Scene, SlotsPut}

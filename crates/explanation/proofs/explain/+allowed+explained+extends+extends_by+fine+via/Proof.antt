@@ -7,9 +7,9 @@ use lib.ListN.{length}
 use borrow.Author.Count.{below-more}
 use borrow.Author.Needs.{needs}
 use borrow.Author.Tests.{not-true, not-false}
-use Rattle.pack.specs.Syntax.{Node, Theory}
-use Rattle.pack.specs.State.{State, meaning}
-use Rattle.pack.specs.Table.{Below, Above}
+use Rattle.state.specs.Syntax.{Node, Theory}
+use Rattle.state.specs.State.{State, meaning}
+use Rattle.state.specs.Table.{Below, Above}
 use Rattle.chart.specs.Call.{workRoom}
 use Rattle.change.specs.Happening.{Plays}
 use Rattle.change.proofs.Changing.{small}
@@ -39,10 +39,10 @@ use Rattle.explanation.proofs.explain.+allowed+explained+extends+extend
 use Rattle.explanation.proofs.explain.via.Reads as via
 use Rattle.explanation.proofs.explain.via.Kinds as via-kinds
 use Rattle.explanation.proofs.explain.+allowed+explained+extends+extends_by+fine+via.Lts-via as via-lts
-use Rattle.pack.proofs.judge.utility.Reads as utility-reads
+use Rattle.state.proofs.judge.utility.Reads as utility-reads
 use Rattle.reading.proofs.number.wide.Reads as wide-reads
-use Rattle.pack.proofs.write.consenter.Reads as consenter-reads
-use Rattle.pack.proofs.write.consenters.Reads as consenters-reads
+use Rattle.state.proofs.write.consenter.Reads as consenter-reads
+use Rattle.state.proofs.write.consenters.Reads as consenters-reads
 use Rattle.explanation.proofs.explain.mark.Reads as mark-reads
 use Rattle.explanation.proofs.look.promising.Reads as promising-reads
 use Rattle.explanation.proofs.memory.entry_of.Reads as entry-of-reads

@@ -2,7 +2,7 @@
 use native.Mathlib.Omega.{arith}
 use borrow.Author.Needs.{needs}
 use borrow.Author.Tests.{not-true, not-false}
-use Rattle.pack.specs.Grammar.{testAt}
+use Rattle.state.specs.Grammar.{testAt}
 use Rattle.explanation.proofs.Looking.{Rest, run-start, run-stop, run-on, run-none, testRun, look-next, look-inside, test-inside, test-room, test-end, all-by, all-none}
 use Rattle.explanation.proofs.look.could_all.Statement.{statement}
 use Rattle.explanation.proofs.look.could_all.Tie as tie

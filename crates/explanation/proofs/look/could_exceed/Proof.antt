@@ -4,7 +4,7 @@ use mathlib.Core.Logic.{⊎-elim}
 use native.Mathlib.Omega.{arith}
 use borrow.Author.Needs.{needs}
 use Rattle.reading.specs.Said.{said}
-use Rattle.pack.specs.Grammar.{ruleAt}
+use Rattle.state.specs.Grammar.{ruleAt}
 use Rattle.reading.specs.Laws.Reading.{never, same-value, same-place}
 use Rattle.explanation.proofs.Looking.{Rest, run-start, run-stop, run-on, run-none, ruleRun, rules-parts, exceed-told, look-next, look-inside, look-readable, rule-look, rule-condition, rule-number, exceed-by, exceed-low, exceed-none}
 use Rattle.explanation.proofs.look.could_exceed.Statement.{statement}

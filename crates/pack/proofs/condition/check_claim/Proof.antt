@@ -5,7 +5,7 @@ use mathlib.Core.Path.{ap, _∙_}
 use lib.ListN.{length}
 use Rattle.reading.specs.Said.{said}
 use Rattle.pack.specs.Answer.{claimAt}
-use Rattle.pack.proofs.Laws.{between-within}
+use Rattle.reading.specs.Laws.Number.{between-within}
 use Rattle.pack.proofs.condition.check_claim.Statement.{statement}
 use Rattle.pack.proofs.condition.check_claim.Tie as tie
 

@@ -4,7 +4,7 @@ use Prim.Native.Nat.{_-_}
 use mathlib.Core.Path.{_≡_}
 use Rattle.reading.specs.Reading.{mapped, many}
 use Rattle.reading.specs.Number.{counted}
-use Rattle.pack.specs.Grammar.{testAt, conditionAt}
+use Rattle.state.specs.Grammar.{testAt, conditionAt}
 use Rattle.reading.specs.Said.{forget}
 use Rattle.pack.specs.Answer.{dims}
 use Rattle.pack.proofs.Laws.{runs-none, many-forget}

@@ -3,7 +3,7 @@ use borrow.Author.Needs.{needs}
 use mathlib.Core.Path.{_≡_, sym, ap, _∙_}
 use lib.ListN.{take}
 use Rattle.pack.specs.Contents.{bodyAt}
-use Rattle.pack.specs.Grammar.{packAt}
+use Rattle.state.specs.Grammar.{packAt}
 use Rattle.reading.specs.Reading.{refused, bind, mapped}
 use Rattle.reading.specs.Said.{shown, answered, forget}
 use Rattle.pack.specs.Answer.{dims}

@@ -3,7 +3,7 @@ use borrow.Author.Needs.{needs}
 use native.Mathlib.Omega.{arith}
 use mathlib.Core.Path.{_≡_, _∙_}
 use Rattle.reading.specs.Reading.{refused, mapped}
-use Rattle.pack.specs.Grammar.{theoryAt}
+use Rattle.state.specs.Grammar.{theoryAt}
 use Rattle.reading.specs.Said.{shown, forget}
 use Rattle.pack.specs.Answer.{dims}
 use Rattle.pack.proofs.Found.{no-value, theory-marked}

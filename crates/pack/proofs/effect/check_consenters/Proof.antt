@@ -5,7 +5,7 @@ use Prim.Native.Nat.{_+_, _-_}
 use mathlib.Core.Path.{_≡_, ap, _∙_}
 use Rattle.reading.specs.Reading.{mapped, runs}
 use Rattle.reading.specs.Number.{risingAt}
-use Rattle.pack.specs.Grammar.{consentersAt}
+use Rattle.state.specs.Grammar.{consentersAt}
 use Rattle.reading.specs.Said.{said, forget}
 use Rattle.pack.specs.Answer.{dims}
 use Rattle.pack.proofs.Laws.{runs-none, runs-one, rising-below}

@@ -8,7 +8,8 @@ use lib.ListN.{length, take, length-set}
 use Rattle.reading.specs.Reading.{mapped, many}
 use Rattle.reading.specs.Number.{between}
 use Rattle.reading.specs.Said.{said}
-use Rattle.pack.proofs.Laws.{between-within, mapped-id, stored-one, stored-all}
+use Rattle.reading.specs.Laws.Number.{between-within}
+use Rattle.pack.proofs.Laws.{mapped-id, stored-one, stored-all}
 use Rattle.pack.proofs.head.read_domains.Statement.{statement}
 use Rattle.pack.proofs.head.read_domains.Tie as tie
 

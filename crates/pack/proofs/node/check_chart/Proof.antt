@@ -4,7 +4,7 @@ use borrow.Author.Needs.{needs}
 use native.Mathlib.Omega.{arith}
 use mathlib.Core.Path.{ap, _∙_}
 use lib.ListN.{length}
-use Rattle.pack.specs.Grammar.{nodesAt}
+use Rattle.state.specs.Grammar.{nodesAt}
 use Rattle.reading.specs.Said.{said}
 use Rattle.pack.specs.Answer.{dims}
 use Rattle.pack.proofs.Low.{nodes-low, low-told}

@@ -3,7 +3,7 @@ use borrow.Author.Needs.{needs}
 use Prim.Native.Nat.{_-_}
 use mathlib.Core.Path.{_≡_}
 use Rattle.reading.specs.Reading.{mapped, many}
-use Rattle.pack.specs.Grammar.{nodeAt}
+use Rattle.state.specs.Grammar.{nodeAt}
 use Rattle.reading.specs.Said.{forget}
 use Rattle.pack.specs.Answer.{dims}
 use Rattle.pack.proofs.Laws.{runs-none, many-forget}

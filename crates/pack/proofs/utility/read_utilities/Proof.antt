@@ -4,7 +4,7 @@ use native.Mathlib.Omega.{arith}
 use Prim.Native.Nat.{_+_}
 use mathlib.Core.Path.{_≡_, refl, ap, _∙_}
 use lib.ListN.{length, length-set}
-use Rattle.pack.specs.Grammar.{rulesAt}
+use Rattle.state.specs.Grammar.{rulesAt}
 use Rattle.reading.specs.Said.{shown}
 use Rattle.pack.specs.Answer.{dims}
 use Rattle.pack.proofs.Marks.{Marking, marking-start, marking-set, marking-refused, marking-whole, marking-all, set-below}

@@ -4,7 +4,7 @@ use Prim.Native.Nat.{ℕ, _<_, _≤_, _+_, _*_}
 use lib.ListN.{length, getD}
 use native.Mathlib.Omega.{arith}
 use borrow.Author.Needs.{needs}
-use Rattle.pack.specs.Table.{cells}
+use Rattle.state.specs.Table.{cells}
 use Rattle.partition.proofs.Cells.{cells-same, row-in, part-behind}
 use Rattle.partition.proofs.Numbering.{few, numbering-same}
 use Rattle.partition.proofs.Passing.{row-filled}

@@ -4,7 +4,7 @@ use Prim.Native.Nat.{_-_}
 use lib.ListN.{length}
 use native.Mathlib.Omega.{arith}
 use Rattle.partition.specs.Chart.{Ordered}
-use Rattle.pack.specs.Table.{rowsAt}
+use Rattle.state.specs.Table.{rowsAt}
 use Rattle.partition.specs.Inner.Level.{Levels}
 use Rattle.partition.proofs.Parting.{Parting, levels-same, valued-many, ordered-valued, parting-start, parted-since, parting-sound, parting-finer, parting-many, parting-done, parting-apart, parting-more}
 use Rattle.partition.proofs.partition.partition.Statement.{statement}

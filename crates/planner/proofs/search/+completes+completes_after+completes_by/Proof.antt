@@ -8,9 +8,9 @@ use lib.Seq.{getD-set-same, getD-set-other}
 use borrow.Author.Count.{below-more}
 use borrow.Author.Needs.{needs}
 use borrow.Author.Tests.{not-true, not-false}
-use Rattle.pack.specs.Syntax.{Node, Theory}
-use Rattle.pack.specs.State.{meaning}
-use Rattle.pack.specs.Table.{Below, Above}
+use Rattle.state.specs.Syntax.{Node, Theory}
+use Rattle.state.specs.State.{meaning}
+use Rattle.state.specs.Table.{Below, Above}
 use Rattle.chart.specs.Call.{workRoom}
 use Rattle.change.proofs.Changing.{small}
 use Rattle.explanation.specs.Inner.Lists.{slotTable, Ends, EndsBy}

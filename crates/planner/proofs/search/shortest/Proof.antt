@@ -6,9 +6,9 @@ use native.Mathlib.Nat.{mul-le-mul-left, mul-le-mul-right}
 use native.Mathlib.Omega.{arith}
 use lib.ListN.{length}
 use borrow.Author.Needs.{needs}
-use Rattle.pack.specs.Syntax.{Node, Theory}
-use Rattle.pack.specs.State.{meaning}
-use Rattle.pack.specs.Table.{Below, Above}
+use Rattle.state.specs.Syntax.{Node, Theory}
+use Rattle.state.specs.State.{meaning}
+use Rattle.state.specs.Table.{Below, Above}
 use Rattle.chart.specs.Call.{workRoom}
 use Rattle.explanation.specs.Ending.{authorUtility}
 use Rattle.explanation.specs.Inner.Lists.{slotTable, Ends}

@@ -1,0 +1,5 @@
+pub mod Tables
+pub mod OneByte
+pub mod Judging
+pub mod Writing
+pub mod Copying

@@ -1,0 +1,10 @@
+pub mod Syntax
+pub mod State
+pub mod Condition
+pub mod Grammar
+pub mod Layout
+pub mod Table
+pub mod Judge
+pub mod Write
+pub mod Copy
+pub mod Laws
