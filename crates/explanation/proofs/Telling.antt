@@ -29,27 +29,27 @@ use Rattle.chart.specs.Call.{workRoom}
 use Rattle.partition.specs.Chart.{Starts}
 use Rattle.partition.specs.Laws.Lists.{stands, place}
 use Rattle.partition.specs.Laws.Unique.{some}
-use Rattle.partition.proofs.Cells.{rows-most}
+use Rattle.partition.proofs.Cells.{rows-most, rows-same}
 use Rattle.change.specs.Happening.{nothing, actionOf, Plays}
 use Rattle.transition.specs.Laws.Settled.{plays-one, plays-refuses}
 use Rattle.transition.specs.Inner.Play.{Setting, Left, PlayedIn}
 use Rattle.change.proofs.Changing.{tabled-same, small, row-inside, belief-is, belief-in as inside-table}
 use Rattle.explanation.specs.declared.explain.Shape.{Shape}
-use Rattle.explanation.specs.declared.memory.Key.{Key}
+use Rattle.explanation.specs.declared.fact.Key.{Key}
 use Rattle.explanation.specs.Ending.{Leads, Explained, utilityTo}
 use Rattle.explanation.specs.Inner.Lists.{slotTable, Other, AboveBy, AboveBySome, Agreed}
 use Rattle.explanation.specs.Inner.Lists as inner
-use Rattle.explanation.specs.Inner.Memory.{Memory, Slotted, Fact}
-use Rattle.explanation.specs.Inner.Explain.{Stage, Free, Told}
+use Rattle.explanation.specs.Inner.Memory.{stepsAt, keptTable, Named, StepFact, StepEntry, Memory, Fact, Place, Before, InSlot, Naming, StepRead, Noted, Slot, Again, LeftNoted}
+use Rattle.explanation.specs.Inner.Explain.{Stage, Free, Told, Advanced}
 use Rattle.explanation.specs.Inner.Look.{Looking, Tryable, Hopeless}
-use Rattle.explanation.proofs.Remembering.{memory-same, fact-same}
+use Rattle.explanation.proofs.Remembering.{fact-same, row-states, grown-by, before-now, named-state, memory-quiet, memory-fewer}
 
 -- Told: passed on
 pub told-none : {M : List ℕ → Type 0} {slot : ℕ} (was : List ℕ) {P : Type 0} → M was → (P → ⊥) → Told M slot was was false P
 told-none was m f = record { memory = m; sound = λ e. let z : _≡_ {A = ℕ} 0 1 = ap (λ (b : Bool). pick b 1 0) e in absurd (omega arith); complete = λ e x. f x; low = λ q l. refl; high = λ q l. refl }
 
-pub told-by : {M : List ℕ → Type 0} {slot slot′ : ℕ} {was mid now : List ℕ} {r : Bool} {P Q : Type 0} → slot ≤ slot′ → Below was mid slot → Above was mid workRoom → Told M slot′ mid now r P → (P → Q) → (Q → P) → Told M slot was now r Q
-told-by le low high t f g = record { memory = t .memory; sound = λ e. f (t .sound e); complete = λ e x. t .complete e (g x); low = λ q l. t .low q (omega arith) ∙ low q l; high = λ q l. t .high q l ∙ high q l }
+pub told-by : {M M′ : List ℕ → Type 0} {slot slot′ : ℕ} {was mid now : List ℕ} {r : Bool} {P Q : Type 0} → slot ≤ slot′ → (M′ now → M now) → Below was mid slot → Above was mid workRoom → Told M′ slot′ mid now r P → (P → Q) → (Q → P) → Told M slot was now r Q
+told-by le w low high t f g = record { memory = w (t .memory); sound = λ e. f (t .sound e); complete = λ e x. t .complete e (g x); low = λ q l. t .low q (omega arith) ∙ low q l; high = λ q l. t .high q l ∙ high q l }
 
 pub told-no : {M : List ℕ → Type 0} {slot : ℕ} {was now : List ℕ} {P : Type 0} → Below was now slot → Above was now workRoom → M now → (P → ⊥) → Told M slot was now false P
 told-no low high m f = record { memory = m; sound = λ e. let z : _≡_ {A = ℕ} 0 1 = ap (λ (b : Bool). pick b 1 0) e in absurd (omega arith); complete = λ e x. f x; low = low; high = high }
@@ -69,8 +69,27 @@ module _ {th : Theory} {T : List Node} {pack places : List ℕ} {h : Shape} {was
     same-characters = x .same-characters;
     behind = x .behind;
     room = omega (arith, long, x .room);
-    laid = x .laid;
+    slotted = record { number = x .slotted .number; rows = x .slotted .rows; counted = low (961 * x .slotted .number) (omega (arith, x .free)) ∙ x .slotted .counted; before = x .slotted .before };
+    free = x .free;
   }
+
+  -- a table before the memory
+  pub stage-before : slot ≤ 28832 → Before h was t
+  stage-before f = record {
+    fluents = x .same-fluents;
+    characters = x .same-characters;
+    wide = x .tabled .fits .wide;
+    narrow = omega (arith, small (x .tabled), x .tabled .fits .wide);
+    few = x .tabled .few;
+    before = omega (arith, x .behind, f);
+    room = x .room;
+  }
+
+  pub stage-slot : Free slot 1 → Slot h was slot
+  stage-slot f = record { narrow = omega (arith, small (x .tabled), x .same-fluents, x .same-characters); before = omega (arith, f); number = x .slotted .number + 1; is = omega (arith, x .free); room = x .room }
+
+  pub stage-state : (root : ℕ) → stateOf t was root ≡ meaning C T root
+  stage-state root = ap (λ (U : List Node). meaning C U root) (x .tabled .same)
 
   pub stage-setting : Free slot 1 → Setting th T pack places (h .actions) (h .triggers) was t slot
   stage-setting f = record { theorized = x .theorized; tabled = x .tabled; room = record { source = omega (arith, x .behind, f); slot-room = omega (arith, f); room = x .room } }
@@ -106,19 +125,7 @@ module _ {th : Theory} {T : List Node} {pack places : List ℕ} {h : Shape} {was
       ∙ ap (λ (U : List Node). condition.utility (meaning C U root) (getD (th .utilities) (c + 1) [])) (x .tabled .same) ∙ ap (λ (k : ℕ). condition.utility (meaning C T root) (getD (th .utilities) k [])) next
 
   -- a step into the first free slot
-  module _ (root : ℕ) {now : List ℕ} {a r : ℕ} (y : PlayedIn th (meaning C T root) a t was now slot r) (f : Free slot 1) (long : length now ≡ length was) where
-    pub step-low : Below was now slot
-    step-low = y .only .low
-
-    pub step-high : Above was now workRoom
-    step-high q l = y .only .high q (omega arith)
-
-    pub step-memory : {K : ℕ} → Memory th K h was → Memory th K h now
-    step-memory {K} m = memory-same h th K (λ q l g. y .only .high q l) m
-
-    pub step-none : r ≢ 0 → (s : State) → Plays th (meaning C T root) a s → ⊥
-    step-none n s q = plays-refuses q (y .refuses n)
-
+  module _ (root : ℕ) {now : List ℕ} {K a r : ℕ} (y : Advanced th K h (meaning C T root) a t was now slot r) (f : Free slot 1) (long : length now ≡ length was) where
     module _ (e : r ≡ 0) where
       abbrev pub nextTable : List Node
       nextTable = tableOf (slotTable h now slot) now
@@ -161,8 +168,101 @@ module _ {th : Theory} {T : List Node} {pack places : List ℕ} {h : Shape} {was
         same-characters = refl;
         behind = omega (arith, rows-small);
         room = omega (arith, long, x .room);
-        laid = x .laid;
+        slotted = record { number = x .slotted .number + 1; rows = omega (arith, x .free); counted = let z : 961 * (x .slotted .number + 1) ≡ slot = omega (arith, x .free) in ap (λ (q : ℕ). getD now q 0) z; before = omega (arith, x .free) };
+        free = omega (arith, x .free);
       }
+
+-- a step, known or made
+module _ {th : Theory} {T : List Node} {pack places : List ℕ} {h : Shape} {was : List ℕ} {t : Table} {slot : ℕ} (x : Stage th T pack places h was t slot) (f : Free slot 1) (root : ℕ) where
+  bound : slot ≤ 28832
+  bound = omega (arith, f)
+
+  -- the state of the row, where the table's bytes stay
+  row-state : (now : List ℕ) → Below was now slot → stateOf t now root ≡ meaning (t .characters) T root
+  row-state now low = ap (λ (U : List Node). meaning (t .characters) U root) (rows-same was now (t .width) (t .fluents) (t .characters) (t .rows) (t .rows) (t .nodes) (omega (arith, x .tabled .fits .wide)) (λ q l. low (t .rows + q) (omega (arith, x .behind, l)))) ∙ stage-state x root
+
+  -- rows over a pack's counts and over a table's
+  abbrev rowsBy : List ℕ → (w f c : ℕ) → List Node
+  rowsBy now w f c = rowsAt now w f c (slot + 1) (getD now slot 0)
+
+  same-rows : (now : List ℕ) → rowsBy now (h .fluents + h .characters) (h .fluents) (h .characters) ≡ rowsBy now (t .width) (t .fluents) (t .characters)
+  same-rows now = ap (λ (f : ℕ). rowsBy now (f + h .characters) f (h .characters)) (x .same-fluents) ∙ ap (λ (c : ℕ). rowsBy now (t .fluents + c) (t .fluents) c) (x .same-characters) ∙ ap (λ (w : ℕ). rowsBy now w (t .fluents) (t .characters)) (x .tabled .fits .wide)
+
+  -- it is known
+  module _ {K : ℕ} {mid : List ℕ} {name next a at : ℕ} (n : Naming h t was mid name) (long : length mid ≡ length was) (read : StepRead mid at name root a) (place : Place stepsAt 4 at) (e : getD mid (at + 3) 0 ≡ next) (m : Memory th K h slot was) where
+    abbrev mid-memory : Memory th K h slot mid × (0 < name → Named h mid t name)
+    mid-memory = n .told th K slot (omega (arith, bound)) (x .slotted) m
+
+    pub known-fact : StepFact th h mid name root a next
+    known-fact =
+        subst (λ (k : ℕ). StepFact th h mid k root a next) (read .read)
+        (subst (λ (k : ℕ). StepFact th h mid (getD mid at 0) k a next) (read .row)
+        (subst (λ (k : ℕ). StepFact th h mid (getD mid at 0) (getD mid (at + 1) 0) k next) (read .acted)
+        (subst (λ (k : ℕ). StepFact th h mid (getD mid at 0) (getD mid (at + 1) 0) (getD mid (at + 2) 0) k) e
+        (subst (λ (a : ℕ). StepEntry th h mid a) (sym (place .is)) (mid-memory .0 .steps (place .number) (place .few)) (omega (arith, read .read, read .some))))))
+
+    known-state : stateOf (keptTable h mid name) mid root ≡ meaning (t .characters) T root
+    known-state = named-state h (before-now h long (stage-before x bound)) (mid-memory .1 (read .some)) root ∙ row-state mid (λ q l. n .only .low q (omega (arith, l, bound)))
+
+    pub step-again : {now : List ℕ} {r : ℕ} → Again h next slot mid now r → Advanced th K h (meaning (t .characters) T root) a t was now slot r
+    step-again {now} y = record {
+      plays = λ z.
+          let (some, table, few) = y .played z in
+          let (k, (s, plays, starts)) = known-fact .left some in
+          (s, subst (λ (u : State). Plays th u a s) known-state plays, record { few = few; starts = subst (λ (c : ℕ). Starts c s (rowsBy now (t .width) (t .fluents) (t .characters))) (x .same-characters) (subst (Starts (h .characters) s) (sym table ∙ same-rows now) starts) });
+      none = λ z s plays. known-fact .none (y .refused z) s (subst (λ (u : State). Plays th u a s) (sym known-state) plays);
+      low = λ q l. y .low q l ∙ n .only .low q (omega (arith, l, bound));
+      high = λ q l. y .high q l ∙ n .only .high q l;
+      memory = y .memory th K (mid-memory .0) .0;
+      further = y .memory th K (mid-memory .0) .1;
+    }
+
+  -- it is made
+  module _ {K : ℕ} {mid left : List ℕ} {name a r : ℕ} (n : Naming h t was mid name) (y : PlayedIn th (meaning (t .characters) T root) a t mid left slot r) (m : Memory th K h slot was) (long : length left ≡ length was) where
+    left-low : Below was left slot
+    left-low q l = y .only .low q l ∙ n .only .low q (omega (arith, l, bound))
+
+    left-high : Above was left workRoom
+    left-high q l = y .only .high q (omega (arith, l)) ∙ n .only .high q l
+
+    left-in : InSlot left t slot
+    left-in = record { number = x .slotted .number; rows = x .slotted .rows; counted = left-low (961 * x .slotted .number) (omega (arith, x .free)) ∙ x .slotted .counted; before = x .slotted .before }
+
+    left-memory : Memory th K h slot left
+    left-memory = memory-quiet h (grown-by (y .only .high 43518 (omega arith)) (λ q l. y .only .high q (omega (arith, l)))) (omega (arith, bound)) (y .only .low) (λ q l g. y .only .high q l) (λ q l g. y .only .high q (omega (arith, l))) (n .told th K slot (omega (arith, bound)) (x .slotted) m .0)
+
+    -- what it leaves is noted
+    pub step-left : {now : List ℕ} → r ≡ 0 → LeftNoted h t root a slot left now → Advanced th K h (meaning (t .characters) T root) a t was now slot r
+    step-left {now} e z =
+        let (s, plays, l) = y .plays e in
+        let starts : Starts (h .characters) s (tableOf (slotTable h left slot) left) = subst (λ (c : ℕ). Starts c s (tableOf (slotTable h left slot) left)) (sym (x .same-characters)) (subst (Starts (t .characters) s) (sym (same-rows left)) (l .starts)) in
+        let most = rows-most {w = t .width} (l .few) (omega (arith, small (x .tabled), x .tabled .fits .wide)) in
+        let count : getD now slot 0 ≡ getD left slot 0 = z .only .low slot (omega (arith, f)) in
+        let same : rowsBy now (t .width) (t .fluents) (t .characters) ≡ rowsBy left (t .width) (t .fluents) (t .characters) = ap (λ (k : ℕ). rowsAt now (t .width) (t .fluents) (t .characters) (slot + 1) k) count ∙ rows-same left now (t .width) (t .fluents) (t .characters) (slot + 1) (slot + 1) (getD left slot 0) (omega (arith, x .tabled .fits .wide)) (λ q g. z .only .low (slot + 1 + q) (omega (arith, g, most, f))) in
+        let memory = z .memory th K left-in left-memory (s, subst (λ (u : State). Plays th u a s) (sym (row-state left left-low)) plays, starts) in
+        record {
+          plays = λ _. (s, plays, record { few = omega (arith, count, l .few); starts = subst (Starts (t .characters) s) (sym same) (l .starts) });
+          none = λ n. absurd (n e);
+          low = λ q l. z .only .low q (omega (arith, l, bound)) ∙ left-low q l;
+          high = λ q l. z .only .high q l ∙ left-high q l;
+          memory = memory-fewer h (omega arith) memory;
+          further = λ _. memory;
+        }
+
+    -- that it does not play is noted
+    pub step-refused : {now : List ℕ} → r ≢ 0 → Noted h t root a 0 left now → Advanced th K h (meaning (t .characters) T root) a t was now slot r
+    step-refused e z = record {
+      plays = λ g. absurd (e g);
+      none = λ g s plays. plays-refuses plays (y .refuses g);
+      low = λ q l. z .only .low q (omega (arith, l, bound)) ∙ left-low q l;
+      high = λ q l. z .only .high q l ∙ left-high q l;
+      memory = z .memory th K slot (omega (arith, bound)) left-in left-memory (λ k named. record {
+        kept = named .kept;
+        none = λ _ s plays. plays-refuses (subst (λ (u : State). Plays th u a s) (named-state h (record { fluents = x .same-fluents; characters = x .same-characters; wide = x .tabled .fits .wide; narrow = omega (arith, small (x .tabled), x .tabled .fits .wide); few = x .tabled .few; before = omega (arith, x .behind, bound); room = omega (arith, long, x .room) }) named root ∙ row-state left left-low) plays) (y .refuses e);
+        left = λ g. absurd (omega (arith, g));
+      });
+      further = λ g. absurd (e g);
+    }
 
 -- What is explained, and what lists reach, by what is found out of their parts
 module _ (th : Theory) (K e c base : ℕ) where
@@ -321,33 +421,38 @@ slot-same {th} {T} {pack} {places} {h} {was} {now} slot x low long =
     let same : getD was slot 0 ≡ getD now slot 0 = sym (low slot (omega arith)) in
     subst (λ (n : ℕ). Stage th T pack places h now (record { rows = slot + 1; nodes = n; fluents = h .fluents; characters = h .characters; width = h .fluents + h .characters }) (slot + 961)) same (stage-same x low long)
 
--- the table in a slot, as the memory has it
-module _ {th : Theory} {T : List Node} {pack places : List ℕ} {h : Shape} {work : List ℕ} (slot : ℕ) (x : Stage th T pack places h work (slotTable h work slot) (slot + 961)) where
-  pub stage-slotted : Free slot 1 → Slotted h work slot
-  stage-slotted f = record { laid = x .laid; narrow = omega (arith, small (x .tabled)); few = x .tabled .few; before = omega (arith, f); room = x .room }
+-- a table takes no more than its slot
+pub stage-extent : {th : Theory} {T : List Node} {pack places : List ℕ} {h : Shape} {work : List ℕ} (slot : ℕ) {free : ℕ} → Stage th T pack places h work (slotTable h work slot) free → 1 + getD work slot 0 * (h .fluents + h .characters) ≤ 961
+stage-extent {h = h} slot x = omega (arith, rows-most {w = h .fluents + h .characters} (x .tabled .few) (omega (arith, small (x .tabled))))
 
-  pub stage-state : stateOf (slotTable h work slot) work 0 ≡ meaning (h .characters) T 0
-  stage-state = ap (λ (U : List Node). meaning (h .characters) U 0) (x .tabled .same)
+-- what is known of a state, by its table
+module _ {th : Theory} {T : List Node} {pack places : List ℕ} {h : Shape} {work : List ℕ} {t : Table} {slot : ℕ} (x : Stage th T pack places h work t slot) where
+  states : _≡_ {A = ℕ → State} (λ root. stateOf t work root) (λ root. meaning (t .characters) T root)
+  states = row-states (t .characters) (x .tabled .same)
 
-  pub known : {K m : ℕ} {k : Key} → Fact th K m k (stateOf (slotTable h work slot) work 0) → Fact th K m k (meaning (h .characters) T 0)
-  known {K} f = fact-same h th K refl refl stage-state f
+  pub known : {K m : ℕ} {k : Key} → Fact th K m k (λ root. stateOf t work root) → Fact th K m k (λ root. meaning (t .characters) T root)
+  known {K} f = fact-same th K refl refl states f
 
-  pub note : {K m : ℕ} {k : Key} → Fact th K m k (meaning (h .characters) T 0) → Fact th K m k (stateOf (slotTable h work slot) work 0)
-  note {K} f = fact-same h th K refl refl (sym stage-state) f
+  pub note : {K m : ℕ} {k : Key} → Fact th K m k (λ root. meaning (t .characters) T root) → Fact th K m k (λ root. stateOf t work root)
+  note {K} f = fact-same th K refl refl (sym states) f
+
+-- a verdict, by the mark 3 above that of an answer
+pub verdict : (th : Theory) (K : ℕ) (k : Key) (s : ℕ → State) {m : ℕ} {r : Bool} → (r ≡ true → Explained th K (k .nesting) (k .who) (k .left) (s (k .base))) → (r ≡ false → Explained th K (k .nesting) (k .who) (k .left) (s (k .base)) → ⊥) → (m ≡ 1 → r ≡ false) × (m ≡ 2 → r ≡ true) × (0 < m) × (m < 3) → Fact th K (m + 3) k s
+verdict th K k s sound complete (f, g, pos, few) = record { no = λ z. absurd (omega (arith, z)); yes = λ z. absurd (omega (arith, z)); none = λ z. absurd (omega (arith, z, pos)); unexplained = λ z. complete (f (omega (arith, z))); explained = λ z. sound (g (omega (arith, z))) }
 
 -- a state that is not above itself, by what follows it
-module _ (th : Theory) (K e c base left : ℕ) (s : State) (some : 0 < left) (here : base < utilityTo th c s → ⊥) {M : List ℕ → Type 0} {slot : ℕ} {was now : List ℕ} {r : Bool} (told : Told M slot was now r (AboveBySome th K e c base (suc (left - 1)) s)) where
+module _ (th : Theory) (K e c base left : ℕ) (states : ℕ → State) (some : 0 < left) (here : base < utilityTo th c (states 0) → ⊥) {M : List ℕ → Type 0} {slot : ℕ} {was now : List ℕ} {r : Bool} (told : Told M slot was now r (AboveBySome th K e c base (suc (left - 1)) (states 0))) where
   up : suc (suc (left - 1)) ≡ suc left
   up = omega arith
 
-  pub extended : Told M slot was now r (inner.Above th K e c base (suc left) s)
+  pub extended : Told M slot was now r (inner.Above th K e c base (suc left) (states 0))
   extended = record {
-    sound = λ z. let (x, by) = told .sound z in subst (λ (n : ℕ). inner.Above th K e c base n s) up (reach-by th K e c base (suc (left - 1)) x s by);
-    complete = λ z g. reach-not th K e c base (suc (left - 1)) s here (λ x l by. told .complete z (x, by)) (subst (λ (n : ℕ). inner.Above th K e c base n s) (sym up) g);
+    sound = λ z. let (x, by) = told .sound z in subst (λ (n : ℕ). inner.Above th K e c base n (states 0)) up (reach-by th K e c base (suc (left - 1)) x (states 0) by);
+    complete = λ z g. reach-not th K e c base (suc (left - 1)) (states 0) here (λ x l by. told .complete z (x, by)) (subst (λ (n : ℕ). inner.Above th K e c base n (states 0)) (sym up) g);
     low = told .low;
     high = told .high;
     memory = told .memory;
   }
 
-  pub noted : {m : ℕ} → (m ≡ 1 → r ≡ false) × (m ≡ 2 → r ≡ true) × (m < 3) → Fact th K m (record { who = c; nesting = e; left = left; base = base }) s
-  noted (f, g, few) = record { no = λ z. extended .complete (f z); yes = λ z. extended .sound (g z); none = λ z. absurd (omega (arith, z, few)) }
+  pub noted : {m : ℕ} → (m ≡ 1 → r ≡ false) × (m ≡ 2 → r ≡ true) × (0 < m) × (m < 3) → Fact th K m (record { who = c; nesting = e; left = left; base = base }) states
+  noted (f, g, pos, few) = record { no = λ z. extended .complete (f z); yes = λ z. extended .sound (g z); none = λ z. absurd (omega (arith, z, few)); unexplained = λ z. absurd (omega (arith, z, few)); explained = λ z. absurd (omega (arith, z, few)) }

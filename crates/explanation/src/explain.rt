@@ -1,15 +1,14 @@
 // Explanations: whether a character has a reason of their own for an action. A state is row `root` of a table; the slots of the work buffer from `slot` on are free.
+use crate::fact::Key;
+use crate::fact::recall;
+use crate::fact::remember;
+use crate::known::known_step;
 use crate::look::promising;
-use crate::memory::Key;
-use crate::memory::entry_of;
-use crate::memory::recall;
-use crate::memory::remember;
 use reading::number::wide;
 use state::judge::utility;
 use state::table::Table;
 use state::write::consenter;
 use state::write::consenters;
-use transition::step::step_slot;
 ghost use mathlib.Core.Path.{_≡_};
 ghost use mathlib.Core.Bool.{true, false};
 ghost use mathlib.Core.List.{List};
@@ -26,17 +25,15 @@ pub struct Foresight(pub usize);
 
 pub struct Nesting(pub usize);
 
-// A pack's counts; how many entries the memory has, and how many bytes each.
+// A pack's counts.
 pub struct Shape {
     pub actions: usize,
     pub triggers: usize,
     pub fluents: usize,
     pub characters: usize,
-    pub entries: usize,
-    pub entry: usize,
 }
 
-// Whether character c's action a is explained.
+// Whether character c's action a is explained: as is known, or as is found out.
 pub fn explained(
     pack: &[u8],
     places: &[usize],
@@ -51,13 +48,48 @@ pub fn explained(
     k: Foresight,
 ) -> bool
     requires { ⌜ Prepared (k .0) (now pack) (now places) p (now work) t slot × (root < t .nodes) × (c < t .characters) × (a < p .actions) × (0 < k .0) × (k .0 ≤ 6) × Free slot (k .0 * e .0) ⌝ }
-    ensures { λ r. ⌜ ((th : Theory) (T : List Node) → Stage th T (now (pack .entry)) (now (places .entry)) p (now (work .entry)) t slot → Memory th (k .0) p (now (work .entry)) → Told (Memory th (k .0) p) slot (now (work .entry)) (now (work .exit)) r (Explained th (k .0) (e .0) c a (meaning (t .characters) T root))) ⌝ }
+    ensures { λ r. ⌜ ((th : Theory) (T : List Node) → Stage th T (now (pack .entry)) (now (places .entry)) p (now (work .entry)) t slot → Memory th (k .0) p slot (now (work .entry)) → Told (Memory th (k .0) p slot) slot (now (work .entry)) (now (work .exit)) r (Explained th (k .0) (e .0) c a (meaning (t .characters) T root))) ⌝ }
 {
     if e.0 == 0 {
         return false;
     }
+    let key = Key {
+        who: c,
+        nesting: e.0,
+        left: a,
+        base: root,
+    };
+    let known = recall(work, p, t, key);
+    if known == 4 {
+        return false;
+    }
+    if known == 5 {
+        return true;
+    }
+    let found = explains(pack, places, p, work, t, root, slot, c, a, e, k);
+    remember(work, p, t, mark(found) + 3, key);
+    found
+}
+
+// As `explained`, by what c believes and the lists that begin with a there.
+pub fn explains(
+    pack: &[u8],
+    places: &[usize],
+    p: Shape,
+    work: &mut [u8],
+    t: Table,
+    root: usize,
+    slot: usize,
+    c: usize,
+    a: usize,
+    e: Nesting,
+    k: Foresight,
+) -> bool
+    requires { ⌜ Prepared (k .0) (now pack) (now places) p (now work) t slot × (root < t .nodes) × (c < t .characters) × (a < p .actions) × (0 < k .0) × (k .0 ≤ 6) × Free slot (k .0 * e .0) × (0 < e .0) ⌝ }
+    ensures { λ r. ⌜ ((th : Theory) (T : List Node) → Stage th T (now (pack .entry)) (now (places .entry)) p (now (work .entry)) t slot → Memory th (k .0) p slot (now (work .entry)) → Told (Memory th (k .0) p slot) slot (now (work .entry)) (now (work .exit)) r (Explained th (k .0) (e .0) c a (meaning (t .characters) T root))) ⌝ }
+{
     let q = wide(work[t.rows + root * t.width + t.fluents + c]);
-    let number = step_slot(pack, places, p.triggers, a, work, t, q, slot);
+    let number = known_step(pack, places, p, a, work, t, q, slot);
     if number != 0 {
         return false;
     }
@@ -90,7 +122,7 @@ pub fn extends(
     base: usize,
 ) -> bool
     requires { ⌜ Prepared (k .0) (now pack) (now places) p (now work) (slotTable p (now work) slot) (slot + 961) × (c < p .characters) × (0 < k .0) × (k .0 ≤ 6) × Free slot (1 + left + k .0 * e .0) ⌝ }
-    ensures { λ r. ⌜ ((th : Theory) (T : List Node) → Stage th T (now (pack .entry)) (now (places .entry)) p (now (work .entry)) (slotTable p (now (work .entry)) slot) (slot + 961) → Memory th (k .0) p (now (work .entry)) → Told (Memory th (k .0) p) (slot + 961) (now (work .entry)) (now (work .exit)) r (Above th (k .0) (e .0) c base (suc left) (meaning (p .characters) T 0))) ⌝ }
+    ensures { λ r. ⌜ ((th : Theory) (T : List Node) → Stage th T (now (pack .entry)) (now (places .entry)) p (now (work .entry)) (slotTable p (now (work .entry)) slot) (slot + 961) → Memory th (k .0) p (slot + 961) (now (work .entry)) → Told (Memory th (k .0) p (slot + 961)) (slot + 961) (now (work .entry)) (now (work .exit)) r (Above th (k .0) (e .0) c base (suc left) (meaning (p .characters) T 0))) ⌝ }
 {
     let t = Table {
         rows: slot + 1,
@@ -111,8 +143,7 @@ pub fn extends(
         left,
         base,
     };
-    let at = entry_of(work, p, slot, key);
-    let known = recall(work, p, slot, at, key);
+    let known = recall(work, p, t, key);
     if known == 1 {
         return false;
     }
@@ -120,13 +151,13 @@ pub fn extends(
         return true;
     }
     let found = extends_by(pack, places, p, work, slot, c, e, k, left - 1, base);
-    remember(work, p, slot, at, mark(found), key);
+    remember(work, p, t, mark(found), key);
     found
 }
 
 // How the memory marks whether there is a list.
 pub fn mark(found: bool) -> u8
-    ensures { λ r. ⌜ (r ≡ 1 → found ≡ false) × (r ≡ 2 → found ≡ true) × (r < 3) ⌝ }
+    ensures { λ r. ⌜ (r ≡ 1 → found ≡ false) × (r ≡ 2 → found ≡ true) × (0 < r) × (r < 3) ⌝ }
 {
     if found { 2 } else { 1 }
 }
@@ -145,7 +176,7 @@ pub fn extends_by(
     base: usize,
 ) -> bool
     requires { ⌜ Prepared (k .0) (now pack) (now places) p (now work) (slotTable p (now work) slot) (slot + 961) × (c < p .characters) × (0 < k .0) × (k .0 ≤ 6) × Free slot (2 + left + k .0 * e .0) ⌝ }
-    ensures { λ r. ⌜ ((th : Theory) (T : List Node) → Stage th T (now (pack .entry)) (now (places .entry)) p (now (work .entry)) (slotTable p (now (work .entry)) slot) (slot + 961) → Memory th (k .0) p (now (work .entry)) → Told (Memory th (k .0) p) (slot + 961) (now (work .entry)) (now (work .exit)) r (AboveBySome th (k .0) (e .0) c base (suc left) (meaning (p .characters) T 0))) ⌝ }
+    ensures { λ r. ⌜ ((th : Theory) (T : List Node) → Stage th T (now (pack .entry)) (now (places .entry)) p (now (work .entry)) (slotTable p (now (work .entry)) slot) (slot + 961) → Memory th (k .0) p (slot + 961) (now (work .entry)) → Told (Memory th (k .0) p (slot + 961)) (slot + 961) (now (work .entry)) (now (work .exit)) r (AboveBySome th (k .0) (e .0) c base (suc left) (meaning (p .characters) T 0))) ⌝ }
 {
     let mut x = 0;
     while x < p.actions {
@@ -173,7 +204,7 @@ pub fn via(
     base: usize,
 ) -> bool
     requires { ⌜ Prepared (k .0) (now pack) (now places) p (now work) (slotTable p (now work) slot) (slot + 961) × (c < p .characters) × (x < p .actions) × (0 < k .0) × (k .0 ≤ 6) × Free slot (2 + left + k .0 * e .0) ⌝ }
-    ensures { λ r. ⌜ ((th : Theory) (T : List Node) → Stage th T (now (pack .entry)) (now (places .entry)) p (now (work .entry)) (slotTable p (now (work .entry)) slot) (slot + 961) → Memory th (k .0) p (now (work .entry)) → Told (Memory th (k .0) p) (slot + 961) (now (work .entry)) (now (work .exit)) r (AboveBy th (k .0) (e .0) c base (suc left) x (meaning (p .characters) T 0))) ⌝ }
+    ensures { λ r. ⌜ ((th : Theory) (T : List Node) → Stage th T (now (pack .entry)) (now (places .entry)) p (now (work .entry)) (slotTable p (now (work .entry)) slot) (slot + 961) → Memory th (k .0) p (slot + 961) (now (work .entry)) → Told (Memory th (k .0) p (slot + 961)) (slot + 961) (now (work .entry)) (now (work .exit)) r (AboveBy th (k .0) (e .0) c base (suc left) x (meaning (p .characters) T 0))) ⌝ }
 {
     let t = Table {
         rows: slot + 1,
@@ -189,7 +220,7 @@ pub fn via(
     if !agreed {
         return false;
     }
-    let number = step_slot(pack, places, p.triggers, x, work, t, 0, slot + 961);
+    let number = known_step(pack, places, p, x, work, t, 0, slot + 961);
     if number != 0 {
         return false;
     }
@@ -211,7 +242,7 @@ pub fn allowed(
     k: Foresight,
 ) -> bool
     requires { ⌜ Prepared (k .0) (now pack) (now places) p (now work) t slot × (root < t .nodes) × (x < p .actions) × (0 < k .0) × (k .0 ≤ 6) × Free slot (k .0 * e .0) ⌝ }
-    ensures { λ r. ⌜ ((th : Theory) (T : List Node) → Stage th T (now (pack .entry)) (now (places .entry)) p (now (work .entry)) t slot → Memory th (k .0) p (now (work .entry)) → Told (Memory th (k .0) p) slot (now (work .entry)) (now (work .exit)) r (Agreed th (k .0) (e .0) who x (meaning (t .characters) T root))) ⌝ }
+    ensures { λ r. ⌜ ((th : Theory) (T : List Node) → Stage th T (now (pack .entry)) (now (places .entry)) p (now (work .entry)) t slot → Memory th (k .0) p slot (now (work .entry)) → Told (Memory th (k .0) p slot) slot (now (work .entry)) (now (work .exit)) r (Agreed th (k .0) (e .0) who x (meaning (t .characters) T root))) ⌝ }
 {
     let at = places[9 * x + 2];
     let count = consenters(pack, at);
@@ -243,7 +274,7 @@ pub fn fine(
     k: Foresight,
 ) -> bool
     requires { ⌜ Prepared (k .0) (now pack) (now places) p (now work) t slot × (root < t .nodes) × (d < t .characters) × (x < p .actions) × (0 < k .0) × (k .0 ≤ 6) × Free slot (k .0 * e .0) ⌝ }
-    ensures { λ r. ⌜ ((th : Theory) (T : List Node) → Stage th T (now (pack .entry)) (now (places .entry)) p (now (work .entry)) t slot → Memory th (k .0) p (now (work .entry)) → Told (Memory th (k .0) p) slot (now (work .entry)) (now (work .exit)) r (Other who d → Explained th (k .0) (e .0) d x (meaning (t .characters) T root))) ⌝ }
+    ensures { λ r. ⌜ ((th : Theory) (T : List Node) → Stage th T (now (pack .entry)) (now (places .entry)) p (now (work .entry)) t slot → Memory th (k .0) p slot (now (work .entry)) → Told (Memory th (k .0) p slot) slot (now (work .entry)) (now (work .exit)) r (Other who d → Explained th (k .0) (e .0) d x (meaning (t .characters) T root))) ⌝ }
 {
     if d == who {
         return true;

@@ -24,15 +24,19 @@ use Rattle.explanation.specs.declared.explain.Shape.{Shape}
 use Rattle.explanation.specs.Ending.{Leads, Explained, authorUtility}
 use Rattle.explanation.specs.Inner.Lists.{slotTable, Agreed, All, Ends, EndsBy}
 use Rattle.explanation.specs.Inner.Memory.{memoryAt, Fact}
-use Rattle.explanation.specs.Inner.Explain.{Stage, Free}
+use Rattle.explanation.specs.Inner.Explain.{Stage}
 use Rattle.planner.specs.Inner.Search.{Dry, Trail, Repeated, Put, Chosen, Best}
 use Rattle.explanation.specs.Laws.Explaining.{Agreeing}
-use Rattle.explanation.proofs.Remembering.{state-moved, extent-most}
-use Rattle.explanation.proofs.Telling.{consenter-below, slot-same, stage-slotted, stage-state}
+use Rattle.explanation.proofs.Remembering.{state-moved}
+use Rattle.explanation.proofs.Telling.{consenter-below, slot-same, stage-extent, stage-state}
 
 -- none found
 pub best-none : {M : List ℕ → Type 0} {Good : List ℕ → ℕ → Type 0} {n : ℕ} (was : List ℕ) {done slot : ℕ} {work work′ : List ℕ} → Below work work′ slot → Above work work′ workRoom → M work′ → ((list : List ℕ) (v : ℕ) → length list ≡ n → ¬ Good list v) → Best M Good n was was done slot work work′ 0
 best-none was low high m f = record { memory = m; none = λ e. (refl, f); some = λ l. absurd (omega arith); low = low; high = high }
+
+-- after something that changes no slot in use
+pub best-from : {M : List ℕ → Type 0} {Good : List ℕ → ℕ → Type 0} {n : ℕ} {was now : List ℕ} {at slot : ℕ} {work mid work′ : List ℕ} {r : ℕ} → Below work mid slot → Above work mid workRoom → Best M Good n was now at slot mid work′ r → Best M Good n was now at slot work work′ r
+best-from low high b = record { none = b .none; some = b .some; low = λ q l. b .low q l ∙ low q l; high = λ q l. b .high q l ∙ high q l; memory = b .memory }
 
 -- more is put into the memory
 pub best-noted : {M : List ℕ → Type 0} {Good : List ℕ → ℕ → Type 0} {n : ℕ} {was now : List ℕ} {at slot : ℕ} {work mid work′ : List ℕ} {r : ℕ} → Best M Good n was now at slot work mid r → slot ≤ memoryAt → Below mid work′ memoryAt → Above mid work′ workRoom → M work′ → Best M Good n was now at slot work work′ r
@@ -42,11 +46,11 @@ best-noted b le low high m = record { none = b .none; some = b .some; low = λ q
 pub best-same : {M : List ℕ → Type 0} {Good : List ℕ → ℕ → Type 0} {n n′ : ℕ} {was now : List ℕ} {at slot : ℕ} {work work′ : List ℕ} {r : ℕ} → n ≡ n′ → Best M Good n was now at slot work work′ r → Best M Good n′ was now at slot work work′ r
 best-same {M} {Good} {n} {n′} {was} {now} {at} {slot} {work} {work′} {r} e b = subst (λ (n : ℕ). Best M Good n was now at slot work work′ r) e b
 
-module _ (th : Theory) (K e base : ℕ) (s : State) where
-  -- that there is none is a fact
-  pub fact-of-none : {left who : ℕ} → ((list : List ℕ) (v : ℕ) → length list ≡ left → ¬ Ends th K e base s list v) → Fact th K 3 (record { who = who; nesting = e; left = left; base = base }) s
-  fact-of-none f = record { no = λ z. absurd (omega (arith, z)); yes = λ z. absurd (omega (arith, z)); none = λ z. f }
+-- that there is none is a fact
+pub fact-of-none : (th : Theory) (K e base : ℕ) (states : ℕ → State) {left who : ℕ} → ((list : List ℕ) (v : ℕ) → length list ≡ left → ¬ Ends th K e base (states 0) list v) → Fact th K 3 (record { who = who; nesting = e; left = left; base = base }) states
+fact-of-none th K e base states f = record { no = λ z. absurd (omega (arith, z)); yes = λ z. absurd (omega (arith, z)); none = λ z. f; unexplained = λ z. absurd (omega (arith, z)); explained = λ z. absurd (omega (arith, z)) }
 
+module _ (th : Theory) (K e base : ℕ) (s : State) where
   -- the author's path, one state longer
   module _ {h : Shape} {was : List ℕ} {n left : ℕ} (trail : Trail th K e base h was n (suc left) s) where
     trail-next : {now : List ℕ} {slot x : ℕ} {t : State} → slot ≡ n * 961 → Below was now (slot + 961) → 1 + getD now slot 0 * (h .fluents + h .characters) ≤ 961 → stateOf (slotTable h now slot) now 0 ≡ s
@@ -154,10 +158,10 @@ module _ (th : Theory) (K e base : ℕ) (s : State) where
     same : {list : List ℕ} {v : ℕ} → EndsBy th K e base x s list v → (rest : List ℕ) × (list ≡ x ∷ rest) × Ends th K e base t rest v
     same {list} {v} (rest, q, (u, p, z, m)) = (rest, q, subst (λ (u : State). Ends th K e base u rest v) (plays-one p plays) m)
 
-    module _ (agreed : Agreeing th All (Explained th K e) s x (actionOf th x .consenters)) {M : List ℕ → Type 0} {n : ℕ} {was now : List ℕ} {at slot slot′ : ℕ} {work mid work′ : List ℕ} {r : ℕ} (le : slot ≤ slot′) (low : Below work mid slot) (high : Above work mid workRoom) (b : Best M (Ends th K e base t) n was now (at + 1) slot′ mid work′ r) where
+    module _ (agreed : Agreeing th All (Explained th K e) s x (actionOf th x .consenters)) {M M′ : List ℕ → Type 0} {n : ℕ} {was now : List ℕ} {at slot slot′ : ℕ} {work mid work′ : List ℕ} {r : ℕ} (le : slot ≤ slot′) (fewer : M′ work′ → M work′) (low : Below work mid slot) (high : Above work mid workRoom) (b : Best M′ (Ends th K e base t) n was now (at + 1) slot′ mid work′ r) where
       pub best-by-none : r ≡ 0 → Best M (EndsBy th K e base x s) (suc n) was now at slot work work′ r
       best-by-none e = record {
-        memory = b .memory;
+        memory = fewer (b .memory);
         none = λ q. (b .none e .0, λ list v l q. let (rest, is, m) = same q in b .none e .1 rest v (omega (arith, l, ap length is)) m);
         some = λ l. absurd (omega (arith, e, l));
         low = λ q l. b .low q (omega arith) ∙ low q l;
@@ -167,7 +171,7 @@ module _ (th : Theory) (K e base : ℕ) (s : State) where
       pub best-by : 0 < r → {then : List ℕ} → getD then at 0 ≡ x → ((q : ℕ) → q ≢ at → getD then q 0 ≡ getD now q 0) → Best M (EndsBy th K e base x s) (suc n) was then at slot work work′ r
       unfolding Before
       best-by l {then} here else = record {
-        memory = b .memory;
+        memory = fewer (b .memory);
         none = λ q. absurd (omega arith);
         some = λ l.
             let (list, c, p) = b .some l in (
@@ -219,8 +223,8 @@ module _ {th : Theory} {T : List Node} {pack places : List ℕ} {h : Shape} {was
     agreed-to f d m q = f d m tt
 
 -- the path, and a step from the state in its last slot
-pub trail-step : {th : Theory} {T : List Node} {pack places : List ℕ} {h : Shape} {was : List ℕ} (slot : ℕ) (x : Stage th T pack places h was (slotTable h was slot) (slot + 961)) (K e base : ℕ) {n left : ℕ} → Trail th K e base h was n (suc left) (meaning (h .characters) T 0) → slot ≡ n * 961 → Free slot 1
+pub trail-step : {th : Theory} {T : List Node} {pack places : List ℕ} {h : Shape} {was : List ℕ} (slot : ℕ) (x : Stage th T pack places h was (slotTable h was slot) (slot + 961)) (K e base : ℕ) {n left : ℕ} → Trail th K e base h was n (suc left) (meaning (h .characters) T 0) → slot ≡ n * 961
     → (now : List ℕ) → Below was now (slot + 961) → length now ≡ length was → {a : ℕ} {t : State} → Plays th (meaning (h .characters) T 0) a t → Agreeing th All (Explained th K e) (meaning (h .characters) T 0) a (actionOf th a .consenters) → Trail th K e base h now (n + 1) left t
-trail-step {th} {T} {h = h} slot x K e base trail at free now low long plays agreed =
+trail-step {th} {T} {h = h} slot x K e base trail at now low long plays agreed =
     let y = slot-same slot x low long in
-    trail-next th K e base (meaning (h .characters) T 0) trail at low (extent-most h (stage-slotted slot y free)) (stage-state slot y) plays agreed
+    trail-next th K e base (meaning (h .characters) T 0) trail at low (stage-extent slot y) (stage-state y 0) plays agreed

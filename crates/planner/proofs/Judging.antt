@@ -1,5 +1,5 @@
 -- Explained: what the checks leave, as the verdict asks it, and what it gives. Assumes nothing.
-use Prim.Native.Nat.{ℕ, _+_, _*_, _/_, _≤_}
+use Prim.Native.Nat.{ℕ, _+_, _*_, _≤_}
 use mathlib.Core.Path.{_≡_, refl, sym, ap, ap₂, _∙_, subst}
 use mathlib.Core.Bool.{Bool, true, false, _&&_}
 use mathlib.Core.List.{List, [], _∷_, map}
@@ -41,7 +41,7 @@ use Rattle.planner.specs.Replies.{foresightLimit, nestingLimit, explaine
 use Rattle.planner.specs.Promises.{Judgement}
 use Rattle.planner.specs.Laws.Answers.{explained-table-iff}
 use Rattle.explanation.specs.Inner.Memory.{memoryAt, Memory}
-use Rattle.explanation.proofs.Remembering.{laid-by, emptied, memory-clear}
+use Rattle.explanation.proofs.Remembering.{emptied, memory-clear}
 use Rattle.explanation.proofs.Telling.{stage-same}
 use Rattle.explanation.specs.Inner.Explain.{Stage, Free, Told, Judging, Judgeable, Verdict}
 
@@ -67,16 +67,17 @@ module _ {th : Theory} {T : List Node} {pack places : List ℕ} {h : Shape} {cha
       same-characters = refl;
       behind = omega (arith, read-small (x .read));
       room = omega (arith, y .long, x .room);
-      laid = x .laid;
+      slotted = record { number = 0; rows = refl; counted = y .count; before = omega arith };
+      free = refl;
     }
 
     -- the memory is empty then
-    module _ {then : List ℕ} (cl : Cleared mid then memoryAt 5682) (long : length then ≡ length mid) where
+    module _ {then : List ℕ} (cl : Cleared mid then memoryAt 1586) (long : length then ≡ length mid) where
       pub judge-ready : Stage th T pack places h then judgeFrom 961
       judge-ready = stage-same judge-stage (λ q l. cl .low q (omega arith)) long
 
-      pub judge-memory : Memory th K h then
-      judge-memory = memory-clear h th K (x .laid) (emptied cl)
+      pub judge-memory : Memory th K h 961 then
+      judge-memory = memory-clear h (omega (arith, x .theorized .small .characters, x .theorized .small .fluents, x .same-characters, x .same-fluents)) (omega arith) (emptied cl)
 
       pub judge-high : Above mid then workRoom
       judge-high q l = cl .high q (omega arith)
@@ -107,7 +108,7 @@ module _ {pack places : List ℕ} (chart : List ℕ) (c a K e : ℕ) (work : Lis
       let z = refused-by (chart ∷ []) got (fits workRoom work) there wanted in-range verdictOf (λ ns. getD ns 0 0) (repliedCount r) agrees k q (ap repliedCount z) in
       record { answer = sym (z .0); scratch = left-alone theReply work k q z }
 
-  module _ (pack-bytes : Bytes pack) (chart-bytes : Bytes chart) (marked : 327 ≤ length places) (n m : ℕ) (q : r ≡ numbers.Is n m) (entry : ℕ) (sized : (7 ≤ entry) × (entry ≤ 967)) where
+  module _ (pack-bytes : Bytes pack) (chart-bytes : Bytes chart) (marked : 327 ≤ length places) (n m : ℕ) (q : r ≡ numbers.Is n m) where
     accepted-now : (ns : List ℕ) × (getD ns 0 0 ≡ n) × ((x : Accepted pack places (chart ∷ []) p ns (fits workRoom work) there) × (theReply ≡ verdictOf (x .thePack) (x .tables)))
     unfolding explainedReply
     accepted-now = accepted-by (chart ∷ []) got (fits workRoom work) there wanted in-range verdictOf (λ ns. getD ns 0 0) (repliedCount r) agrees n (ap repliedCount q)
@@ -124,7 +125,7 @@ module _ {pack places : List ℕ} (chart : List ℕ) (c a K e : ℕ) (work : Lis
         nodes-read (x .accepted) (x .found) (first .read) (ap (λ (l : List (List Node)). getD (map length l) 0 0) (sym (first .same)) ∙ ap (λ (l : List ℕ). getD l 0 0) (x .long) ∙ g)
 
     abbrev pub shape : Shape
-    shape = record { actions = p .actions; triggers = p .triggers; fluents = p .fluents; characters = p .characters; entries = 5682 / entry; entry = entry }
+    shape = record { actions = p .actions; triggers = p .triggers; fluents = p .fluents; characters = p .characters }
 
     ready : Judging theory (first .table) pack places shape chart n c a K e work
     ready =
@@ -143,7 +144,6 @@ module _ {pack places : List ℕ} (chart : List ℕ) (c a K e : ℕ) (work : Lis
           foreseen = (leb-true 1 K low, leb-true K 6 high);
           nested = leb-true e 3 nesting;
           room = leb-true workRoom (length work) (x .enough-there);
-          laid = laid-by shape refl sized;
         }
 
     pub judge-able : Judgeable pack places shape chart n c a K e work

@@ -1,5 +1,5 @@
 -- Search: length after length; what the checks leave, as the search asks it, and what it gives. Assumes nothing.
-use Prim.Native.Nat.{ℕ, _+_, _*_, _/_, _<_, _≤_}
+use Prim.Native.Nat.{ℕ, _+_, _*_, _<_, _≤_}
 use mathlib.Core.Path.{_≡_, refl, sym, ap, ap₂, _∙_, subst}
 use mathlib.Core.Logic.{by-cases}
 use mathlib.Core.Bool.{Bool, _&&_}
@@ -47,7 +47,7 @@ use Rattle.planner.specs.Laws.Answers.{search-table-iff}
 use Rattle.explanation.specs.Inner.Lists.{slotTable, Ends}
 use Rattle.explanation.specs.Inner.Explain.{Stage}
 use Rattle.explanation.specs.Inner.Memory.{Memory}
-use Rattle.explanation.proofs.Remembering.{laid-by, memory-clear}
+use Rattle.explanation.proofs.Remembering.{memory-clear}
 use Rattle.explanation.proofs.Telling.{counted, slot-stage}
 use Rattle.planner.specs.Inner.Search.{Laying, LaidStart, Chosen, Best, Shortest, Seeking, Seekable, SearchPut}
 
@@ -109,11 +109,12 @@ module _ {th : Theory} {T : List Node} {pack places : List ℕ} {h : Shape} {fir
       same-characters = refl;
       behind = omega (arith, rows-small);
       room = omega (arith, long, x .room);
-      laid = x .laid;
+      slotted = record { number = 0; rows = refl; counted = refl; before = omega arith };
+      free = refl;
     }
 
-    pub seek-memory : Memory th foresight h then
-    seek-memory = memory-clear h th foresight (x .laid) (y .empty)
+    pub seek-memory : Memory th foresight h 961 then
+    seek-memory = memory-clear h (read-slim (x .read) .0) (omega arith) (y .empty)
 
     seek-means : meaning C seekTable 0 ≡ meaning C T 0
     seek-means = y .starts .1
@@ -222,7 +223,7 @@ module _ {pack places : List ℕ} (T K E : ℕ) (list work : List ℕ) {p : Cont
         scratch = left-alone theReply work k q z;
       }
 
-  module _ (bytes : Bytes pack) (marked : 327 ≤ length places) (n m : ℕ) (e : r ≡ numbers.Is n m) (entry : ℕ) (sized : (7 ≤ entry) × (entry ≤ 967)) where
+  module _ (bytes : Bytes pack) (marked : 327 ≤ length places) (n m : ℕ) (e : r ≡ numbers.Is n m) where
     accepted-now : (ns : List ℕ) × (p .nodes ≡ n) × ((x : Accepted pack places [] p ns room there) × (theReply ≡ planOf (x .thePack) (x .tables)))
     unfolding searchReply
     accepted-now = accepted-by [] got room there wanted (λ x e. within) planOf (λ ns. p .nodes) (repliedCount r) agrees n (ap repliedCount e)
@@ -234,7 +235,7 @@ module _ {pack places : List ℕ} (T K E : ℕ) (list work : List ℕ) {p : Cont
     theNodes = accepted-now .2 .0 .thePack .nodes
 
     abbrev pub seekShape : Shape
-    seekShape = record { actions = p .actions; triggers = p .triggers; fluents = p .fluents; characters = p .characters; entries = 5682 / entry; entry = entry }
+    seekShape = record { actions = p .actions; triggers = p .triggers; fluents = p .fluents; characters = p .characters }
 
     fit : ChartFits (theory .characters) (theory .domains) theNodes
     fit = let y = accepted-now .2 .0 in pack-exactly pack bytes (y .thePack) .0 (y .accepted) .0 .nodes
@@ -259,7 +260,6 @@ module _ {pack places : List ℕ} (T K E : ℕ) (list work : List ℕ) {p : Cont
           nested = leb-true E 3 nesting;
           list-room = leb-true listRoom (length list) list-room;
           room = leb-true workRoom (length work) work-room;
-          laid = laid-by seekShape refl sized;
         }
 
     pub search-able : Seekable pack places seekShape (p .first) (p .nodes) T E K list work

@@ -7,7 +7,6 @@ use explanation::explain::Foresight;
 use explanation::explain::Nesting;
 use explanation::explain::Shape;
 use explanation::explain::explained;
-use explanation::memory::entry_size;
 use pack::contents::read_pack;
 use partition::bytes::clear;
 use partition::bytes::sweep;
@@ -75,7 +74,7 @@ pub fn judge_chart(
         characters: p.characters,
         width: p.fluents + p.characters,
     };
-    clear(work, 43470, 5682);
+    clear(work, 43470, 1586);
     let verdict = explained(
         pack,
         places,
@@ -121,14 +120,11 @@ pub fn judge(
     match check_lent(nodes, 49152 <= work.len(), there) {
         Number::Refused(k, at) => Judged::Refused(k, at),
         Number::Is(n, _) => {
-            let entry = entry_size(n, p.fluents, p.characters);
             let shape = Shape {
                 actions: p.actions,
                 triggers: p.triggers,
                 fluents: p.fluents,
                 characters: p.characters,
-                entries: 5682 / entry,
-                entry,
             };
             let verdict = judge_chart(
                 pack,

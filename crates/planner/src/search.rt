@@ -8,13 +8,11 @@ use explanation::explain::Foresight;
 use explanation::explain::Nesting;
 use explanation::explain::Shape;
 use explanation::explain::allowed;
+use explanation::fact::Key;
+use explanation::fact::recall;
+use explanation::fact::remember;
+use explanation::known::known_step;
 use explanation::look::promising;
-use explanation::memory::Key;
-use explanation::memory::entry_of;
-use explanation::memory::entry_size;
-use explanation::memory::extent;
-use explanation::memory::recall;
-use explanation::memory::remember;
 use pack::contents::read_pack;
 use partition::bytes::clear;
 use partition::bytes::copy_part;
@@ -25,17 +23,16 @@ use reading::number::wide;
 use state::copy::copy_table;
 use state::judge::utility;
 use state::table::Table;
-use transition::step::step_slot;
 ghost use mathlib.Core.Path.{_≡_};
 ghost use mathlib.Core.Bool.{true, _&&_};
 ghost use mathlib.Core.List.{List};
 ghost use Prim.Native.Nat.{suc, _+_, _*_, _<_, _≤_};
-ghost use lib.ListN.{length};
+ghost use lib.ListN.{length, getD};
 ghost use Rattle.state.specs.Syntax.{Node, Theory};
 ghost use Rattle.state.specs.State.{meaning};
 ghost use Rattle.explanation.specs.Ending.{authorUtility};
 ghost use Rattle.explanation.specs.Inner.Lists.{slotTable, Ends, EndsBy};
-ghost use Rattle.explanation.specs.Inner.Memory.{Memory, Slotted};
+ghost use Rattle.explanation.specs.Inner.Memory.{Memory, Before};
 ghost use Rattle.explanation.specs.Inner.Explain.{Stage, Staged, Free};
 ghost use Rattle.planner.specs.Inner.Search.{Best, Trail, Underway, Outset, Repeated, Laying, Layable, LaidStart, Shortest, Seeking, Seekable, SearchPut};
 ghost use Rattle.planner.specs.Replies.{storyLimit, foresightLimit, nestingLimit};
@@ -65,7 +62,7 @@ pub fn completes(
     base: usize,
 ) -> usize
     requires { ⌜ Underway (k .0) (e .0) base (now pack) (now places) p (now work) slot done left × (0 < k .0) × (k .0 ≤ 6) × Free slot (1 + left + k .0 * e .0) × (done + left ≤ length (now list)) × (slot ≡ done * 961) ⌝ }
-    ensures { λ r. ⌜ ((th : Theory) (T : List Node) → Stage th T (now (pack .entry)) (now (places .entry)) p (now (work .entry)) (slotTable p (now (work .entry)) slot) (slot + 961) → Memory th (k .0) p (now (work .entry)) → Trail th (k .0) (e .0) base p (now (work .entry)) done left (meaning (p .characters) T 0) → Best (Memory th (k .0) p) (Ends th (k .0) (e .0) base (meaning (p .characters) T 0)) left (now (list .entry)) (now (list .exit)) done (slot + 961) (now (work .entry)) (now (work .exit)) r) ⌝ }
+    ensures { λ r. ⌜ ((th : Theory) (T : List Node) → Stage th T (now (pack .entry)) (now (places .entry)) p (now (work .entry)) (slotTable p (now (work .entry)) slot) (slot + 961) → Memory th (k .0) p (slot + 961) (now (work .entry)) → Trail th (k .0) (e .0) base p (now (work .entry)) done left (meaning (p .characters) T 0) → Best (Memory th (k .0) p (slot + 961)) (Ends th (k .0) (e .0) base (meaning (p .characters) T 0)) left (now (list .entry)) (now (list .exit)) done (slot + 961) (now (work .entry)) (now (work .exit)) r) ⌝ }
 {
     if left == 0 {
         return ends(pack, places, p, work, slot, base);
@@ -79,8 +76,14 @@ pub fn completes(
         left,
         base,
     };
-    let at = entry_of(work, p, slot, key);
-    if recall(work, p, slot, at, key) == 3 {
+    let t = Table {
+        rows: slot + 1,
+        nodes: wide(work[slot]),
+        fluents: p.fluents,
+        characters: p.characters,
+        width: p.fluents + p.characters,
+    };
+    if recall(work, p, t, key) == 3 {
         return 0;
     }
     let after = completes_after(
@@ -97,14 +100,23 @@ pub fn completes(
         base,
     );
     if after == 0 {
-        remember(work, p, slot, at, 3, key);
+        remember(work, p, t, 3, key);
     }
     after
 }
 
+// How many bytes the table in a slot takes, with its count.
+pub fn extent(work: &[u8], p: Shape, slot: usize) -> usize
+    requires { ⌜ Before p (now work) (slotTable p (now work) slot) ⌝ }
+    ensures { λ r. ⌜ r ≡ 1 + getD (now (work .entry)) slot 0 * (p .fluents + p .characters) ⌝ }
+{
+    let n = wide(work[slot]);
+    1 + n * (p.fluents + p.characters)
+}
+
 // Whether the state in a slot, the last of `done` + 1, is one of those in the slots before it.
 pub fn repeats(work: &[u8], p: Shape, slot: usize, done: usize) -> bool
-    requires { ⌜ Slotted p (now work) slot × (slot ≡ done * 961) ⌝ }
+    requires { ⌜ Before p (now work) (slotTable p (now work) slot) × (slot ≡ done * 961) ⌝ }
     ensures { λ r. ⌜ (r ≡ true → Repeated p (now (work .entry)) slot done) ⌝ }
 {
     let n = extent(work, p, slot);
@@ -133,7 +145,7 @@ pub fn completes_after(
     base: usize,
 ) -> usize
     requires { ⌜ Underway (k .0) (e .0) base (now pack) (now places) p (now work) slot done (suc left) × (0 < k .0) × (k .0 ≤ 6) × Free slot (2 + left + k .0 * e .0) × (done + suc left ≤ length (now list)) × (slot ≡ done * 961) ⌝ }
-    ensures { λ r. ⌜ ((th : Theory) (T : List Node) → Stage th T (now (pack .entry)) (now (places .entry)) p (now (work .entry)) (slotTable p (now (work .entry)) slot) (slot + 961) → Memory th (k .0) p (now (work .entry)) → Trail th (k .0) (e .0) base p (now (work .entry)) done (suc left) (meaning (p .characters) T 0) → Best (Memory th (k .0) p) (Ends th (k .0) (e .0) base (meaning (p .characters) T 0)) (suc left) (now (list .entry)) (now (list .exit)) done (slot + 961) (now (work .entry)) (now (work .exit)) r) ⌝ }
+    ensures { λ r. ⌜ ((th : Theory) (T : List Node) → Stage th T (now (pack .entry)) (now (places .entry)) p (now (work .entry)) (slotTable p (now (work .entry)) slot) (slot + 961) → Memory th (k .0) p (slot + 961) (now (work .entry)) → Trail th (k .0) (e .0) base p (now (work .entry)) done (suc left) (meaning (p .characters) T 0) → Best (Memory th (k .0) p (slot + 961)) (Ends th (k .0) (e .0) base (meaning (p .characters) T 0)) (suc left) (now (list .entry)) (now (list .exit)) done (slot + 961) (now (work .entry)) (now (work .exit)) r) ⌝ }
 {
     let mut x = 0;
     while x < p.actions {
@@ -178,7 +190,7 @@ pub fn completes_by(
     base: usize,
 ) -> usize
     requires { ⌜ Underway (k .0) (e .0) base (now pack) (now places) p (now work) slot done (suc left) × (x < p .actions) × (0 < k .0) × (k .0 ≤ 6) × Free slot (2 + left + k .0 * e .0) × (done + suc left ≤ length (now list)) × (slot ≡ done * 961) ⌝ }
-    ensures { λ r. ⌜ ((th : Theory) (T : List Node) → Stage th T (now (pack .entry)) (now (places .entry)) p (now (work .entry)) (slotTable p (now (work .entry)) slot) (slot + 961) → Memory th (k .0) p (now (work .entry)) → Trail th (k .0) (e .0) base p (now (work .entry)) done (suc left) (meaning (p .characters) T 0) → Best (Memory th (k .0) p) (EndsBy th (k .0) (e .0) base x (meaning (p .characters) T 0)) (suc left) (now (list .entry)) (now (list .exit)) done (slot + 961) (now (work .entry)) (now (work .exit)) r) ⌝ }
+    ensures { λ r. ⌜ ((th : Theory) (T : List Node) → Stage th T (now (pack .entry)) (now (places .entry)) p (now (work .entry)) (slotTable p (now (work .entry)) slot) (slot + 961) → Memory th (k .0) p (slot + 961) (now (work .entry)) → Trail th (k .0) (e .0) base p (now (work .entry)) done (suc left) (meaning (p .characters) T 0) → Best (Memory th (k .0) p (slot + 961)) (EndsBy th (k .0) (e .0) base x (meaning (p .characters) T 0)) (suc left) (now (list .entry)) (now (list .exit)) done (slot + 961) (now (work .entry)) (now (work .exit)) r) ⌝ }
 {
     let t = Table {
         rows: slot + 1,
@@ -206,7 +218,7 @@ pub fn completes_by(
     if !agreed {
         return 0;
     }
-    let number = step_slot(pack, places, p.triggers, x, work, t, 0, slot + 961);
+    let number = known_step(pack, places, p, x, work, t, 0, slot + 961);
     if number != 0 {
         return 0;
     }
@@ -242,7 +254,7 @@ pub fn shortest(
     base: usize,
 ) -> Ended
     requires { ⌜ Outset (k .0) base (now pack) (now places) p (now work) × (0 < k .0) × (k .0 ≤ 6) × (e .0 ≤ 3) × (s .0 ≤ 8) × (8 ≤ length (now list)) ⌝ }
-    ensures { λ r. ⌜ ((th : Theory) (T : List Node) → Stage th T (now (pack .entry)) (now (places .entry)) p (now (work .entry)) (slotTable p (now (work .entry)) 0) 961 → Memory th (k .0) p (now (work .entry)) → authorUtility th (meaning (p .characters) T 0) ≤ base → Shortest (Ends th (k .0) (e .0) base (meaning (p .characters) T 0)) (s .0) (now (list .entry)) (now (list .exit)) (now (work .entry)) (now (work .exit)) r) ⌝ }
+    ensures { λ r. ⌜ ((th : Theory) (T : List Node) → Stage th T (now (pack .entry)) (now (places .entry)) p (now (work .entry)) (slotTable p (now (work .entry)) 0) 961 → Memory th (k .0) p 961 (now (work .entry)) → authorUtility th (meaning (p .characters) T 0) ≤ base → Shortest (Ends th (k .0) (e .0) base (meaning (p .characters) T 0)) (s .0) (now (list .entry)) (now (list .exit)) (now (work .entry)) (now (work .exit)) r) ⌝ }
 {
     let mut n = 1;
     while n <= s.0 {
@@ -283,7 +295,7 @@ pub fn lay_start(pack: &[u8], first: usize, nodes: usize, p: Shape, work: &mut [
     let rows = merge_table(work, nodes, width, p.fluents, p.characters);
     work[0] = rows as u8;
     copy_part(work, 2400, 1, rows * width);
-    clear(work, 43470, 5682);
+    clear(work, 43470, 1586);
 }
 
 // The search from what node 0 means of the nodes that are read from `first` on. The work buffer is cleared.
@@ -339,14 +351,11 @@ pub fn search(
     match check_lent(nodes, enough, there) {
         Number::Refused(k, at) => Found::Refused(k, at),
         Number::Is(_, _) => {
-            let entry = entry_size(p.nodes, p.fluents, p.characters);
             let shape = Shape {
                 actions: p.actions,
                 triggers: p.triggers,
                 fluents: p.fluents,
                 characters: p.characters,
-                entries: 5682 / entry,
-                entry,
             };
             search_nodes(
                 pack,

@@ -18,7 +18,18 @@ pub struct Off {
 
 pub const NOTHING_OFF: Off = Off { name: "nothing", edits: &[] };
 
-pub const OFF: [Off; 6] = [
+pub const OFF: [Off; 8] = [
+    Off {
+        name: "memory of steps",
+        edits: &[("explanation/known.rs", "if step_is(work, at, name, root, action) {", "if false {")],
+    },
+    Off {
+        name: "memory of verdicts",
+        edits: &[
+            ("explanation/explain.rs", "if known == 4 {", "if known == 9 {"),
+            ("explanation/explain.rs", "if known == 5 {", "if known == 9 {"),
+        ],
+    },
     Off {
         name: "memory of characters' lists",
         edits: &[
@@ -28,7 +39,7 @@ pub const OFF: [Off; 6] = [
     },
     Off {
         name: "memory of the author's lists",
-        edits: &[("planner/search.rs", "if recall(work, p, slot, at, key) == 3 {", "if false {")],
+        edits: &[("planner/search.rs", "if recall(work, p, t, key) == 3 {", "if false {")],
     },
     Off {
         name: "repeats on the author's path",
@@ -39,9 +50,12 @@ pub const OFF: [Off; 6] = [
     Off {
         name: "all of them",
         edits: &[
+            ("explanation/known.rs", "if step_is(work, at, name, root, action) {", "if false {"),
+            ("explanation/explain.rs", "if known == 4 {", "if known == 9 {"),
+            ("explanation/explain.rs", "if known == 5 {", "if known == 9 {"),
             ("explanation/explain.rs", "if known == 1 {", "if known == 9 {"),
             ("explanation/explain.rs", "if known == 2 {", "if known == 9 {"),
-            ("planner/search.rs", "if recall(work, p, slot, at, key) == 3 {", "if false {"),
+            ("planner/search.rs", "if recall(work, p, t, key) == 3 {", "if false {"),
             ("planner/search.rs", "if repeats(work, p, slot, done) {", "if false {"),
             ("explanation/look.rs", "if !may {", "if false {"),
             ("explanation/look.rs", "if 0 < left {", "if true {"),

@@ -19,7 +19,7 @@ use Rattle.planner.specs.Search.{Answer, Searched}
 use Rattle.planner.specs.Replies.{answerReply}
 use Rattle.planner.specs.Promises.{searchSaid, summary}
 use Rattle.explanation.specs.Inner.Lists.{slotTable, Ends}
-use Rattle.explanation.specs.Inner.Memory.{memoryAt, Laid, Memory}
+use Rattle.explanation.specs.Inner.Memory.{memoryAt, tablesAt, Memory}
 use Rattle.explanation.specs.Inner.Explain.{Stage}
 use Rattle.explanation.specs.Ending.{authorUtility}
 
@@ -57,11 +57,11 @@ pub record Trail (p : Theory) (foresight nesting base : ℕ) (h : Shape) (work :
 -- a stage, a memory and a path
 abbrev pub Underway : (foresight nesting base : ℕ) (pack places : List ℕ) (h : Shape) (work : List ℕ) (slot n left : ℕ) → Type 0
 Underway K e base pack places h work slot n left =
-    (p : Theory) × ((T : List Node) × (Stage p T pack places h work (slotTable h work slot) (slot + 961) × Memory p K h work × Trail p K e base h work n left (meaning (h .characters) T 0)))
+    (p : Theory) × ((T : List Node) × (Stage p T pack places h work (slotTable h work slot) (slot + 961) × Memory p K h (slot + 961) work × Trail p K e base h work n left (meaning (h .characters) T 0)))
 
 -- a stage and a memory, and the author's utility there is at most base
 abbrev pub Outset : (foresight base : ℕ) (pack places : List ℕ) (h : Shape) (work : List ℕ) → Type 0
-Outset K base pack places h work = (p : Theory) × ((T : List Node) × (Stage p T pack places h work (slotTable h work 0) 961 × Memory p K h work × (authorUtility p (meaning (h .characters) T 0) ≤ base)))
+Outset K base pack places h work = (p : Theory) × ((T : List Node) × (Stage p T pack places h work (slotTable h work 0) 961 × Memory p K h 961 work × (authorUtility p (meaning (h .characters) T 0) ≤ base)))
 
 -- the state in a slot is one of those before it
 abbrev pub Repeated : (h : Shape) (work : List ℕ) (slot n : ℕ) → Type 0
@@ -85,11 +85,11 @@ pub record Laying (T : List Node) (pack : List ℕ) (first nodes : ℕ) (h : Sha
 abbrev pub Layable : (pack : List ℕ) (first nodes : ℕ) (h : Shape) (work : List ℕ) → Type 0
 Layable pack first nodes h work = (T : List Node) × Laying T pack first nodes h work
 
--- in the first slot stands the written chart of what node 0 means, and no entry of the memory is marked
+-- in the first slot stands the written chart of what node 0 means, and nothing is known yet
 pub record LaidStart (T : List Node) (h : Shape) (was now : List ℕ) : Type 0 where
   pub few : getD now 0 0 ≤ 32
   pub starts : Starts (h .characters) (meaning (h .characters) T 0) (tableOf (slotTable h now 0) now)
-  pub empty : (q : ℕ) → memoryAt ≤ q → q < workRoom → getD now q 0 ≡ 0
+  pub empty : (q : ℕ) → memoryAt ≤ q → q < tablesAt → getD now q 0 ≡ 0
   pub high : Above was now workRoom
 
 -- what the search from a pack's nodes is lent: a theory, found in the pack, its nodes, and room
@@ -104,7 +104,6 @@ pub record Seeking (th : Theory) (T : List Node) (pack places : List ℕ) (h : S
   pub nested : nesting ≤ 3
   pub list-room : listRoom ≤ length list
   pub room : workRoom ≤ length work
-  pub laid : Laid h
 
 abbrev pub Seekable : (pack places : List ℕ) (h : Shape) (first nodes story nesting foresight : ℕ) (list work : List ℕ) → Type 0
 Seekable pack places h first nodes story nesting foresight list work = (th : Theory) × ((T : List Node) × Seeking th T pack places h first nodes story nesting foresight list work)

@@ -15,15 +15,12 @@ slice-aggregate-check-under c = let p = c .before .before .before .read-pack in 
 
 judge-chart-requires : tie.Need-judge-chart-requires
 judge-chart-requires c κs =
-    let a = c .before .before .before .before .before .before .before .before .before .before .before .before .before .before .before .before .before .args in
-    let u = c .before .before .before .before .before .before .before .before .check-under in
-    let i = c .before .before .before .before .before .before .before .in-range in
-    let l = c .before .before .before .before .before .before .check-lent in
-    judge-able (a .chart .now) (a .character) (a .action) (a .foresight) (a .nesting) (a .work .now) (c .before .before .before .before .before .before .before .before .before .before .before .before .read-pack .ensures) (u .result) (u .ensures) (i .result) (i .ensures) (l .result) (l .ensures)
-    (λ i. omega (arith, c .before .before .before .before .before .before .before .before .before .before .before .before .before .before .before .before .shared-slice-known .given i)) (λ i. omega (arith, c .before .before .before .before .before .before .before .before .before .before .before .before .before .before .before .shared-slice-known2 .given i)) (omega (arith, c .before .before .before .before .before .before .before .before .before .before .before .before .read-pack .kept)) _ _ (c .before .before .before .before .n .given .1) (c .before .before .entry-size .result) (c .before .before .entry-size .ensures)
-
-div-t28 : tie.Need-div-t28
-div-t28 c = omega (arith, c .entry-size .ensures)
+    let a = c .before .before .before .before .before .before .before .before .before .before .before .before .before .before .before .before .args in
+    let u = c .before .before .before .before .before .before .before .check-under in
+    let i = c .before .before .before .before .before .before .in-range in
+    let l = c .before .before .before .before .before .check-lent in
+    judge-able (a .chart .now) (a .character) (a .action) (a .foresight) (a .nesting) (a .work .now) (c .before .before .before .before .before .before .before .before .before .before .before .read-pack .ensures) (u .result) (u .ensures) (i .result) (i .ensures) (l .result) (l .ensures)
+    (λ i. omega (arith, c .before .before .before .before .before .before .before .before .before .before .before .before .before .before .before .shared-slice-known .given i)) (λ i. omega (arith, c .before .before .before .before .before .before .before .before .before .before .before .before .before .before .shared-slice-known2 .given i)) (omega (arith, c .before .before .before .before .before .before .before .before .before .before .before .read-pack .kept)) _ _ (c .before .before .before .n .given .1)
 
 returns : tie.Need-returns
 returns c =
@@ -35,14 +32,14 @@ returns c =
 
 returns-2 : tie.Need-returns-2
 returns-2 c =
-    let a = c .before .before .before .before .before .before .before .before .before .before .before .before .before .before .before .before .before .before .before .before .args in
-    let u = c .before .before .before .before .before .before .before .before .before .before .before .check-under in
-    let i = c .before .before .before .before .before .before .before .before .before .before .in-range in
-    let l = c .before .before .before .before .before .before .before .before .before .check-lent in
-    judge-done (a .chart .now) (a .character) (a .action) (a .foresight) (a .nesting) (a .work .now) (c .before .before .before .before .before .before .before .before .before .before .before .before .before .before .before .read-pack .ensures) (u .result) (u .ensures) (i .result) (i .ensures) (l .result) (l .ensures)
-    (λ i. omega (arith, c .before .before .before .before .before .before .before .before .before .before .before .before .before .before .before .before .before .before .before .shared-slice-known .given i)) (λ i. omega (arith, c .before .before .before .before .before .before .before .before .before .before .before .before .before .before .before .before .before .before .shared-slice-known2 .given i)) (omega (arith, c .before .before .before .before .before .before .before .before .before .before .before .before .before .before .before .read-pack .kept)) _ _ (c .before .before .before .before .before .before .before .n .given .1) (c .before .before .before .before .before .entry-size .result) (c .before .before .before .before .before .entry-size .ensures) _ _ (c .before .before .judge-chart .ensures)
+    let a = c .before .before .before .before .before .before .before .before .before .before .before .before .before .before .before .before .before .before .before .args in
+    let u = c .before .before .before .before .before .before .before .before .before .before .check-under in
+    let i = c .before .before .before .before .before .before .before .before .before .in-range in
+    let l = c .before .before .before .before .before .before .before .before .check-lent in
+    judge-done (a .chart .now) (a .character) (a .action) (a .foresight) (a .nesting) (a .work .now) (c .before .before .before .before .before .before .before .before .before .before .before .before .before .before .read-pack .ensures) (u .result) (u .ensures) (i .result) (i .ensures) (l .result) (l .ensures)
+    (λ i. omega (arith, c .before .before .before .before .before .before .before .before .before .before .before .before .before .before .before .before .before .before .shared-slice-known .given i)) (λ i. omega (arith, c .before .before .before .before .before .before .before .before .before .before .before .before .before .before .before .before .before .shared-slice-known2 .given i)) (omega (arith, c .before .before .before .before .before .before .before .before .before .before .before .before .before .before .read-pack .kept)) _ _ (c .before .before .before .before .before .before .n .given .1) _ _ (c .before .before .judge-chart .ensures)
 
 pub judge-spec : {M : Type 1} → statement M
 judge-spec =
     tie.close
-    (tie.spec (λ c. search needs) (λ c κs. search needs) array-share-prefix-sizes slice-aggregate-check-under (λ c κs. search needs) (λ c κs. search needs) (λ c κs. search needs) (λ c. search needs) (λ c. search needs) (λ c κs. search needs) div-t28 (λ c. search needs) judge-chart-requires returns (λ c. search needs) returns-2)
+    (tie.spec (λ c. search needs) (λ c κs. search needs) array-share-prefix-sizes slice-aggregate-check-under (λ c κs. search needs) (λ c κs. search needs) (λ c κs. search needs) (λ c. search needs) (λ c. search needs) (λ c. search needs) judge-chart-requires returns (λ c. search needs) returns-2)

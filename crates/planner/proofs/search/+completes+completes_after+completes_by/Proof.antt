@@ -17,8 +17,9 @@ use Rattle.explanation.specs.Inner.Lists.{slotTable, Ends, EndsBy}
 use Rattle.explanation.specs.Inner.Memory.{Memory}
 use Rattle.explanation.specs.Inner.Explain.{Stage, Free}
 use Rattle.planner.specs.Inner.Search.{Best, Trail}
-use Rattle.explanation.proofs.Telling.{stage-same, stage-setting, stage-tryable, stage-hopeless, step-high, step-memory, step-none, nextTable, next-plays, next-stage, slot-stage, slot-same, stage-slotted, stage-state, known, note}
-use Rattle.planner.proofs.Completing.{best-none, best-noted, best-same, fact-of-none, trail-step, trail-same, trail-repeats, best-end, best-first, best-no, best-hopeless, best-by, best-by-none, agreed-from, agreed-to}
+use Rattle.explanation.proofs.Remembering.{memory-fewer}
+use Rattle.explanation.proofs.Telling.{stage-same, stage-tryable, stage-hopeless, nextTable, next-plays, next-stage, slot-stage, slot-same, stage-before, stage-state, known, note}
+use Rattle.planner.proofs.Completing.{best-none, best-from, best-noted, best-same, fact-of-none, trail-step, trail-same, trail-repeats, best-end, best-first, best-no, best-hopeless, best-by, best-by-none, agreed-from, agreed-to}
 use borrow.Fn.Kinds.{In}
 use borrow.Fn.PlainCycle.{Measures, is, falls, and}
 use Rattle.planner.proofs.search.completes.Reads as completes
@@ -33,12 +34,11 @@ use Rattle.planner.proofs.search.+completes+completes_after+completes_b
 use Rattle.reading.proofs.number.wide.Reads as wide-reads
 use Rattle.explanation.proofs.explain.allowed.Reads as allowed-reads
 use Rattle.explanation.proofs.look.promising.Reads as promising-reads
-use Rattle.explanation.proofs.memory.entry_of.Reads as entry-of-reads
-use Rattle.explanation.proofs.memory.recall.Reads as recall-reads
-use Rattle.explanation.proofs.memory.remember.Reads as remember-reads
+use Rattle.explanation.proofs.fact.recall.Reads as recall-reads
+use Rattle.explanation.proofs.fact.remember.Reads as remember-reads
 use Rattle.planner.proofs.search.ends.Reads as ends-reads
 use Rattle.planner.proofs.search.repeats.Reads as repeats-reads
-use Rattle.transition.proofs.step.step_slot.Reads as step-slot-reads
+use Rattle.explanation.proofs.known.known_step.Reads as known-step-reads
 use Rattle.planner.proofs.search.+completes+completes_after+completes_by.{statement}
 use Rattle.planner.proofs.search.+completes+completes_after+completes_by.Tie.{close}
 
@@ -86,400 +86,153 @@ completes-by-below t =
     (falls 4 completes-by-kinds.ps _<_ μ-completes-by t)
     completes-by.Pre
 
--- src/search.rt:71:9
-completes-ends-requires : (t : ℕ) → completes-lts.Need-ends-requires (
-  ends-reads.Asked,
-  ends-reads.Learnt,
-  repeats-reads.Asked,
-  repeats-reads.Learnt,
-  entry-of-reads.Asked,
-  entry-of-reads.Learnt,
-  recall-reads.Asked,
-  recall-reads.Learnt,
-  completes-after-below t,
-  completes-after.Post,
-  remember-reads.Asked,
-  remember-reads.Learnt,
-) (completes-at t) completes.Post
+abbrev completes-after-calls : ℕ → completes-after-lts.Claims
+completes-after-calls t = (completes-by-below t, completes-by.Post)
+
+abbrev completes-by-calls : ℕ → completes-by-lts.Claims
+completes-by-calls t = (wide-reads.Asked, wide-reads.Learnt, promising-reads.Asked, promising-reads.Learnt, allowed-reads.Asked, allowed-reads.Learnt, known-step-reads.Asked, known-step-reads.Learnt, completes-below t, completes.Post)
+
+abbrev completes-calls : ℕ → completes-lts.Claims
+completes-calls t = (ends-reads.Asked, ends-reads.Learnt, repeats-reads.Asked, repeats-reads.Learnt, wide-reads.Asked, wide-reads.Learnt, recall-reads.Asked, recall-reads.Learnt, completes-after-below t, completes-after.Post, remember-reads.Asked, remember-reads.Learnt)
+
+completes-ends-requires : (t : ℕ) → completes-lts.Need-ends-requires (completes-calls t) (completes-at t) completes.Post
 completes-ends-requires t c κs = let P = c .before .before .before .before .before .before .pre .1 in let (th, (T, (y, mem, trail))) = P .0 in ((th, (T, y)), omega (arith, P .3))
 
--- src/search.rt:71:9
-completes-same-length : (t : ℕ) → completes-lts.Need-same-length (
-  ends-reads.Asked,
-  ends-reads.Learnt,
-  repeats-reads.Asked,
-  repeats-reads.Learnt,
-  entry-of-reads.Asked,
-  entry-of-reads.Learnt,
-  recall-reads.Asked,
-  recall-reads.Learnt,
-  completes-after-below t,
-  completes-after.Post,
-  remember-reads.Asked,
-  remember-reads.Learnt,
-) (completes-at t) completes.Post
+completes-same-length : (t : ℕ) → completes-lts.Need-same-length (completes-calls t) (completes-at t) completes.Post
 completes-same-length t c = search needs
 
--- src/search.rt:71:9
-completes-returns : (t : ℕ) → completes-lts.Need-returns (
-  ends-reads.Asked,
-  ends-reads.Learnt,
-  repeats-reads.Asked,
-  repeats-reads.Learnt,
-  entry-of-reads.Asked,
-  entry-of-reads.Learnt,
-  recall-reads.Asked,
-  recall-reads.Learnt,
-  completes-after-below t,
-  completes-after.Post,
-  remember-reads.Asked,
-  remember-reads.Learnt,
-) (completes-at t) completes.Post
+completes-returns : (t : ℕ) → completes-lts.Need-returns (completes-calls t) (completes-at t) completes.Post
 completes-returns t c = let a = c .before .before .before .before .before .before .before .args in
     let none : 0 ≡ a .left = omega (arith, c .before .before .if1 .taken) in
     λ th T y mem trail.
     let e = c .ends .ensures th T y in
     best-same none (best-end th (a .k .0) (a .e .0) (a .base) (meaning (a .p .characters) T 0) (a .list .now) (a .work .now) mem (e .0) (e .1))
 
--- src/search.rt:73:8
-completes-repeats-requires : (t : ℕ) → completes-lts.Need-repeats-requires (
-  ends-reads.Asked,
-  ends-reads.Learnt,
-  repeats-reads.Asked,
-  repeats-reads.Learnt,
-  entry-of-reads.Asked,
-  entry-of-reads.Learnt,
-  recall-reads.Asked,
-  recall-reads.Learnt,
-  completes-after-below t,
-  completes-after.Post,
-  remember-reads.Asked,
-  remember-reads.Learnt,
-) (completes-at t) completes.Post
-completes-repeats-requires t c κs = let (th, (T, (y, mem, trail))) = c .before .before .before .before .before .before .pre .1 .0 in (stage-slotted (c .before .before .before .before .before .before .args .slot) y (omega (arith, c .before .before .before .before .before .before .pre .1 .3)), c .before .before .before .before .before .before .pre .1 .5)
+completes-repeats-requires : (t : ℕ) → completes-lts.Need-repeats-requires (completes-calls t) (completes-at t) completes.Post
+completes-repeats-requires t c κs = let P = c .before .before .before .before .before .before .pre .1 in let (th, (T, (y, mem, trail))) = P .0 in (stage-before y (omega (arith, P .3)), P .5)
 
--- src/search.rt:74:9
-completes-same-length-2 : (t : ℕ) → completes-lts.Need-same-length-2 (
-  ends-reads.Asked,
-  ends-reads.Learnt,
-  repeats-reads.Asked,
-  repeats-reads.Learnt,
-  entry-of-reads.Asked,
-  entry-of-reads.Learnt,
-  recall-reads.Asked,
-  recall-reads.Learnt,
-  completes-after-below t,
-  completes-after.Post,
-  remember-reads.Asked,
-  remember-reads.Learnt,
-) (completes-at t) completes.Post
+completes-same-length-2 : (t : ℕ) → completes-lts.Need-same-length-2 (completes-calls t) (completes-at t) completes.Post
 completes-same-length-2 t c = search needs
 
--- src/search.rt:74:9
-completes-returns-2 : (t : ℕ) → completes-lts.Need-returns-2 (
-  ends-reads.Asked,
-  ends-reads.Learnt,
-  repeats-reads.Asked,
-  repeats-reads.Learnt,
-  entry-of-reads.Asked,
-  entry-of-reads.Learnt,
-  recall-reads.Asked,
-  recall-reads.Learnt,
-  completes-after-below t,
-  completes-after.Post,
-  remember-reads.Asked,
-  remember-reads.Learnt,
-) (completes-at t) completes.Post
+completes-returns-2 : (t : ℕ) → completes-lts.Need-returns-2 (completes-calls t) (completes-at t) completes.Post
 completes-returns-2 t c = let a = c .before .before .before .before .before .before .before .before .args in
     let again = c .before .repeats .ensures (c .if2 .taken) in
-    λ th T y mem trail. best-none _ (λ q l. refl) (λ q l. refl) mem (trail-repeats th (a .k .0) (a .e .0) (a .base) (meaning (a .p .characters) T 0) (a .slot) trail (stage-state (a .slot) y) again)
+    λ th T y mem trail. best-none _ (λ q l. refl) (λ q l. refl) mem (trail-repeats th (a .k .0) (a .e .0) (a .base) (meaning (a .p .characters) T 0) (a .slot) trail (stage-state y 0) again)
 
--- src/search.rt:82:9
-completes-entry-of-requires : (t : ℕ) → completes-lts.Need-entry-of-requires (
-  ends-reads.Asked,
-  ends-reads.Learnt,
-  repeats-reads.Asked,
-  repeats-reads.Learnt,
-  entry-of-reads.Asked,
-  entry-of-reads.Learnt,
-  recall-reads.Asked,
-  recall-reads.Learnt,
-  completes-after-below t,
-  completes-after.Post,
-  remember-reads.Asked,
-  remember-reads.Learnt,
-) (completes-at t) completes.Post
-completes-entry-of-requires t c κs = let (th, (T, (y, mem, trail))) = c .before .before .before .before .before .before .before .before .before .pre .1 .0 in stage-slotted (c .before .before .before .before .before .before .before .before .before .args .slot) y (omega (arith, c .before .before .before .before .before .before .before .before .before .pre .1 .3))
+completes-add-t21 : (t : ℕ) → completes-lts.Need-add-t21 (completes-calls t) (completes-at t) completes.Post
+completes-add-t21 t c = omega (arith, c .before .before .before .before .before .before .before .before .pre .1 .3)
 
--- src/search.rt:83:8
-completes-recall-requires : (t : ℕ) → completes-lts.Need-recall-requires (
-  ends-reads.Asked,
-  ends-reads.Learnt,
-  repeats-reads.Asked,
-  repeats-reads.Learnt,
-  entry-of-reads.Asked,
-  entry-of-reads.Learnt,
-  recall-reads.Asked,
-  recall-reads.Learnt,
-  completes-after-below t,
-  completes-after.Post,
-  remember-reads.Asked,
-  remember-reads.Learnt,
-) (completes-at t) completes.Post
-completes-recall-requires t c κs = let (th, (T, (y, mem, trail))) = c .before .before .before .before .before .before .before .before .before .before .before .pre .1 .0 in (stage-slotted (c .before .before .before .before .before .before .before .before .before .before .before .args .slot) y (omega (arith, c .before .before .before .before .before .before .before .before .before .before .before .pre .1 .3)), c .before .entry-of .ensures)
+completes-slice-read-wide : (t : ℕ) → completes-lts.Need-slice-read-wide (completes-calls t) (completes-at t) completes.Post
+completes-slice-read-wide t c = let P = c .before .before .before .before .before .before .before .before .before .pre .1 in let (th, (T, (y, mem, trail))) = P .0 in omega (arith, P .3, y .room)
 
--- src/search.rt:84:9
-completes-same-length-3 : (t : ℕ) → completes-lts.Need-same-length-3 (
-  ends-reads.Asked,
-  ends-reads.Learnt,
-  repeats-reads.Asked,
-  repeats-reads.Learnt,
-  entry-of-reads.Asked,
-  entry-of-reads.Learnt,
-  recall-reads.Asked,
-  recall-reads.Learnt,
-  completes-after-below t,
-  completes-after.Post,
-  remember-reads.Asked,
-  remember-reads.Learnt,
-) (completes-at t) completes.Post
+completes-wide-requires : (t : ℕ) → completes-lts.Need-wide-requires (completes-calls t) (completes-at t) completes.Post
+completes-wide-requires t c κs = search needs
+
+completes-add-completes-after : (t : ℕ) → completes-lts.Need-add-completes-after (completes-calls t) (completes-at t) completes.Post
+completes-add-completes-after t c = let (th, (T, (y, mem, trail))) = c .before .before .before .before .before .before .before .before .before .before .before .pre .1 .0 in omega (arith, small (y .tabled))
+
+completes-recall-requires : (t : ℕ) → completes-lts.Need-recall-requires (completes-calls t) (completes-at t) completes.Post
+completes-recall-requires t c κs = let P = c .before .before .before .before .before .before .before .before .before .before .before .before .pre .1 in
+    let a = c .before .before .before .before .before .before .before .before .before .before .before .before .args in
+    let (th, (T, (y, mem, trail))) = P .0 in
+    let z = slot-stage (a .p) (a .work .now) (a .slot) (c .before .before .wide .ensures) y in
+    stage-before z (omega (arith, P .3))
+
+completes-same-length-3 : (t : ℕ) → completes-lts.Need-same-length-3 (completes-calls t) (completes-at t) completes.Post
 completes-same-length-3 t c = search needs
 
--- src/search.rt:84:9
-completes-returns-3 : (t : ℕ) → completes-lts.Need-returns-3 (
-  ends-reads.Asked,
-  ends-reads.Learnt,
-  repeats-reads.Asked,
-  repeats-reads.Learnt,
-  entry-of-reads.Asked,
-  entry-of-reads.Learnt,
-  recall-reads.Asked,
-  recall-reads.Learnt,
-  completes-after-below t,
-  completes-after.Post,
-  remember-reads.Asked,
-  remember-reads.Learnt,
-) (completes-at t) completes.Post
-completes-returns-3 t c = let a = c .before .before .before .before .before .before .before .before .before .before .before .before .before .args in λ th T y mem trail. best-none _ (λ q l. refl) (λ q l. refl) mem (known (a .slot) y (c .before .recall .ensures th (a .k .0) mem) .none (c .if3 .taken))
+completes-returns-3 : (t : ℕ) → completes-lts.Need-returns-3 (completes-calls t) (completes-at t) completes.Post
+completes-returns-3 t c = let P = c .before .before .before .before .before .before .before .before .before .before .before .before .before .before .before .before .pre .1 in
+    let a = c .before .before .before .before .before .before .before .before .before .before .before .before .before .before .before .before .args in
+    let r = c .before .before .before .recall in
+    λ th T y mem trail.
+    let z = slot-stage (a .p) (a .work .now) (a .slot) (c .before .before .before .before .before .before .wide .ensures) y in
+    let (m, fact) = r .ensures .told th (a .k .0) (a .slot + 961) (omega (arith, P .3)) (z .slotted) mem in
+    best-none _ (λ q l. r .ensures .only .low q (omega (arith, l, P .3))) (r .ensures .only .high) m (known z fact .none (c .if3 .taken))
 
--- src/search.rt:96:9
-completes-sub-completes-after : (t : ℕ) → completes-lts.Need-sub-completes-after (
-  ends-reads.Asked,
-  ends-reads.Learnt,
-  repeats-reads.Asked,
-  repeats-reads.Learnt,
-  entry-of-reads.Asked,
-  entry-of-reads.Learnt,
-  recall-reads.Asked,
-  recall-reads.Learnt,
-  completes-after-below t,
-  completes-after.Post,
-  remember-reads.Asked,
-  remember-reads.Learnt,
-) (completes-at t) completes.Post
-completes-sub-completes-after t c = omega (arith, c .before .before .before .before .before .before .before .before .before .before .if1 .left)
+completes-sub-completes-after : (t : ℕ) → completes-lts.Need-sub-completes-after (completes-calls t) (completes-at t) completes.Post
+completes-sub-completes-after t c = omega (arith, c .before .before .before .before .before .before .before .before .before .before .before .before .before .if1 .left)
 
--- src/search.rt:86:9
-completes-completes-after-requires : (t : ℕ) → completes-lts.Need-completes-after-requires (
-  ends-reads.Asked,
-  ends-reads.Learnt,
-  repeats-reads.Asked,
-  repeats-reads.Learnt,
-  entry-of-reads.Asked,
-  entry-of-reads.Learnt,
-  recall-reads.Asked,
-  recall-reads.Learnt,
-  completes-after-below t,
-  completes-after.Post,
-  remember-reads.Asked,
-  remember-reads.Learnt,
-) (completes-at t) completes.Post
-completes-completes-after-requires t c κs = let (m, P) = c .before .before .before .before .before .before .before .before .before .before .before .before .before .before .before .pre in
-    let a = c .before .before .before .before .before .before .before .before .before .before .before .before .before .before .before .args in
+completes-completes-after-requires : (t : ℕ) → completes-lts.Need-completes-after-requires (completes-calls t) (completes-at t) completes.Post
+completes-completes-after-requires t c κs = let (m, P) = c .before .before .before .before .before .before .before .before .before .before .before .before .before .before .before .before .before .before .pre in
+    let a = c .before .before .before .before .before .before .before .before .before .before .before .before .before .before .before .before .before .before .args in
     let (th, (T, (y, mem, trail))) = P .0 in
-    let up : a .left ≡ suc (a .left - 1) = omega (arith, c .before .before .before .before .before .before .before .before .before .before .if1 .left) in
-    (omega (arith, m, c .before .before .before .before .before .before .before .before .before .before .if1 .left), ((th, (T, (y, mem, subst (λ (n : ℕ). Trail th (a .k .0) (a .e .0) (a .base) (a .p) (a .work .now) (a .done) n (meaning (a .p .characters) T 0)) up trail))), P .1, P .2, omega (arith, P .3, c .before .before .before .before .before .before .before .before .before .before .if1 .left), omega (arith, P .4, c .before .before .before .before .before .before .before .before .before .before .if1 .left), P .5))
+    let r = c .before .before .before .before .before .recall in
+    let z = slot-stage (a .p) (a .work .now) (a .slot) (c .before .before .before .before .before .before .before .before .wide .ensures) y in
+    let up : a .left ≡ suc (a .left - 1) = omega (arith, c .before .before .before .before .before .before .before .before .before .before .before .before .before .if1 .left) in
+    (omega (arith, m, c .before .before .before .before .before .before .before .before .before .before .before .before .before .if1 .left), ((th, (T, ((slot-same (a .slot) y (λ q l. r .ensures .only .low q (omega (arith, l, P .3))) (r .kept .0)), (r .ensures .told th (a .k .0) (a .slot + 961) (omega (arith, P .3)) (z .slotted) mem .0), (trail-same th (a .k .0) (a .e .0) (a .base) (meaning (a .p .characters) T 0) (λ q l. r .ensures .only .low q (omega (arith, l, P .3, P .5))) (subst (λ (n : ℕ). Trail th (a .k .0) (a .e .0) (a .base) (a .p) (a .work .now) (a .done) n (meaning (a .p .characters) T 0)) up trail))))), P .1, P .2, omega (arith, P .3, c .before .before .before .before .before .before .before .before .before .before .before .before .before .if1 .left), omega (arith, P .4, c .before .before .before .before .before .before .before .before .before .before .before .before .before .if1 .left), P .5))
 
--- src/search.rt:100:9
-completes-remember-requires : (t : ℕ) → completes-lts.Need-remember-requires (
-  ends-reads.Asked,
-  ends-reads.Learnt,
-  repeats-reads.Asked,
-  repeats-reads.Learnt,
-  entry-of-reads.Asked,
-  entry-of-reads.Learnt,
-  recall-reads.Asked,
-  recall-reads.Learnt,
-  completes-after-below t,
-  completes-after.Post,
-  remember-reads.Asked,
-  remember-reads.Learnt,
-) (completes-at t) completes.Post
-completes-remember-requires t c κs = let P = c .before .before .before .before .before .before .before .before .before .before .before .before .before .before .before .before .before .before .before .before .before .before .pre .1 in
-    let a = c .before .before .before .before .before .before .before .before .before .before .before .before .before .before .before .before .before .before .before .before .before .before .args in
+completes-remember-requires : (t : ℕ) → completes-lts.Need-remember-requires (completes-calls t) (completes-at t) completes.Post
+completes-remember-requires t c κs = let P = c .before .before .before .before .before .before .before .before .before .before .before .before .before .before .before .before .before .before .before .before .before .before .before .before .before .pre .1 in
+    let a = c .before .before .before .before .before .before .before .before .before .before .before .before .before .before .before .before .before .before .before .before .before .before .before .before .before .args in
     let (th, (T, (y, mem, trail))) = P .0 in
-    let up : a .left ≡ suc (a .left - 1) = omega (arith, c .before .before .before .before .before .before .before .before .before .before .before .before .before .before .before .before .before .if1 .left) in
+    let r = c .before .before .before .before .before .before .before .before .before .before .before .before .recall in
+    let z = slot-stage (a .p) (a .work .now) (a .slot) (c .before .before .before .before .before .before .before .before .before .before .before .before .before .before .before .wide .ensures) y in
+    let up : a .left ≡ suc (a .left - 1) = omega (arith, c .before .before .before .before .before .before .before .before .before .before .before .before .before .before .before .before .before .before .before .before .if1 .left) in
     let d = c .before .before .before .before .before .before .completes-after in
-    let b = d .ensures th T y mem (subst (λ (n : ℕ). Trail th (a .k .0) (a .e .0) (a .base) (a .p) (a .work .now) (a .done) n (meaning (a .p .characters) T 0)) up trail) in
-    (stage-slotted (a .slot) (slot-same (a .slot) y (b .low) (d .kept .1 .1 .1 .0)) (omega (arith, P .3)), c .before .before .before .before .before .before .before .before .before .before .before .before .entry-of .ensures)
+    let b = d .ensures th T (slot-same (a .slot) y (λ q l. r .ensures .only .low q (omega (arith, l, P .3))) (r .kept .0)) (r .ensures .told th (a .k .0) (a .slot + 961) (omega (arith, P .3)) (z .slotted) mem .0) (trail-same th (a .k .0) (a .e .0) (a .base) (meaning (a .p .characters) T 0) (λ q l. r .ensures .only .low q (omega (arith, l, P .3, P .5))) (subst (λ (n : ℕ). Trail th (a .k .0) (a .e .0) (a .base) (a .p) (a .work .now) (a .done) n (meaning (a .p .characters) T 0)) up trail)) in
+    stage-before (stage-same (stage-same z {now = r .last .0} (λ q l. r .ensures .only .low q (omega (arith, l, P .3))) (r .kept .0)) (b .low) (d .kept .1 .1 .1 .0)) (omega (arith, P .3))
 
--- src/search.rt:54:1
-completes-same-length-4 : (t : ℕ) → completes-lts.Need-same-length-4 (
-  ends-reads.Asked,
-  ends-reads.Learnt,
-  repeats-reads.Asked,
-  repeats-reads.Learnt,
-  entry-of-reads.Asked,
-  entry-of-reads.Learnt,
-  recall-reads.Asked,
-  recall-reads.Learnt,
-  completes-after-below t,
-  completes-after.Post,
-  remember-reads.Asked,
-  remember-reads.Learnt,
-) (completes-at t) completes.Post
-completes-same-length-4 t c = c .before .before .remember .kept .0 ∙ c .before .before .before .before .before .before .before .before .before .completes-after .kept .1 .1 .1 .0
+completes-same-length-4 : (t : ℕ) → completes-lts.Need-same-length-4 (completes-calls t) (completes-at t) completes.Post
+completes-same-length-4 t c = c .before .before .remember .kept .0 ∙ c .before .before .before .before .before .before .before .before .before .completes-after .kept .1 .1 .1 .0 ∙ c .before .before .before .before .before .before .before .before .before .before .before .before .before .before .before .recall .kept .0
 
--- src/search.rt:54:1
-completes-same-length-5 : (t : ℕ) → completes-lts.Need-same-length-5 (
-  ends-reads.Asked,
-  ends-reads.Learnt,
-  repeats-reads.Asked,
-  repeats-reads.Learnt,
-  entry-of-reads.Asked,
-  entry-of-reads.Learnt,
-  recall-reads.Asked,
-  recall-reads.Learnt,
-  completes-after-below t,
-  completes-after.Post,
-  remember-reads.Asked,
-  remember-reads.Learnt,
-) (completes-at t) completes.Post
+completes-same-length-5 : (t : ℕ) → completes-lts.Need-same-length-5 (completes-calls t) (completes-at t) completes.Post
 completes-same-length-5 t c = c .before .before .before .before .before .before .before .before .before .completes-after .kept .1 .1 .1 .1 .1 .0
 
--- src/search.rt:54:1
-completes-returns-4 : (t : ℕ) → completes-lts.Need-returns-4 (
-  ends-reads.Asked,
-  ends-reads.Learnt,
-  repeats-reads.Asked,
-  repeats-reads.Learnt,
-  entry-of-reads.Asked,
-  entry-of-reads.Learnt,
-  recall-reads.Asked,
-  recall-reads.Learnt,
-  completes-after-below t,
-  completes-after.Post,
-  remember-reads.Asked,
-  remember-reads.Learnt,
-) (completes-at t) completes.Post
-completes-returns-4 t c = let P = c .before .before .before .before .before .before .before .before .before .before .before .before .before .before .before .before .before .before .before .before .before .before .before .before .before .pre .1 in
-    let a = c .before .before .before .before .before .before .before .before .before .before .before .before .before .before .before .before .before .before .before .before .before .before .before .before .before .args in
+completes-returns-4 : (t : ℕ) → completes-lts.Need-returns-4 (completes-calls t) (completes-at t) completes.Post
+completes-returns-4 t c = let P = c .before .before .before .before .before .before .before .before .before .before .before .before .before .before .before .before .before .before .before .before .before .before .before .before .before .before .before .before .pre .1 in
+    let a = c .before .before .before .before .before .before .before .before .before .before .before .before .before .before .before .before .before .before .before .before .before .before .before .before .before .before .before .before .args in
+    let r = c .before .before .before .before .before .before .before .before .before .before .before .before .before .before .before .recall in
     let d = c .before .before .before .before .before .before .before .before .before .completes-after in
     let rem = c .before .before .remember .ensures in
     let zero : d .result ≡ 0 = omega (arith, c .before .before .before .before .if4 .taken) in
-    let up : suc (a .left - 1) ≡ a .left = omega (arith, c .before .before .before .before .before .before .before .before .before .before .before .before .before .before .before .before .before .before .before .before .if1 .left) in
+    let up : a .left ≡ suc (a .left - 1) = omega (arith, c .before .before .before .before .before .before .before .before .before .before .before .before .before .before .before .before .before .before .before .before .before .before .before .if1 .left) in
     λ th T y mem trail.
-    let b = best-same up (d .ensures th T y mem (subst (λ (n : ℕ). Trail th (a .k .0) (a .e .0) (a .base) (a .p) (a .work .now) (a .done) n (meaning (a .p .characters) T 0)) (sym up) trail)) in
-    best-noted b (omega (arith, P .3)) (rem .low) (rem .high) (rem .memory th (a .k .0) (b .memory) (note (a .slot) (slot-same (a .slot) y (b .low) (d .kept .1 .1 .1 .0)) (fact-of-none th (a .k .0) (a .e .0) (a .base) (meaning (a .p .characters) T 0) (b .none zero .1))))
+    let z = slot-stage (a .p) (a .work .now) (a .slot) (c .before .before .before .before .before .before .before .before .before .before .before .before .before .before .before .before .before .before .wide .ensures) y in
+    let b = best-from (λ q l. r .ensures .only .low q (omega (arith, l, P .3))) (r .ensures .only .high) (best-same (sym up) (d .ensures th T (slot-same (a .slot) y (λ q l. r .ensures .only .low q (omega (arith, l, P .3))) (r .kept .0)) (r .ensures .told th (a .k .0) (a .slot + 961) (omega (arith, P .3)) (z .slotted) mem .0) (trail-same th (a .k .0) (a .e .0) (a .base) (meaning (a .p .characters) T 0) (λ q l. r .ensures .only .low q (omega (arith, l, P .3, P .5))) (subst (λ (n : ℕ). Trail th (a .k .0) (a .e .0) (a .base) (a .p) (a .work .now) (a .done) n (meaning (a .p .characters) T 0)) up trail)))) in
+    let z′ = stage-same (stage-same z {now = r .last .0} (λ q l. r .ensures .only .low q (omega (arith, l, P .3))) (r .kept .0)) (d .ensures th T (slot-same (a .slot) y (λ q l. r .ensures .only .low q (omega (arith, l, P .3))) (r .kept .0)) (r .ensures .told th (a .k .0) (a .slot + 961) (omega (arith, P .3)) (z .slotted) mem .0) (trail-same th (a .k .0) (a .e .0) (a .base) (meaning (a .p .characters) T 0) (λ q l. r .ensures .only .low q (omega (arith, l, P .3, P .5))) (subst (λ (n : ℕ). Trail th (a .k .0) (a .e .0) (a .base) (a .p) (a .work .now) (a .done) n (meaning (a .p .characters) T 0)) up trail)) .low) (d .kept .1 .1 .1 .0) in
+    best-noted b (omega (arith, P .3)) (rem .only .low) (rem .only .high) (rem .memory th (a .k .0) (a .slot + 961) (omega (arith, P .3)) (z′ .slotted) (b .memory) (note z′ (fact-of-none th (a .k .0) (a .e .0) (a .base) (λ (root : ℕ). meaning (a .p .characters) T root) (b .none zero .1))))
 
--- src/search.rt:54:1
-completes-same-length-6 : (t : ℕ) → completes-lts.Need-same-length-6 (
-  ends-reads.Asked,
-  ends-reads.Learnt,
-  repeats-reads.Asked,
-  repeats-reads.Learnt,
-  entry-of-reads.Asked,
-  entry-of-reads.Learnt,
-  recall-reads.Asked,
-  recall-reads.Learnt,
-  completes-after-below t,
-  completes-after.Post,
-  remember-reads.Asked,
-  remember-reads.Learnt,
-) (completes-at t) completes.Post
-completes-same-length-6 t c = c .before .before .before .before .before .completes-after .kept .1 .1 .1 .0
+completes-same-length-6 : (t : ℕ) → completes-lts.Need-same-length-6 (completes-calls t) (completes-at t) completes.Post
+completes-same-length-6 t c = c .before .before .before .before .before .completes-after .kept .1 .1 .1 .0 ∙ c .before .before .before .before .before .before .before .before .before .before .before .recall .kept .0
 
--- src/search.rt:54:1
-completes-same-length-7 : (t : ℕ) → completes-lts.Need-same-length-7 (
-  ends-reads.Asked,
-  ends-reads.Learnt,
-  repeats-reads.Asked,
-  repeats-reads.Learnt,
-  entry-of-reads.Asked,
-  entry-of-reads.Learnt,
-  recall-reads.Asked,
-  recall-reads.Learnt,
-  completes-after-below t,
-  completes-after.Post,
-  remember-reads.Asked,
-  remember-reads.Learnt,
-) (completes-at t) completes.Post
+completes-same-length-7 : (t : ℕ) → completes-lts.Need-same-length-7 (completes-calls t) (completes-at t) completes.Post
 completes-same-length-7 t c = c .before .before .before .before .before .completes-after .kept .1 .1 .1 .1 .1 .0
 
--- src/search.rt:54:1
-completes-returns-5 : (t : ℕ) → completes-lts.Need-returns-5 (
-  ends-reads.Asked,
-  ends-reads.Learnt,
-  repeats-reads.Asked,
-  repeats-reads.Learnt,
-  entry-of-reads.Asked,
-  entry-of-reads.Learnt,
-  recall-reads.Asked,
-  recall-reads.Learnt,
-  completes-after-below t,
-  completes-after.Post,
-  remember-reads.Asked,
-  remember-reads.Learnt,
-) (completes-at t) completes.Post
-completes-returns-5 t c = let a = c .before .before .before .before .before .before .before .before .before .before .before .before .before .before .before .before .before .before .before .before .before .args in
+completes-returns-5 : (t : ℕ) → completes-lts.Need-returns-5 (completes-calls t) (completes-at t) completes.Post
+completes-returns-5 t c = let P = c .before .before .before .before .before .before .before .before .before .before .before .before .before .before .before .before .before .before .before .before .before .before .before .before .pre .1 in
+    let a = c .before .before .before .before .before .before .before .before .before .before .before .before .before .before .before .before .before .before .before .before .before .before .before .before .args in
+    let r = c .before .before .before .before .before .before .before .before .before .before .before .recall in
     let d = c .before .before .before .before .before .completes-after in
-    let up : suc (a .left - 1) ≡ a .left = omega (arith, c .before .before .before .before .before .before .before .before .before .before .before .before .before .before .before .before .if1 .left) in
-    λ th T y mem trail. best-same up (d .ensures th T y mem (subst (λ (n : ℕ). Trail th (a .k .0) (a .e .0) (a .base) (a .p) (a .work .now) (a .done) n (meaning (a .p .characters) T 0)) (sym up) trail))
+    let up : a .left ≡ suc (a .left - 1) = omega (arith, c .before .before .before .before .before .before .before .before .before .before .before .before .before .before .before .before .before .before .before .if1 .left) in
+    λ th T y mem trail.
+    let z = slot-stage (a .p) (a .work .now) (a .slot) (c .before .before .before .before .before .before .before .before .before .before .before .before .before .before .wide .ensures) y in
+    best-from (λ q l. r .ensures .only .low q (omega (arith, l, P .3))) (r .ensures .only .high) (best-same (sym up) (d .ensures th T (slot-same (a .slot) y (λ q l. r .ensures .only .low q (omega (arith, l, P .3))) (r .kept .0)) (r .ensures .told th (a .k .0) (a .slot + 961) (omega (arith, P .3)) (z .slotted) mem .0) (trail-same th (a .k .0) (a .e .0) (a .base) (meaning (a .p .characters) T 0) (λ q l. r .ensures .only .low q (omega (arith, l, P .3, P .5))) (subst (λ (n : ℕ). Trail th (a .k .0) (a .e .0) (a .base) (a .p) (a .work .now) (a .done) n (meaning (a .p .characters) T 0)) up trail))))
 
 abbrev completes-after-Inv-loop : completes-after-lts.InvT-loop
 completes-after-Inv-loop pack places p work₀ slot list₀ done e k left base x₀ work list x = (length work ≡ length work₀) × (list ≡ list₀) × Below work₀ work (slot + 961) × Above work₀ work workRoom
-    × ((th : Theory) (T : List Node) → Stage th T pack places p work₀ (slotTable p work₀ slot) (slot + 961) → Memory th (k .0) p work₀ → Trail th (k .0) (e .0) base p work₀ done (suc left) (meaning (p .characters) T 0) → Memory th (k .0) p work × ((y : ℕ) → y < x → (l : List ℕ) (v : ℕ) → length l ≡ suc left → ¬ EndsBy th (k .0) (e .0) base y (meaning (p .characters) T 0) l v))
+    × ((th : Theory) (T : List Node) → Stage th T pack places p work₀ (slotTable p work₀ slot) (slot + 961) → Memory th (k .0) p (slot + 961) work₀ → Trail th (k .0) (e .0) base p work₀ done (suc left) (meaning (p .characters) T 0) → Memory th (k .0) p (slot + 961) work × ((y : ℕ) → y < x → (l : List ℕ) (v : ℕ) → length l ≡ suc left → ¬ EndsBy th (k .0) (e .0) base y (meaning (p .characters) T 0) l v))
 
 abbrev completes-after-μ-loop : completes-after-lts.MeasureT-loop
 completes-after-μ-loop pack places p work₀ slot list₀ done e k left base x₀ work list x = p .actions - x
 
--- src/search.rt:139:5
-completes-after-loop-holds : (t : ℕ) → completes-after-lts.Need-loop-holds (
-  completes-by-below t,
-  completes-by.Post,
-) (completes-after-at t) completes-after.Post completes-after-Inv-loop completes-after-μ-loop
+completes-after-loop-holds : (t : ℕ) → completes-after-lts.Need-loop-holds (completes-after-calls t) (completes-after-at t) completes-after.Post completes-after-Inv-loop completes-after-μ-loop
 completes-after-loop-holds t c = (refl, refl, λ q l. refl, λ q l. refl, λ th T y mem trail. (mem, λ j l. absurd (omega arith)))
 
--- src/search.rt:140:13
-completes-after-completes-by-requires : (t : ℕ) → completes-after-lts.Need-completes-by-requires (
-  completes-by-below t,
-  completes-by.Post,
-) (completes-after-at t) completes-after.Post completes-after-Inv-loop completes-after-μ-loop
+completes-after-completes-by-requires : (t : ℕ) → completes-after-lts.Need-completes-by-requires (completes-after-calls t) (completes-after-at t) completes-after.Post completes-after-Inv-loop completes-after-μ-loop
 completes-after-completes-by-requires t c κs = let (m, P) = c .before .before .before .before .before .before .before .before .before .pre in
     let a = c .before .before .before .before .before .before .before .before .before .args in
     let (th, (T, (y, mem, trail))) = P .0 in
     let (long, same, low, high, rest) = c .before .before .before .before .loop .inv in
     (omega (arith, m), ((th, (T, (slot-same (a .slot) y low long, rest th T y mem trail .0, trail-same th (a .k .0) (a .e .0) (a .base) (meaning (a .p .characters) T 0) (λ q l. low q (omega (arith, l, P .5))) trail))), c .before .before .if1 .taken, P .1, P .2, omega (arith, P .3), omega (arith, P .4, ap length same), P .5))
 
--- src/search.rt:142:13
-completes-after-same-length : (t : ℕ) → completes-after-lts.Need-same-length (
-  completes-by-below t,
-  completes-by.Post,
-) (completes-after-at t) completes-after.Post completes-after-Inv-loop completes-after-μ-loop
+completes-after-same-length : (t : ℕ) → completes-after-lts.Need-same-length (completes-after-calls t) (completes-after-at t) completes-after.Post completes-after-Inv-loop completes-after-μ-loop
 completes-after-same-length t c = c .before .before .before .before .before .completes-by .kept .1 .1 .1 .0 ∙ c .before .before .before .before .before .before .before .before .before .before .loop .inv .0
 
--- src/search.rt:142:13
-completes-after-same-length-2 : (t : ℕ) → completes-after-lts.Need-same-length-2 (
-  completes-by-below t,
-  completes-by.Post,
-) (completes-after-at t) completes-after.Post completes-after-Inv-loop completes-after-μ-loop
+completes-after-same-length-2 : (t : ℕ) → completes-after-lts.Need-same-length-2 (completes-after-calls t) (completes-after-at t) completes-after.Post completes-after-Inv-loop completes-after-μ-loop
 completes-after-same-length-2 t c = c .before .before .before .before .before .completes-by .kept .1 .1 .1 .1 .1 .0 ∙ ap length (c .before .before .before .before .before .before .before .before .before .before .loop .inv .1)
 
--- src/search.rt:142:13
-completes-after-returns : (t : ℕ) → completes-after-lts.Need-returns (
-  completes-by-below t,
-  completes-by.Post,
-) (completes-after-at t) completes-after.Post completes-after-Inv-loop completes-after-μ-loop
+completes-after-returns : (t : ℕ) → completes-after-lts.Need-returns (completes-after-calls t) (completes-after-at t) completes-after.Post completes-after-Inv-loop completes-after-μ-loop
 completes-after-returns t c = let P = c .before .before .before .before .before .before .before .before .before .before .before .before .before .before .before .pre .1 in
     let a = c .before .before .before .before .before .before .before .before .before .before .before .before .before .before .before .args in
     let v = c .before .before .before .before .before .completes-by in
@@ -487,27 +240,15 @@ completes-after-returns t c = let P = c .before .before .before .before .before 
     λ th T y mem trail.
     let s = meaning (a .p .characters) T 0 in
     let b = best-first th (a .k .0) (a .e .0) (a .base) s low high (rest th T y mem trail .1) (omega (arith, c .if2 .taken)) (v .ensures th T (slot-same (a .slot) y low long) (rest th T y mem trail .0) (trail-same th (a .k .0) (a .e .0) (a .base) s (λ q l. low q (omega (arith, l, P .5))) trail)) in
-    subst (λ (was : List ℕ). Best (Memory th (a .k .0) (a .p)) (Ends th (a .k .0) (a .e .0) (a .base) s) (suc (a .left)) was (v .last .1 .1 .1 .1 .1 .0) (a .done) (a .slot + 961) (a .work .now) (v .last .1 .1 .1 .0) (v .result)) same b
+    subst (λ (was : List ℕ). Best (Memory th (a .k .0) (a .p) (a .slot + 961)) (Ends th (a .k .0) (a .e .0) (a .base) s) (suc (a .left)) was (v .last .1 .1 .1 .1 .1 .0) (a .done) (a .slot + 961) (a .work .now) (v .last .1 .1 .1 .0) (v .result)) same b
 
--- src/search.rt:144:9
-completes-after-add-x : (t : ℕ) → completes-after-lts.Need-add-x (
-  completes-by-below t,
-  completes-by.Post,
-) (completes-after-at t) completes-after.Post completes-after-Inv-loop completes-after-μ-loop
+completes-after-add-x : (t : ℕ) → completes-after-lts.Need-add-x (completes-after-calls t) (completes-after-at t) completes-after.Post completes-after-Inv-loop completes-after-μ-loop
 completes-after-add-x t c = search needs
 
--- src/search.rt:139:5
-completes-after-loop-less : (t : ℕ) → completes-after-lts.Need-loop-less (
-  completes-by-below t,
-  completes-by.Post,
-) (completes-after-at t) completes-after.Post completes-after-Inv-loop completes-after-μ-loop
+completes-after-loop-less : (t : ℕ) → completes-after-lts.Need-loop-less (completes-after-calls t) (completes-after-at t) completes-after.Post completes-after-Inv-loop completes-after-μ-loop
 completes-after-loop-less t c = search needs
 
--- src/search.rt:139:5
-completes-after-loop-again : (t : ℕ) → completes-after-lts.Need-loop-again (
-  completes-by-below t,
-  completes-by.Post,
-) (completes-after-at t) completes-after.Post completes-after-Inv-loop completes-after-μ-loop
+completes-after-loop-again : (t : ℕ) → completes-after-lts.Need-loop-again (completes-after-calls t) (completes-after-at t) completes-after.Post completes-after-Inv-loop completes-after-μ-loop
 completes-after-loop-again t c = let P = c .before .before .before .before .before .before .before .before .before .before .before .before .before .before .before .pre .1 in
     let a = c .before .before .before .before .before .before .before .before .before .before .before .before .before .before .before .args in
     let v = c .before .before .before .before .before .completes-by in
@@ -524,139 +265,43 @@ completes-after-loop-again t c = let P = c .before .before .before .before .befo
           (b .memory, below-more (λ x. (l : List ℕ) (w : ℕ) → length l ≡ suc (a .left) → ¬ EndsBy th (a .k .0) (a .e .0) (a .base) x (meaning (a .p .characters) T 0) l w) (c .before .before .before .before .before .before .before .before .before .before .loop .x) (rest th T y mem trail .1) (b .none zero .1)),
     )
 
--- src/search.rt:122:1
-completes-after-same-length-3 : (t : ℕ) → completes-after-lts.Need-same-length-3 (
-  completes-by-below t,
-  completes-by.Post,
-) (completes-after-at t) completes-after.Post completes-after-Inv-loop completes-after-μ-loop
+completes-after-same-length-3 : (t : ℕ) → completes-after-lts.Need-same-length-3 (completes-after-calls t) (completes-after-at t) completes-after.Post completes-after-Inv-loop completes-after-μ-loop
 completes-after-same-length-3 t c = c .before .before .loop .inv .0
 
--- src/search.rt:122:1
-completes-after-same-length-4 : (t : ℕ) → completes-after-lts.Need-same-length-4 (
-  completes-by-below t,
-  completes-by.Post,
-) (completes-after-at t) completes-after.Post completes-after-Inv-loop completes-after-μ-loop
+completes-after-same-length-4 : (t : ℕ) → completes-after-lts.Need-same-length-4 (completes-after-calls t) (completes-after-at t) completes-after.Post completes-after-Inv-loop completes-after-μ-loop
 completes-after-same-length-4 t c = ap length (c .before .before .loop .inv .1)
 
--- src/search.rt:122:1
-completes-after-returns-2 : (t : ℕ) → completes-after-lts.Need-returns-2 (
-  completes-by-below t,
-  completes-by.Post,
-) (completes-after-at t) completes-after.Post completes-after-Inv-loop completes-after-μ-loop
+completes-after-returns-2 : (t : ℕ) → completes-after-lts.Need-returns-2 (completes-after-calls t) (completes-after-at t) completes-after.Post completes-after-Inv-loop completes-after-μ-loop
 completes-after-returns-2 t c = let a = c .before .before .before .before .before .before .before .args in
     let (long, same, low, high, rest) = c .before .before .loop .inv in
     λ th T y mem trail.
     let s = meaning (a .p .characters) T 0 in
-    subst (λ (now : List ℕ). Best (Memory th (a .k .0) (a .p)) (Ends th (a .k .0) (a .e .0) (a .base) s) (suc (a .left)) (a .list .now) now (a .done) (a .slot + 961) (a .work .now) (c .before .before .loop .work) 0) (sym same)
+    subst (λ (now : List ℕ). Best (Memory th (a .k .0) (a .p) (a .slot + 961)) (Ends th (a .k .0) (a .e .0) (a .base) s) (suc (a .left)) (a .list .now) now (a .done) (a .slot + 961) (a .work .now) (c .before .before .loop .work) 0) (sym same)
     (best-none (a .list .now) low high (rest th T y mem trail .0) (best-no th (a .k .0) (a .e .0) (a .base) s (λ x g. rest th T y mem trail .1 x (omega (arith, g, y .theorized .found .actions, c .if1 .left)))))
 
--- src/search.rt:184:15
-completes-by-add-allowed : (t : ℕ) → completes-by-lts.Need-add-allowed (
-  wide-reads.Asked,
-  wide-reads.Learnt,
-  promising-reads.Asked,
-  promising-reads.Learnt,
-  allowed-reads.Asked,
-  allowed-reads.Learnt,
-  step-slot-reads.Asked,
-  step-slot-reads.Learnt,
-  completes-below t,
-  completes.Post,
-) (completes-by-at t) completes-by.Post
+completes-by-add-allowed : (t : ℕ) → completes-by-lts.Need-add-allowed (completes-by-calls t) (completes-by-at t) completes-by.Post
 completes-by-add-allowed t c = let (th, (T, (y, mem, trail))) = c .before .before .before .before .pre .1 .0 in omega (arith, small (y .tabled))
 
--- src/search.rt:185:21
-completes-by-slice-read-wide : (t : ℕ) → completes-by-lts.Need-slice-read-wide (
-  wide-reads.Asked,
-  wide-reads.Learnt,
-  promising-reads.Asked,
-  promising-reads.Learnt,
-  allowed-reads.Asked,
-  allowed-reads.Learnt,
-  step-slot-reads.Asked,
-  step-slot-reads.Learnt,
-  completes-below t,
-  completes.Post,
-) (completes-by-at t) completes-by.Post
+completes-by-slice-read-wide : (t : ℕ) → completes-by-lts.Need-slice-read-wide (completes-by-calls t) (completes-by-at t) completes-by.Post
 completes-by-slice-read-wide t c = let (th, (T, (y, mem, trail))) = c .before .before .before .before .before .pre .1 .0 in omega (arith, c .before .before .before .before .before .pre .1 .4, y .room)
 
--- src/search.rt:185:16
-completes-by-wide-requires : (t : ℕ) → completes-by-lts.Need-wide-requires (
-  wide-reads.Asked,
-  wide-reads.Learnt,
-  promising-reads.Asked,
-  promising-reads.Learnt,
-  allowed-reads.Asked,
-  allowed-reads.Learnt,
-  step-slot-reads.Asked,
-  step-slot-reads.Learnt,
-  completes-below t,
-  completes.Post,
-) (completes-by-at t) completes-by.Post
+completes-by-wide-requires : (t : ℕ) → completes-by-lts.Need-wide-requires (completes-by-calls t) (completes-by-at t) completes-by.Post
 completes-by-wide-requires t c κs = search needs
 
--- src/search.rt:188:16
-completes-by-add-t21 : (t : ℕ) → completes-by-lts.Need-add-t21 (
-  wide-reads.Asked,
-  wide-reads.Learnt,
-  promising-reads.Asked,
-  promising-reads.Learnt,
-  allowed-reads.Asked,
-  allowed-reads.Learnt,
-  step-slot-reads.Asked,
-  step-slot-reads.Learnt,
-  completes-below t,
-  completes.Post,
-) (completes-by-at t) completes-by.Post
+completes-by-add-t21 : (t : ℕ) → completes-by-lts.Need-add-t21 (completes-by-calls t) (completes-by-at t) completes-by.Post
 completes-by-add-t21 t c = omega (arith, c .before .before .before .before .before .before .before .pre .1 .4)
 
--- src/search.rt:190:9
-completes-by-promising-requires : (t : ℕ) → completes-by-lts.Need-promising-requires (
-  wide-reads.Asked,
-  wide-reads.Learnt,
-  promising-reads.Asked,
-  promising-reads.Learnt,
-  allowed-reads.Asked,
-  allowed-reads.Learnt,
-  step-slot-reads.Asked,
-  step-slot-reads.Learnt,
-  completes-below t,
-  completes.Post,
-) (completes-by-at t) completes-by.Post
+completes-by-promising-requires : (t : ℕ) → completes-by-lts.Need-promising-requires (completes-by-calls t) (completes-by-at t) completes-by.Post
 completes-by-promising-requires t c κs =
     let P = c .before .before .before .before .before .before .before .before .pre .1 in
     let a = c .before .before .before .before .before .before .before .before .args in
     let (th, (T, (y, mem, trail))) = P .0 in
     stage-tryable (slot-stage (a .p) (a .work .now) (a .slot) (c .before .before .wide .ensures) y) (P .1) (omega arith)
 
--- src/search.rt:191:9
-completes-by-same-length : (t : ℕ) → completes-by-lts.Need-same-length (
-  wide-reads.Asked,
-  wide-reads.Learnt,
-  promising-reads.Asked,
-  promising-reads.Learnt,
-  allowed-reads.Asked,
-  allowed-reads.Learnt,
-  step-slot-reads.Asked,
-  step-slot-reads.Learnt,
-  completes-below t,
-  completes.Post,
-) (completes-by-at t) completes-by.Post
+completes-by-same-length : (t : ℕ) → completes-by-lts.Need-same-length (completes-by-calls t) (completes-by-at t) completes-by.Post
 completes-by-same-length t c = search needs
 
--- src/search.rt:191:9
-completes-by-returns : (t : ℕ) → completes-by-lts.Need-returns (
-  wide-reads.Asked,
-  wide-reads.Learnt,
-  promising-reads.Asked,
-  promising-reads.Learnt,
-  allowed-reads.Asked,
-  allowed-reads.Learnt,
-  step-slot-reads.Asked,
-  step-slot-reads.Learnt,
-  completes-below t,
-  completes.Post,
-) (completes-by-at t) completes-by.Post
+completes-by-returns : (t : ℕ) → completes-by-lts.Need-returns (completes-by-calls t) (completes-by-at t) completes-by.Post
 completes-by-returns t c =
     let P = c .before .before .before .before .before .before .before .before .before .before .pre .1 in
     let a = c .before .before .before .before .before .before .before .before .before .before .args in
@@ -665,34 +310,10 @@ completes-by-returns t c =
     let z = slot-stage (a .p) (a .work .now) (a .slot) (c .before .before .before .before .wide .ensures) y in
     best-none _ (λ q l. refl) (λ q l. refl) mem (best-hopeless th (a .k .0) (a .e .0) (a .base) (meaning (a .p .characters) T 0) (a .x) (stage-hopeless z (P .1) 0 (w .ensures (not-true (w .result) (c .if1 .taken)))))
 
--- src/search.rt:200:9
-completes-by-add-allowed-2 : (t : ℕ) → completes-by-lts.Need-add-allowed-2 (
-  wide-reads.Asked,
-  wide-reads.Learnt,
-  promising-reads.Asked,
-  promising-reads.Learnt,
-  allowed-reads.Asked,
-  allowed-reads.Learnt,
-  step-slot-reads.Asked,
-  step-slot-reads.Learnt,
-  completes-below t,
-  completes.Post,
-) (completes-by-at t) completes-by.Post
+completes-by-add-allowed-2 : (t : ℕ) → completes-by-lts.Need-add-allowed-2 (completes-by-calls t) (completes-by-at t) completes-by.Post
 completes-by-add-allowed-2 t c = omega (arith, c .before .before .before .before .before .before .before .before .before .before .before .pre .1 .4)
 
--- src/search.rt:193:9
-completes-by-allowed-requires : (t : ℕ) → completes-by-lts.Need-allowed-requires (
-  wide-reads.Asked,
-  wide-reads.Learnt,
-  promising-reads.Asked,
-  promising-reads.Learnt,
-  allowed-reads.Asked,
-  allowed-reads.Learnt,
-  step-slot-reads.Asked,
-  step-slot-reads.Learnt,
-  completes-below t,
-  completes.Post,
-) (completes-by-at t) completes-by.Post
+completes-by-allowed-requires : (t : ℕ) → completes-by-lts.Need-allowed-requires (completes-by-calls t) (completes-by-at t) completes-by.Post
 completes-by-allowed-requires t c κs =
     let P = c .before .before .before .before .before .before .before .before .before .before .before .pre .1 in
     let a = c .before .before .before .before .before .before .before .before .before .before .before .args in
@@ -700,34 +321,10 @@ completes-by-allowed-requires t c κs =
     let z = slot-stage (a .p) (a .work .now) (a .slot) (c .before .before .before .before .before .wide .ensures) y in
     ((th, (T, (z, mem))), z .tabled .some, P .1, P .2, P .3, omega (arith, P .4))
 
--- src/search.rt:207:9
-completes-by-same-length-2 : (t : ℕ) → completes-by-lts.Need-same-length-2 (
-  wide-reads.Asked,
-  wide-reads.Learnt,
-  promising-reads.Asked,
-  promising-reads.Learnt,
-  allowed-reads.Asked,
-  allowed-reads.Learnt,
-  step-slot-reads.Asked,
-  step-slot-reads.Learnt,
-  completes-below t,
-  completes.Post,
-) (completes-by-at t) completes-by.Post
+completes-by-same-length-2 : (t : ℕ) → completes-by-lts.Need-same-length-2 (completes-by-calls t) (completes-by-at t) completes-by.Post
 completes-by-same-length-2 t c = search needs
 
--- src/search.rt:207:9
-completes-by-returns-2 : (t : ℕ) → completes-by-lts.Need-returns-2 (
-  wide-reads.Asked,
-  wide-reads.Learnt,
-  promising-reads.Asked,
-  promising-reads.Learnt,
-  allowed-reads.Asked,
-  allowed-reads.Learnt,
-  step-slot-reads.Asked,
-  step-slot-reads.Learnt,
-  completes-below t,
-  completes.Post,
-) (completes-by-at t) completes-by.Post
+completes-by-returns-2 : (t : ℕ) → completes-by-lts.Need-returns-2 (completes-by-calls t) (completes-by-at t) completes-by.Post
 completes-by-returns-2 t c =
     let P = c .before .before .before .before .before .before .before .before .before .before .before .before .before .before .before .pre .1 in
     let a = c .before .before .before .before .before .before .before .before .before .before .before .before .before .before .before .args in
@@ -736,319 +333,115 @@ completes-by-returns-2 t c =
     let told = w .ensures th T (slot-stage (a .p) (a .work .now) (a .slot) (c .before .before .before .before .before .before .before .before .before .wide .ensures) y) mem in
     best-none _ (told .low) (told .high) (told .memory) (λ l v q g. told .complete (not-true (w .result) (c .if2 .taken)) (agreed-to y (a .k .0) (a .e .0) (a .x) (P .1) (meaning (a .p .characters) T 0) (g .2 .2)))
 
--- src/search.rt:209:69
-completes-by-add-step-slot : (t : ℕ) → completes-by-lts.Need-add-step-slot (
-  wide-reads.Asked,
-  wide-reads.Learnt,
-  promising-reads.Asked,
-  promising-reads.Learnt,
-  allowed-reads.Asked,
-  allowed-reads.Learnt,
-  step-slot-reads.Asked,
-  step-slot-reads.Learnt,
-  completes-below t,
-  completes.Post,
-) (completes-by-at t) completes-by.Post
-completes-by-add-step-slot t c = let (th, (T, (y, mem, trail))) = c .before .before .before .before .before .before .before .before .before .before .before .before .before .before .before .before .pre .1 .0 in omega (arith, small (y .tabled))
+completes-by-add-known-step : (t : ℕ) → completes-by-lts.Need-add-known-step (completes-by-calls t) (completes-by-at t) completes-by.Post
+completes-by-add-known-step t c = let (th, (T, (y, mem, trail))) = c .before .before .before .before .before .before .before .before .before .before .before .before .before .before .before .before .pre .1 .0 in omega (arith, small (y .tabled))
 
--- src/search.rt:209:9
-completes-by-step-slot-requires : (t : ℕ) → completes-by-lts.Need-step-slot-requires (
-  wide-reads.Asked,
-  wide-reads.Learnt,
-  promising-reads.Asked,
-  promising-reads.Learnt,
-  allowed-reads.Asked,
-  allowed-reads.Learnt,
-  step-slot-reads.Asked,
-  step-slot-reads.Learnt,
-  completes-below t,
-  completes.Post,
-) (completes-by-at t) completes-by.Post
-completes-by-step-slot-requires t c κs =
-    let P = c .before .before .before .before .before .before .before .before .before .before .before .before .before .before .before .before .pre .1 in
+completes-by-known-step-requires : (t : ℕ) → completes-by-lts.Need-known-step-requires (completes-by-calls t) (completes-by-at t) completes-by.Post
+completes-by-known-step-requires t c κs = let P = c .before .before .before .before .before .before .before .before .before .before .before .before .before .before .before .before .pre .1 in
     let a = c .before .before .before .before .before .before .before .before .before .before .before .before .before .before .before .before .args in
     let (th, (T, (y, mem, trail))) = P .0 in
     let z = slot-stage (a .p) (a .work .now) (a .slot) (c .before .before .before .before .before .before .before .before .before .before .wide .ensures) y in
     let w = c .before .before .before .before .allowed in
     let told = w .ensures th T z mem in
-    (th, (T, (_, (stage-setting (stage-same z (told .low) (w .kept .1 .1 .1 .0)) (omega (arith, P .4)), P .1, z .tabled .some))))
+    (a .k .0, ((th, (T, (stage-same z (told .low) (w .kept .1 .1 .1 .0), told .memory))), P .1, z .tabled .some, omega (arith, P .4)))
 
--- src/search.rt:211:9
-completes-by-same-length-3 : (t : ℕ) → completes-by-lts.Need-same-length-3 (
-  wide-reads.Asked,
-  wide-reads.Learnt,
-  promising-reads.Asked,
-  promising-reads.Learnt,
-  allowed-reads.Asked,
-  allowed-reads.Learnt,
-  step-slot-reads.Asked,
-  step-slot-reads.Learnt,
-  completes-below t,
-  completes.Post,
-) (completes-by-at t) completes-by.Post
-completes-by-same-length-3 t c = c .before .before .before .step-slot .kept .1 .1 .1 .1 .0 ∙ c .before .before .before .before .before .before .before .before .allowed .kept .1 .1 .1 .0
+completes-by-same-length-3 : (t : ℕ) → completes-by-lts.Need-same-length-3 (completes-by-calls t) (completes-by-at t) completes-by.Post
+completes-by-same-length-3 t c = c .before .before .before .known-step .kept .1 .1 .1 .1 .0 ∙ c .before .before .before .before .before .before .before .before .allowed .kept .1 .1 .1 .0
 
--- src/search.rt:211:9
-completes-by-returns-3 : (t : ℕ) → completes-by-lts.Need-returns-3 (
-  wide-reads.Asked,
-  wide-reads.Learnt,
-  promising-reads.Asked,
-  promising-reads.Learnt,
-  allowed-reads.Asked,
-  allowed-reads.Learnt,
-  step-slot-reads.Asked,
-  step-slot-reads.Learnt,
-  completes-below t,
-  completes.Post,
-) (completes-by-at t) completes-by.Post
-completes-by-returns-3 t c =
-    let P = c .before .before .before .before .before .before .before .before .before .before .before .before .before .before .before .before .before .before .before .before .pre .1 in
-    let a = c .before .before .before .before .before .before .before .before .before .before .before .before .before .before .before .before .before .before .before .before .args in
+completes-by-returns-3 : (t : ℕ) → completes-by-lts.Need-returns-3 (completes-by-calls t) (completes-by-at t) completes-by.Post
+completes-by-returns-3 t c = let a = c .before .before .before .before .before .before .before .before .before .before .before .before .before .before .before .before .before .before .before .before .args in
     let w = c .before .before .before .before .before .before .before .before .allowed in
-    let s = c .before .before .before .step-slot in
+    let s = c .before .before .before .known-step in
     λ th T y mem trail.
     let z = slot-stage (a .p) (a .work .now) (a .slot) (c .before .before .before .before .before .before .before .before .before .before .before .before .before .before .wide .ensures) y in
     let told = w .ensures th T z mem in
-    let z′ = stage-same z (told .low) (w .kept .1 .1 .1 .0) in
-    let f : Free (a .slot + 961) 1 = omega (arith, P .4) in
-    let long = s .kept .1 .1 .1 .1 .0 in
-    let played = s .ensures th T _ (stage-setting z′ f) (P .1) (z .tabled .some) in
-    best-none _ (λ q l. played .only .low q l ∙ told .low q l) (λ q l. step-high z′ 0 played f long q l ∙ told .high q l) (step-memory z′ 0 played f long (told .memory)) (λ l v q g. step-none z′ 0 played f long (c .if3 .taken) (g .2 .0) (g .2 .1))
+    let played = s .ensures th T (a .k .0) (stage-same z (told .low) (w .kept .1 .1 .1 .0)) (told .memory) in
+    best-none _ (λ q l. played .low q l ∙ told .low q l) (λ q l. played .high q l ∙ told .high q l) (played .memory) (λ l v q g. played .none (c .if3 .taken) (g .2 .0) (g .2 .1))
 
--- src/search.rt:218:9
-completes-by-add-completes : (t : ℕ) → completes-by-lts.Need-add-completes (
-  wide-reads.Asked,
-  wide-reads.Learnt,
-  promising-reads.Asked,
-  promising-reads.Learnt,
-  allowed-reads.Asked,
-  allowed-reads.Learnt,
-  step-slot-reads.Asked,
-  step-slot-reads.Learnt,
-  completes-below t,
-  completes.Post,
-) (completes-by-at t) completes-by.Post
+completes-by-add-completes : (t : ℕ) → completes-by-lts.Need-add-completes (completes-by-calls t) (completes-by-at t) completes-by.Post
 completes-by-add-completes t c = omega (arith, c .before .before .before .before .before .before .before .before .before .before .before .before .before .before .before .before .before .before .before .before .before .pre .1 .4)
 
--- src/search.rt:220:9
-completes-by-add-completes-2 : (t : ℕ) → completes-by-lts.Need-add-completes-2 (
-  wide-reads.Asked,
-  wide-reads.Learnt,
-  promising-reads.Asked,
-  promising-reads.Learnt,
-  allowed-reads.Asked,
-  allowed-reads.Learnt,
-  step-slot-reads.Asked,
-  step-slot-reads.Learnt,
-  completes-below t,
-  completes.Post,
-) (completes-by-at t) completes-by.Post
+completes-by-add-completes-2 : (t : ℕ) → completes-by-lts.Need-add-completes-2 (completes-by-calls t) (completes-by-at t) completes-by.Post
 completes-by-add-completes-2 t c = omega (arith, c .before .before .before .before .before .before .before .before .before .before .before .before .before .before .before .before .before .before .before .before .before .before .pre .1 .5, c .before .before .before .before .before .before .before .before .before .before .before .before .before .before .before .before .before .before .before .before .before .before .good .1 .1 .1 .1 .1 .0 .0)
 
--- src/search.rt:213:9
-completes-by-completes-requires : (t : ℕ) → completes-by-lts.Need-completes-requires (
-  wide-reads.Asked,
-  wide-reads.Learnt,
-  promising-reads.Asked,
-  promising-reads.Learnt,
-  allowed-reads.Asked,
-  allowed-reads.Learnt,
-  step-slot-reads.Asked,
-  step-slot-reads.Learnt,
-  completes-below t,
-  completes.Post,
-) (completes-by-at t) completes-by.Post
-completes-by-completes-requires t c κs =
-    let (m, P) = c .before .before .before .before .before .before .before .before .before .before .before .before .before .before .before .before .before .before .before .before .before .before .pre in
+completes-by-completes-requires : (t : ℕ) → completes-by-lts.Need-completes-requires (completes-by-calls t) (completes-by-at t) completes-by.Post
+completes-by-completes-requires t c κs = let (m, P) = c .before .before .before .before .before .before .before .before .before .before .before .before .before .before .before .before .before .before .before .before .before .before .pre in
     let a = c .before .before .before .before .before .before .before .before .before .before .before .before .before .before .before .before .before .before .before .before .before .before .args in
     let (th, (T, (y, mem, trail))) = P .0 in
     let w = c .before .before .before .before .before .before .before .before .before .before .allowed in
-    let s = c .before .before .before .before .before .step-slot in
+    let s = c .before .before .before .before .before .known-step in
     let z = slot-stage (a .p) (a .work .now) (a .slot) (c .before .before .before .before .before .before .before .before .before .before .before .before .before .before .before .before .wide .ensures) y in
     let told = w .ensures th T z mem in
     let z′ = stage-same z (told .low) (w .kept .1 .1 .1 .0) in
     let f : Free (a .slot + 961) 1 = omega (arith, P .4) in
     let long = s .kept .1 .1 .1 .1 .0 in
-    let played = s .ensures th T _ (stage-setting z′ f) (P .1) (z .tabled .some) in
+    let played = s .ensures th T (a .k .0) z′ (told .memory) in
     let zero : s .result ≡ 0 = omega (arith, c .before .before .if3 .left) in
     let plays = next-plays z′ 0 played f long zero in
     let agreed = agreed-from y (a .k .0) (a .e .0) (a .x) (P .1) (meaning (a .p .characters) T 0) (told .sound (not-false (w .result) (c .before .before .before .before .before .before .before .if2 .left))) in
-    let next = trail-step (a .slot) y (a .k .0) (a .e .0) (a .base) trail (P .6) (omega (arith, P .4)) (s .last .1 .1 .1 .1 .0) (λ q l. played .only .low q l ∙ told .low q l) (long ∙ w .kept .1 .1 .1 .0) plays agreed in
-    (omega (arith, m), ((th, (nextTable z′ 0 played f long zero, (next-stage z′ 0 played f long zero, step-memory z′ 0 played f long (told .memory), next))), P .2, P .3, omega (arith, P .4), omega (arith, P .5), omega (arith, P .6)))
+    let next = trail-step (a .slot) y (a .k .0) (a .e .0) (a .base) trail (P .6) (s .last .1 .1 .1 .1 .0) (λ q l. played .low q l ∙ told .low q l) (long ∙ w .kept .1 .1 .1 .0) plays agreed in
+    (omega (arith, m), ((th, (nextTable z′ 0 played f long zero, (next-stage z′ 0 played f long zero, played .further zero, next))), P .2, P .3, omega (arith, P .4), omega (arith, P .5), omega (arith, P .6)))
 
--- src/search.rt:227:22
-completes-by-cast-list : (t : ℕ) → completes-by-lts.Need-cast-list (
-  wide-reads.Asked,
-  wide-reads.Learnt,
-  promising-reads.Asked,
-  promising-reads.Learnt,
-  allowed-reads.Asked,
-  allowed-reads.Learnt,
-  step-slot-reads.Asked,
-  step-slot-reads.Learnt,
-  completes-below t,
-  completes.Post,
-) (completes-by-at t) completes-by.Post
+completes-by-cast-list : (t : ℕ) → completes-by-lts.Need-cast-list (completes-by-calls t) (completes-by-at t) completes-by.Post
 completes-by-cast-list t c = let (th, (T, (y, mem, trail))) = c .before .before .before .before .before .before .before .before .before .before .before .before .before .before .before .before .before .before .before .before .before .before .before .before .before .before .before .before .pre .1 .0 in omega (arith, c .before .before .before .before .before .before .before .before .before .before .before .before .before .before .before .before .before .before .before .before .before .before .before .before .before .before .before .before .pre .1 .1, y .theorized .found .mostActions)
 
--- src/search.rt:227:9
-completes-by-slice-write-list : (t : ℕ) → completes-by-lts.Need-slice-write-list (
-  wide-reads.Asked,
-  wide-reads.Learnt,
-  promising-reads.Asked,
-  promising-reads.Learnt,
-  allowed-reads.Asked,
-  allowed-reads.Learnt,
-  step-slot-reads.Asked,
-  step-slot-reads.Learnt,
-  completes-below t,
-  completes.Post,
-) (completes-by-at t) completes-by.Post
+completes-by-slice-write-list : (t : ℕ) → completes-by-lts.Need-slice-write-list (completes-by-calls t) (completes-by-at t) completes-by.Post
 completes-by-slice-write-list t c = omega (arith, c .before .before .before .before .before .before .before .before .before .before .before .before .before .before .before .before .before .before .before .before .before .before .before .before .before .before .before .before .pre .1 .5, c .before .before .before .before .before .completes .kept .1 .1 .1 .1 .1 .0)
 
--- src/search.rt:166:1
-completes-by-same-length-4 : (t : ℕ) → completes-by-lts.Need-same-length-4 (
-  wide-reads.Asked,
-  wide-reads.Learnt,
-  promising-reads.Asked,
-  promising-reads.Learnt,
-  allowed-reads.Asked,
-  allowed-reads.Learnt,
-  step-slot-reads.Asked,
-  step-slot-reads.Learnt,
-  completes-below t,
-  completes.Post,
-) (completes-by-at t) completes-by.Post
-completes-by-same-length-4 t c = c .before .before .before .before .before .completes .kept .1 .1 .1 .0 ∙ c .before .before .before .before .before .before .before .before .before .before .before .step-slot .kept .1 .1 .1 .1 .0 ∙ c .before .before .before .before .before .before .before .before .before .before .before .before .before .before .before .before .allowed .kept .1 .1 .1 .0
+completes-by-same-length-4 : (t : ℕ) → completes-by-lts.Need-same-length-4 (completes-by-calls t) (completes-by-at t) completes-by.Post
+completes-by-same-length-4 t c = c .before .before .before .before .before .completes .kept .1 .1 .1 .0 ∙ c .before .before .before .before .before .before .before .before .before .before .before .known-step .kept .1 .1 .1 .1 .0 ∙ c .before .before .before .before .before .before .before .before .before .before .before .before .before .before .before .before .allowed .kept .1 .1 .1 .0
 
--- src/search.rt:166:1
-completes-by-same-length-5 : (t : ℕ) → completes-by-lts.Need-same-length-5 (
-  wide-reads.Asked,
-  wide-reads.Learnt,
-  promising-reads.Asked,
-  promising-reads.Learnt,
-  allowed-reads.Asked,
-  allowed-reads.Learnt,
-  step-slot-reads.Asked,
-  step-slot-reads.Learnt,
-  completes-below t,
-  completes.Post,
-) (completes-by-at t) completes-by.Post
+completes-by-same-length-5 : (t : ℕ) → completes-by-lts.Need-same-length-5 (completes-by-calls t) (completes-by-at t) completes-by.Post
 completes-by-same-length-5 t c = length-set {A = ℕ} (c .before .before .before .before .before .completes .last .1 .1 .1 .1 .1 .0) (c .before .before .before .before .before .before .before .before .before .before .before .before .before .before .before .before .before .before .before .before .before .before .before .before .before .before .before .before .args .done) (c .before .before .before .before .before .before .before .before .before .before .before .before .before .before .before .before .before .before .before .before .before .before .before .before .before .before .before .before .args .x) ∙ c .before .before .before .before .before .completes .kept .1 .1 .1 .1 .1 .0
 
--- src/search.rt:166:1
-completes-by-returns-4 : (t : ℕ) → completes-by-lts.Need-returns-4 (
-  wide-reads.Asked,
-  wide-reads.Learnt,
-  promising-reads.Asked,
-  promising-reads.Learnt,
-  allowed-reads.Asked,
-  allowed-reads.Learnt,
-  step-slot-reads.Asked,
-  step-slot-reads.Learnt,
-  completes-below t,
-  completes.Post,
-) (completes-by-at t) completes-by.Post
-completes-by-returns-4 t c =
-    let P = c .before .before .before .before .before .before .before .before .before .before .before .before .before .before .before .before .before .before .before .before .before .before .before .before .before .before .before .before .pre .1 in
+completes-by-returns-4 : (t : ℕ) → completes-by-lts.Need-returns-4 (completes-by-calls t) (completes-by-at t) completes-by.Post
+completes-by-returns-4 t c = let P = c .before .before .before .before .before .before .before .before .before .before .before .before .before .before .before .before .before .before .before .before .before .before .before .before .before .before .before .before .pre .1 in
     let a = c .before .before .before .before .before .before .before .before .before .before .before .before .before .before .before .before .before .before .before .before .before .before .before .before .before .before .before .before .args in
     let w = c .before .before .before .before .before .before .before .before .before .before .before .before .before .before .before .before .allowed in
-    let s = c .before .before .before .before .before .before .before .before .before .before .before .step-slot in
+    let s = c .before .before .before .before .before .before .before .before .before .before .before .known-step in
     let d = c .before .before .before .before .before .completes in
-    let zero : s .result ≡ 0 = omega (arith, c .before .before .before .before .before .before .before .before .if3 .left) in
-    let f : Free (a .slot + 961) 1 = omega (arith, P .4) in
-    let long = s .kept .1 .1 .1 .1 .0 in
     λ th T y mem trail.
     let z = slot-stage (a .p) (a .work .now) (a .slot) (c .before .before .before .before .before .before .before .before .before .before .before .before .before .before .before .before .before .before .before .before .before .before .wide .ensures) y in
     let told = w .ensures th T z mem in
     let z′ = stage-same z (told .low) (w .kept .1 .1 .1 .0) in
-    let played = s .ensures th T _ (stage-setting z′ f) (P .1) (z .tabled .some) in
+    let f : Free (a .slot + 961) 1 = omega (arith, P .4) in
+    let long = s .kept .1 .1 .1 .1 .0 in
+    let played = s .ensures th T (a .k .0) z′ (told .memory) in
+    let zero : s .result ≡ 0 = omega (arith, c .before .before .before .before .before .before .before .before .if3 .left) in
     let plays = next-plays z′ 0 played f long zero in
     let agreed = agreed-from y (a .k .0) (a .e .0) (a .x) (P .1) (meaning (a .p .characters) T 0) (told .sound (not-false (w .result) (c .before .before .before .before .before .before .before .before .before .before .before .before .before .if2 .left))) in
-    let next = trail-step (a .slot) y (a .k .0) (a .e .0) (a .base) trail (P .6) (omega (arith, P .4)) (s .last .1 .1 .1 .1 .0) (λ q l. played .only .low q l ∙ told .low q l) (long ∙ w .kept .1 .1 .1 .0) plays agreed in
-    let b = d .ensures th (nextTable z′ 0 played f long zero) (next-stage z′ 0 played f long zero) (step-memory z′ 0 played f long (told .memory)) next in
-    best-by th (a .k .0) (a .e .0) (a .base) (meaning (a .p .characters) T 0) (a .x) plays agreed (omega arith) (λ q l. played .only .low q l ∙ told .low q l) (λ q l. step-high z′ 0 played f long q l ∙ told .high q l) b (omega (arith, c .if4 .taken))
+    let next = trail-step (a .slot) y (a .k .0) (a .e .0) (a .base) trail (P .6) (s .last .1 .1 .1 .1 .0) (λ q l. played .low q l ∙ told .low q l) (long ∙ w .kept .1 .1 .1 .0) plays agreed in
+    best-by th (a .k .0) (a .e .0) (a .base) (meaning (a .p .characters) T 0) (a .x) plays agreed (omega arith) (memory-fewer (a .p) (omega arith)) (λ q l. played .low q l ∙ told .low q l) (λ q l. played .high q l ∙ told .high q l) (d .ensures th (nextTable z′ 0 played f long zero) (next-stage z′ 0 played f long zero) (played .further zero) next) (omega (arith, c .if4 .taken))
     (getD-set-same {A = ℕ} (d .last .1 .1 .1 .1 .1 .0) (a .done) (a .x) 0 (omega (arith, P .5, d .kept .1 .1 .1 .1 .1 .0))) (λ q n. getD-set-other {A = ℕ} (d .last .1 .1 .1 .1 .1 .0) (a .done) q (a .x) 0 n)
 
--- src/search.rt:166:1
-completes-by-same-length-6 : (t : ℕ) → completes-by-lts.Need-same-length-6 (
-  wide-reads.Asked,
-  wide-reads.Learnt,
-  promising-reads.Asked,
-  promising-reads.Learnt,
-  allowed-reads.Asked,
-  allowed-reads.Learnt,
-  step-slot-reads.Asked,
-  step-slot-reads.Learnt,
-  completes-below t,
-  completes.Post,
-) (completes-by-at t) completes-by.Post
-completes-by-same-length-6 t c = c .before .before .before .before .before .completes .kept .1 .1 .1 .0 ∙ c .before .before .before .before .before .before .before .before .before .before .before .step-slot .kept .1 .1 .1 .1 .0 ∙ c .before .before .before .before .before .before .before .before .before .before .before .before .before .before .before .before .allowed .kept .1 .1 .1 .0
+completes-by-same-length-6 : (t : ℕ) → completes-by-lts.Need-same-length-6 (completes-by-calls t) (completes-by-at t) completes-by.Post
+completes-by-same-length-6 t c = c .before .before .before .before .before .completes .kept .1 .1 .1 .0 ∙ c .before .before .before .before .before .before .before .before .before .before .before .known-step .kept .1 .1 .1 .1 .0 ∙ c .before .before .before .before .before .before .before .before .before .before .before .before .before .before .before .before .allowed .kept .1 .1 .1 .0
 
--- src/search.rt:166:1
-completes-by-same-length-7 : (t : ℕ) → completes-by-lts.Need-same-length-7 (
-  wide-reads.Asked,
-  wide-reads.Learnt,
-  promising-reads.Asked,
-  promising-reads.Learnt,
-  allowed-reads.Asked,
-  allowed-reads.Learnt,
-  step-slot-reads.Asked,
-  step-slot-reads.Learnt,
-  completes-below t,
-  completes.Post,
-) (completes-by-at t) completes-by.Post
+completes-by-same-length-7 : (t : ℕ) → completes-by-lts.Need-same-length-7 (completes-by-calls t) (completes-by-at t) completes-by.Post
 completes-by-same-length-7 t c = c .before .before .before .before .before .completes .kept .1 .1 .1 .1 .1 .0
 
--- src/search.rt:166:1
-completes-by-returns-5 : (t : ℕ) → completes-by-lts.Need-returns-5 (
-  wide-reads.Asked,
-  wide-reads.Learnt,
-  promising-reads.Asked,
-  promising-reads.Learnt,
-  allowed-reads.Asked,
-  allowed-reads.Learnt,
-  step-slot-reads.Asked,
-  step-slot-reads.Learnt,
-  completes-below t,
-  completes.Post,
-) (completes-by-at t) completes-by.Post
-completes-by-returns-5 t c =
-    let P = c .before .before .before .before .before .before .before .before .before .before .before .before .before .before .before .before .before .before .before .before .before .before .before .before .before .before .before .before .pre .1 in
+completes-by-returns-5 : (t : ℕ) → completes-by-lts.Need-returns-5 (completes-by-calls t) (completes-by-at t) completes-by.Post
+completes-by-returns-5 t c = let P = c .before .before .before .before .before .before .before .before .before .before .before .before .before .before .before .before .before .before .before .before .before .before .before .before .before .before .before .before .pre .1 in
     let a = c .before .before .before .before .before .before .before .before .before .before .before .before .before .before .before .before .before .before .before .before .before .before .before .before .before .before .before .before .args in
     let w = c .before .before .before .before .before .before .before .before .before .before .before .before .before .before .before .before .allowed in
-    let s = c .before .before .before .before .before .before .before .before .before .before .before .step-slot in
+    let s = c .before .before .before .before .before .before .before .before .before .before .before .known-step in
     let d = c .before .before .before .before .before .completes in
-    let zero : s .result ≡ 0 = omega (arith, c .before .before .before .before .before .before .before .before .if3 .left) in
-    let f : Free (a .slot + 961) 1 = omega (arith, P .4) in
-    let long = s .kept .1 .1 .1 .1 .0 in
     λ th T y mem trail.
     let z = slot-stage (a .p) (a .work .now) (a .slot) (c .before .before .before .before .before .before .before .before .before .before .before .before .before .before .before .before .before .before .before .before .before .before .wide .ensures) y in
     let told = w .ensures th T z mem in
     let z′ = stage-same z (told .low) (w .kept .1 .1 .1 .0) in
-    let played = s .ensures th T _ (stage-setting z′ f) (P .1) (z .tabled .some) in
+    let f : Free (a .slot + 961) 1 = omega (arith, P .4) in
+    let long = s .kept .1 .1 .1 .1 .0 in
+    let played = s .ensures th T (a .k .0) z′ (told .memory) in
+    let zero : s .result ≡ 0 = omega (arith, c .before .before .before .before .before .before .before .before .if3 .left) in
     let plays = next-plays z′ 0 played f long zero in
     let agreed = agreed-from y (a .k .0) (a .e .0) (a .x) (P .1) (meaning (a .p .characters) T 0) (told .sound (not-false (w .result) (c .before .before .before .before .before .before .before .before .before .before .before .before .before .if2 .left))) in
-    let next = trail-step (a .slot) y (a .k .0) (a .e .0) (a .base) trail (P .6) (omega (arith, P .4)) (s .last .1 .1 .1 .1 .0) (λ q l. played .only .low q l ∙ told .low q l) (long ∙ w .kept .1 .1 .1 .0) plays agreed in
-    let b = d .ensures th (nextTable z′ 0 played f long zero) (next-stage z′ 0 played f long zero) (step-memory z′ 0 played f long (told .memory)) next in
-    best-by-none th (a .k .0) (a .e .0) (a .base) (meaning (a .p .characters) T 0) (a .x) plays agreed (omega arith) (λ q l. played .only .low q l ∙ told .low q l) (λ q l. step-high z′ 0 played f long q l ∙ told .high q l) b (omega (arith, c .if4 .left))
+    let next = trail-step (a .slot) y (a .k .0) (a .e .0) (a .base) trail (P .6) (s .last .1 .1 .1 .1 .0) (λ q l. played .low q l ∙ told .low q l) (long ∙ w .kept .1 .1 .1 .0) plays agreed in
+    best-by-none th (a .k .0) (a .e .0) (a .base) (meaning (a .p .characters) T 0) (a .x) plays agreed (omega arith) (memory-fewer (a .p) (omega arith)) (λ q l. played .low q l ∙ told .low q l) (λ q l. played .high q l ∙ told .high q l) (d .ensures th (nextTable z′ 0 played f long zero) (next-stage z′ 0 played f long zero) (played .further zero) next) (omega (arith, c .if4 .left))
 
 pub +completes+completes-after+completes-by-spec : {M : Type 1} → statement M
 +completes+completes-after+completes-by-spec =
-    close μ-completes μ-completes-after μ-completes-by (λ t. completes-lts.spec (
-      ends-reads.Asked,
-      ends-reads.Learnt,
-      repeats-reads.Asked,
-      repeats-reads.Learnt,
-      entry-of-reads.Asked,
-      entry-of-reads.Learnt,
-      recall-reads.Asked,
-      recall-reads.Learnt,
-      completes-after-below t,
-      completes-after.Post,
-      remember-reads.Asked,
-      remember-reads.Learnt,
-    )
+    close μ-completes μ-completes-after μ-completes-by (λ t. completes-lts.spec (completes-calls t)
     (completes-at t)
     completes.Post
     (completes-ends-requires t)
@@ -1057,7 +450,10 @@ pub +completes+completes-after+completes-by-spec : {M : Type 1} → statement M
     (completes-repeats-requires t)
     (completes-same-length-2 t)
     (completes-returns-2 t)
-    (completes-entry-of-requires t)
+    (completes-add-t21 t)
+    (completes-slice-read-wide t)
+    (completes-wide-requires t)
+    (completes-add-completes-after t)
     (completes-recall-requires t)
     (completes-same-length-3 t)
     (completes-returns-3 t)
@@ -1071,7 +467,7 @@ pub +completes+completes-after+completes-by-spec : {M : Type 1} → statement M
     (completes-same-length-7 t)
     (completes-returns-5 t))
     (λ t. completes-after-lts.spec
-    (completes-by-below t, completes-by.Post)
+    (completes-after-calls t)
     (completes-after-at t)
     completes-after.Post
     completes-after-Inv-loop
@@ -1087,18 +483,7 @@ pub +completes+completes-after+completes-by-spec : {M : Type 1} → statement M
     (completes-after-same-length-3 t)
     (completes-after-same-length-4 t)
     (completes-after-returns-2 t))
-    λ t. completes-by-lts.spec (
-      wide-reads.Asked,
-      wide-reads.Learnt,
-      promising-reads.Asked,
-      promising-reads.Learnt,
-      allowed-reads.Asked,
-      allowed-reads.Learnt,
-      step-slot-reads.Asked,
-      step-slot-reads.Learnt,
-      completes-below t,
-      completes.Post,
-    )
+    λ t. completes-by-lts.spec (completes-by-calls t)
     (completes-by-at t)
     completes-by.Post
     (completes-by-add-allowed t)
@@ -1112,8 +497,8 @@ pub +completes+completes-after+completes-by-spec : {M : Type 1} → statement M
     (completes-by-allowed-requires t)
     (completes-by-same-length-2 t)
     (completes-by-returns-2 t)
-    (completes-by-add-step-slot t)
-    (completes-by-step-slot-requires t)
+    (completes-by-add-known-step t)
+    (completes-by-known-step-requires t)
     (completes-by-same-length-3 t)
     (completes-by-returns-3 t)
     (completes-by-add-completes t)

@@ -3,7 +3,7 @@ use Prim.Native.Nat.{_*_, _-_, _≤_}
 use mathlib.Core.Path.{sym}
 use native.Mathlib.Omega.{arith}
 use borrow.Author.Needs.{needs}
-use Rattle.explanation.proofs.Remembering.{unset, extent-most, state-moved}
+use Rattle.explanation.proofs.Remembering.{unset, table-size, state-moved}
 use Rattle.planner.proofs.search.repeats.Statement.{statement}
 use Rattle.planner.proofs.search.repeats.Tie as tie
 
@@ -22,7 +22,7 @@ mul-first-other c = omega (arith, c .loop-test .taken, c .before .before .before
 first-other-requires : tie.Need-first-other-requires Inv-loop μ-loop
 first-other-requires c κs =
     let P = c .before .before .before .before .pre in
-    let most = extent-most (c .before .before .before .before .args .p) (P .0) in
+    let most = table-size (c .before .before .before .before .args .p) (P .0) in
     (omega (arith, c .before .before .extent .ensures, most, P .0 .before, P .0 .room), omega (arith, c .before .before .extent .ensures, most, c .loop-test .taken, P .1, P .0 .before, P .0 .room))
 
 returns : tie.Need-returns Inv-loop μ-loop

@@ -24,7 +24,7 @@ use Rattle.planner.proofs.search.shortest.Tie as tie
 abbrev Inv-loop : tie.InvT-loop
 Inv-loop pack places p work₀ list₀ s e k base n₀ work list n =
     (0 < n) × (length work ≡ length work₀) × (list ≡ list₀) × Below work₀ work 961 × Above work₀ work workRoom
-    × ((th : Theory) (T : List Node) → Stage th T pack places p work₀ (slotTable p work₀ 0) 961 → Memory th (k .0) p work₀ → authorUtility th (meaning (p .characters) T 0) ≤ base → Memory th (k .0) p work × ((l : List ℕ) (v : ℕ) → 0 < length l → length l < n → ¬ Ends th (k .0) (e .0) base (meaning (p .characters) T 0) l v))
+    × ((th : Theory) (T : List Node) → Stage th T pack places p work₀ (slotTable p work₀ 0) 961 → Memory th (k .0) p 961 work₀ → authorUtility th (meaning (p .characters) T 0) ≤ base → Memory th (k .0) p 961 work × ((l : List ℕ) (v : ℕ) → 0 < length l → length l < n → ¬ Ends th (k .0) (e .0) base (meaning (p .characters) T 0) l v))
 
 abbrev μ-loop : tie.MeasureT-loop
 μ-loop pack places p work₀ list₀ s e k base n₀ work list n = s .0 + 1 - n

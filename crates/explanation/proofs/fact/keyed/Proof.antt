@@ -4,8 +4,8 @@ use native.Mathlib.Omega.{arith}
 use borrow.Author.Needs.{needs}
 use borrow.Author.Tests.{eqb-true}
 use Rattle.explanation.proofs.Remembering.{unset, key-same}
-use Rattle.explanation.proofs.memory.keyed.Statement.{statement}
-use Rattle.explanation.proofs.memory.keyed.Tie as tie
+use Rattle.explanation.proofs.fact.keyed.Statement.{statement}
+use Rattle.explanation.proofs.fact.keyed.Tie as tie
 
 mul-result : tie.Need-mul-result
 mul-result c = omega (arith, c .wide5 .ensures, c .before .before .before .before .before .before .before .before .before .before .before .before .before .before .before .before .shared-slice-known .given (c .before .before .before .before .before .before .before .before .before .before .before .before .before .before .before .before .before .args .at + 5))

@@ -4,8 +4,8 @@ use native.Mathlib.Omega.{arith}
 use lib.ListN.{set, length-set}
 use borrow.Author.Needs.{needs}
 use Rattle.explanation.proofs.Remembering.{key-put, long2, long4}
-use Rattle.explanation.proofs.memory.put_key.Statement.{statement}
-use Rattle.explanation.proofs.memory.put_key.Tie as tie
+use Rattle.explanation.proofs.fact.put_key.Statement.{statement}
+use Rattle.explanation.proofs.fact.put_key.Tie as tie
 
 slice-write-work-2 : tie.Need-slice-write-work-2
 slice-write-work-2 c = let a = c .before .args in omega (arith, c .before .pre, length-set (a .work .now) (a .at) (a .mark))

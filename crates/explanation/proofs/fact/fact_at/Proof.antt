@@ -1,0 +1,18 @@
+-- The place of an entry. Assumes nothing.
+use Rattle.explanation.proofs.Remembering.{placed}
+use borrow.Author.Needs.{needs}
+use Rattle.explanation.proofs.fact.fact_at.Statement.{statement}
+use Rattle.explanation.proofs.fact.fact_at.Tie as tie
+
+pub fact-at-spec : {M : Type 1} → statement M
+fact-at-spec =
+    tie.close (tie.spec
+    (λ c. search needs)
+    (λ c. search needs)
+    (λ c. search needs)
+    (λ c. search needs)
+    (λ c. search needs)
+    (λ c. search needs)
+    (λ c. search needs)
+    (λ c. search needs)
+    (λ c. placed 44160 7 _))

@@ -1,0 +1,17 @@
+-- The place of an entry. Assumes nothing.
+use Rattle.explanation.proofs.Remembering.{placed}
+use borrow.Author.Needs.{needs}
+use Rattle.explanation.proofs.known.step_at.Statement.{statement}
+use Rattle.explanation.proofs.known.step_at.Tie as tie
+
+pub step-at-spec : {M : Type 1} → statement M
+step-at-spec =
+    tie.close
+    (tie.spec
+    (λ c. search needs)
+    (λ c. search needs)
+    (λ c. search needs)
+    (λ c. search needs)
+    (λ c. search needs)
+    (λ c. search needs)
+    (λ c. placed 43648 4 _))

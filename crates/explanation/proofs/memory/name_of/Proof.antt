@@ -1,0 +1,21 @@
+-- The name that is known by the slot; else it is looked up, and known from then on. Assumes nothing.
+use Prim.Native.Nat.{_+_, _/_}
+use native.Mathlib.Omega.{arith}
+use Rattle.explanation.proofs.Remembering.{naming-known, naming-new}
+use borrow.Author.Needs.{needs}
+use Rattle.explanation.proofs.memory.name_of.Statement.{statement}
+use Rattle.explanation.proofs.memory.name_of.Tie as tie
+
+pub name-of-spec : {M : Type 1} → statement M
+name-of-spec =
+    tie.close
+    (tie.spec
+    (λ c. search needs)
+    (λ c. search needs)
+    (λ c κs. search needs)
+    (λ c. naming-known (c .before .before .before .before .before .args .p) (c .before .before .before .before .before .pre) (omega (arith, c .before .wide .ensures, c .before .before .slice-known2 .given (43470 + c .before .before .before .before .before .args .t .rows / 961))) (c .before .wide .ensures))
+    (λ c κs. search needs)
+    (λ c. search needs)
+    (λ c. search needs)
+    (λ c. search needs)
+    (λ c. let k = c .before .before .look-up in naming-new (c .before .before .before .before .before .before .before .before .before .args .p) (k .kept .0) (c .before .before .before .before .before .before .before .before .before .pre) (k .ensures)))
