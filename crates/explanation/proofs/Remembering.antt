@@ -99,13 +99,13 @@ pub row-states : (c : ℕ) {t u : List Node} → t ≡ u → _≡_ {A = ℕ → 
 row-states c e = λ j. λ root. meaning c (e j) root
 
 -- names, steps and facts that are forgotten
-pub emptied : {was now : List ℕ} → Cleared was now memoryAt 1586 → (q : ℕ) → memoryAt ≤ q → q < tablesAt → getD now q 0 ≡ 0
+pub emptied : {was now : List ℕ} → Cleared was now memoryAt 2482 → (q : ℕ) → memoryAt ≤ q → q < tablesAt → getD now q 0 ≡ 0
 emptied {was} {now} x q low high = let y : q ≡ memoryAt + (q - memoryAt) = omega (arith, low) in ap (λ (q : ℕ). getD now q 0) y ∙ x .clear (q - memoryAt) (omega (arith, low, high))
 
 -- tables that are kept stay as they are
 pub record Grown (was now : List ℕ) : Type 0 where
   pub taken : getD was takenAt 0 ≤ getD now takenAt 0
-  pub tables : (q : ℕ) → tablesAt ≤ q → q < tablesAt + 16 * getD was takenAt 0 → getD now q 0 ≡ getD was q 0
+  pub tables : (q : ℕ) → tablesAt ≤ q → q < tablesAt + 12 * getD was takenAt 0 → getD now q 0 ≡ getD was q 0
 
 -- only bytes of names, steps and facts change
 pub grown-by : {was now : List ℕ} → getD now takenAt 0 ≡ getD was takenAt 0 → ((q : ℕ) → tablesAt ≤ q → getD now q 0 ≡ getD was q 0) → Grown was now
@@ -153,7 +153,7 @@ module _ (h : Shape) where
     kept-grown {n} k = record {
       some = k .some;
       few = omega (arith, kept-count k, k .few);
-      inside = subst (λ (c : ℕ). keptAt n + 1 + c * w ≤ tablesAt + 16 * getD now takenAt 0) (sym (kept-count k)) (omega (arith, k .inside, g .taken));
+      inside = subst (λ (c : ℕ). keptAt n + 1 + c * w ≤ tablesAt + 12 * getD now takenAt 0) (sym (kept-count k)) (omega (arith, k .inside, g .taken));
     }
 
     pub kept-table : {n : ℕ} → Kept h was n → tableOf (keptTable h now n) now ≡ tableOf (keptTable h was n) was
@@ -204,7 +204,7 @@ module _ (h : Shape) where
     pub memory-but : {th : Theory} {K limit : ℕ} → ((q : ℕ) → q < limit → getD now q 0 ≡ getD was q 0)
         → ((i : ℕ) → 961 * i + 961 ≤ limit → (getD now (memoryAt + i) 0 ≡ getD was (memoryAt + i) 0) ⊎ SlotEntry h now i)
         → ((i : ℕ) → i < 128 → ((q : ℕ) → stepsAt + 4 * i ≤ q → q < stepsAt + 4 * i + 4 → getD now q 0 ≡ getD was q 0) ⊎ StepEntry th h now (stepsAt + 4 * i))
-        → ((i : ℕ) → i < 128 → ((q : ℕ) → factsAt + 7 * i ≤ q → q < factsAt + 7 * i + 7 → getD now q 0 ≡ getD was q 0) ⊎ FactEntry th K h now (factsAt + 7 * i)) → Memory th K h limit was → Memory th K h limit now
+        → ((i : ℕ) → i < 256 → ((q : ℕ) → factsAt + 7 * i ≤ q → q < factsAt + 7 * i + 7 → getD now q 0 ≡ getD was q 0) ⊎ FactEntry th K h now (factsAt + 7 * i)) → Memory th K h limit was → Memory th K h limit now
     memory-but low a b c m = record {
       narrow = m .narrow;
       slots = λ i l. ⊎-elim (λ e. slot-entry (m .narrow) low i l e (m .slots i l)) (λ x. x) (a i l);
@@ -231,7 +231,7 @@ module _ (h : Shape) where
 
   module _ {t : Table} where
     -- a table with the count and the bytes of the one that is kept
-    pub kept-as : {now : List ℕ} → Before h now t → (n : ℕ) → 0 < n → 16 * n + t .nodes * t .width ≤ 16 * getD now takenAt 0 + 15 → getD now (keptAt n) 0 ≡ t .nodes
+    pub kept-as : {now : List ℕ} → Before h now t → (n : ℕ) → 0 < n → 12 * n + t .nodes * t .width ≤ 12 * getD now takenAt 0 + 11 → getD now (keptAt n) 0 ≡ t .nodes
         → ((q : ℕ) → q < t .nodes * t .width → getD now (keptAt n + 1 + q) 0 ≡ getD now (t .rows + q) 0) → Named h now t n
     kept-as {now} b n some inside count same =
         let wide : w ≡ t .width = ap (λ (f : ℕ). f + h .characters) (b .fluents) ∙ ap (λ (c : ℕ). t .fluents + c) (b .characters) ∙ b .wide in
@@ -256,22 +256,22 @@ module _ (h : Shape) where
     stored-none = record { small = omega arith; named = λ z. absurd (omega (arith, z)); only = record { low = λ q l. refl; high = λ q l. refl }; memory = λ p K limit few m. m }
 
     -- a table that is put behind those that are kept
-    module _ {was mid : List ℕ} {taken v : ℕ} (b : Before h was t) (e : getD was takenAt 0 ≡ taken) (fits : 16 * taken + t .nodes * t .width ≤ 4079) (copied : PartCopied (set was (45056 + 16 * taken) (t .nodes)) mid (t .rows) (45057 + 16 * taken) (t .nodes * t .width)) (is : v ≡ taken + t .nodes * t .width / 16 + 1) where
+    module _ {was mid : List ℕ} {taken v : ℕ} (b : Before h was t) (e : getD was takenAt 0 ≡ taken) (fits : 12 * taken + t .nodes * t .width ≤ 3059) (copied : PartCopied (set was (45952 + 12 * taken) (t .nodes)) mid (t .rows) (45953 + 12 * taken) (t .nodes * t .width)) (is : v ≡ taken + t .nodes * t .width / 12 + 1) where
       abbrev first : List ℕ
-      first = set was (45056 + 16 * taken) (t .nodes)
+      first = set was (45952 + 12 * taken) (t .nodes)
 
       abbrev last : List ℕ
       last = set mid takenAt v
 
-      -- blocks of 16 bytes
-      blocks : (t .nodes * t .width / 16 * 16 ≤ t .nodes * t .width) × (t .nodes * t .width < t .nodes * t .width / 16 * 16 + 16)
-      blocks = let all = div-add-mod (t .nodes * t .width) 16 in let rest : t .nodes * t .width % 16 < 16 = mod-lt (t .nodes * t .width) (omega arith) in (omega (arith, all), omega (arith, all, rest))
+      -- blocks of 12 bytes
+      blocks : (t .nodes * t .width / 12 * 12 ≤ t .nodes * t .width) × (t .nodes * t .width < t .nodes * t .width / 12 * 12 + 12)
+      blocks = let all = div-add-mod (t .nodes * t .width) 12 in let rest : t .nodes * t .width % 12 < 12 = mod-lt (t .nodes * t .width) (omega arith) in (omega (arith, all), omega (arith, all, rest))
 
-      below : (q : ℕ) → q ≢ takenAt → q < 45056 + 16 * taken → getD last q 0 ≡ getD was q 0
-      below q n l = getD-set-other mid takenAt q v 0 n ∙ copied .low q (omega (arith, l)) ∙ getD-set-other was (45056 + 16 * taken) q (t .nodes) 0 (λ z. omega (arith, z, l))
+      below : (q : ℕ) → q ≢ takenAt → q < 45952 + 12 * taken → getD last q 0 ≡ getD was q 0
+      below q n l = getD-set-other mid takenAt q v 0 n ∙ copied .low q (omega (arith, l)) ∙ getD-set-other was (45952 + 12 * taken) q (t .nodes) 0 (λ z. omega (arith, z, l))
 
-      above : (q : ℕ) → 45057 + 16 * taken + t .nodes * t .width ≤ q → getD last q 0 ≡ getD was q 0
-      above q l = getD-set-other mid takenAt q v 0 (λ z. omega (arith, z, l)) ∙ copied .high q (omega (arith, l)) ∙ getD-set-other was (45056 + 16 * taken) q (t .nodes) 0 (λ z. omega (arith, z, l))
+      above : (q : ℕ) → 45953 + 12 * taken + t .nodes * t .width ≤ q → getD last q 0 ≡ getD was q 0
+      above q l = getD-set-other mid takenAt q v 0 (λ z. omega (arith, z, l)) ∙ copied .high q (omega (arith, l)) ∙ getD-set-other was (45952 + 12 * taken) q (t .nodes) 0 (λ z. omega (arith, z, l))
 
       module _ (long : length mid ≡ length was) where
         pub new-taken : getD last takenAt 0 ≡ v
@@ -279,13 +279,13 @@ module _ (h : Shape) where
 
         new-count : getD last (keptAt (taken + 1)) 0 ≡ t .nodes
         new-count =
-            let x : keptAt (taken + 1) ≡ 45056 + 16 * taken = omega arith in
-            ap (λ (q : ℕ). getD last q 0) x ∙ getD-set-other mid takenAt (45056 + 16 * taken) v 0 (λ z. omega (arith, z)) ∙ copied .low (45056 + 16 * taken) (omega arith) ∙ getD-set-same was (45056 + 16 * taken) (t .nodes) 0 (omega (arith, fits, b .room))
+            let x : keptAt (taken + 1) ≡ 45952 + 12 * taken = omega arith in
+            ap (λ (q : ℕ). getD last q 0) x ∙ getD-set-other mid takenAt (45952 + 12 * taken) v 0 (λ z. omega (arith, z)) ∙ copied .low (45952 + 12 * taken) (omega arith) ∙ getD-set-same was (45952 + 12 * taken) (t .nodes) 0 (omega (arith, fits, b .room))
 
         new-byte : (q : ℕ) → q < t .nodes * t .width → getD last (keptAt (taken + 1) + 1 + q) 0 ≡ getD last (t .rows + q) 0
         new-byte q l =
-            let x : keptAt (taken + 1) + 1 + q ≡ 45057 + 16 * taken + q = omega arith in
-            ap (λ (q : ℕ). getD last q 0) x ∙ getD-set-other mid takenAt (45057 + 16 * taken + q) v 0 (λ z. omega (arith, z)) ∙ copied .part q l ∙ getD-set-other was (45056 + 16 * taken) (t .rows + q) (t .nodes) 0 (λ z. omega (arith, z, l, b .before)) ∙ sym (below (t .rows + q) (λ z. omega (arith, z, l, b .before)) (omega (arith, l, b .before)))
+            let x : keptAt (taken + 1) + 1 + q ≡ 45953 + 12 * taken + q = omega arith in
+            ap (λ (q : ℕ). getD last q 0) x ∙ getD-set-other mid takenAt (45953 + 12 * taken + q) v 0 (λ z. omega (arith, z)) ∙ copied .part q l ∙ getD-set-other was (45952 + 12 * taken) (t .rows + q) (t .nodes) 0 (λ z. omega (arith, z, l, b .before)) ∙ sym (below (t .rows + q) (λ z. omega (arith, z, l, b .before)) (omega (arith, l, b .before)))
 
         pub stored-new : Stored h t was last (taken + 1)
         stored-new = record {
@@ -296,7 +296,7 @@ module _ (h : Shape) where
         }
 
     -- all else is forgotten first
-    pub stored-anew : {was mid cleared now : List ℕ} {r : ℕ} → Only was mid → Cleared mid cleared memoryAt 1586 → Stored h t cleared now r → Stored h t was now r
+    pub stored-anew : {was mid cleared now : List ℕ} {r : ℕ} → Only was mid → Cleared mid cleared memoryAt 2482 → Stored h t cleared now r → Stored h t was now r
     stored-anew {was} {mid} {cleared} {now} o c x = record {
       small = x .small;
       named = x .named;
@@ -383,7 +383,7 @@ module _ (h : Shape) where
       pub recalled-none : {mid : List ℕ} {k : Key} {r : ℕ} → Naming h t was mid r → Recalled h t k was mid 0
       recalled-none x = record { only = x .only; told = λ p K limit few s m. (x .told p K limit few s m .0, fact-none p K _ _) }
 
-      pub recalled : {mid : List ℕ} {k : Key} {r a : ℕ} → length mid ≡ length was → Naming h t was mid r → 0 < r → Place factsAt 7 a → getD mid (a + 6) 0 ≡ r → keyAt mid a ≡ k → Recalled h t k was mid (getD mid a 0)
+      pub recalled : {mid : List ℕ} {k : Key} {r a : ℕ} → length mid ≡ length was → Naming h t was mid r → 0 < r → Place 256 factsAt 7 a → getD mid (a + 6) 0 ≡ r → keyAt mid a ≡ k → Recalled h t k was mid (getD mid a 0)
       recalled {mid} {k} {r} {a} long x some place e key = record {
         only = x .only;
         told = λ p K limit few s m.
@@ -397,7 +397,7 @@ module _ (h : Shape) where
       pub remembered-none : {mid : List ℕ} {m : ℕ} {k : Key} {r : ℕ} → Naming h t was mid r → Remembered h t m k was mid
       remembered-none x = record { only = x .only; memory = λ p K limit few s y f. x .told p K limit few s y .0 }
 
-      module _ {mid put : List ℕ} {m r a : ℕ} {k : Key} (long : length mid ≡ length was) (long′ : length put ≡ length mid) (x : Naming h t was mid r) (some : 0 < r) (place : Place factsAt 7 a) (key : KeyPut mid put a m k) where
+      module _ {mid put : List ℕ} {m r a : ℕ} {k : Key} (long : length mid ≡ length was) (long′ : length put ≡ length mid) (x : Naming h t was mid r) (some : 0 < r) (place : Place 256 factsAt 7 a) (key : KeyPut mid put a m k) where
         abbrev noted : List ℕ
         noted = set put (a + 6) r
 
@@ -441,8 +441,8 @@ module _ (h : Shape) where
         }
 
 -- the place that a number leads to
-pub placed : (first size x : ℕ) → Place first size (first + size * (x % 128))
-placed first size x = record { number = x % 128; few = mod-lt x (omega arith); is = refl }
+pub placed : (count : ℕ) → 0 < count → (first size x : ℕ) → Place count first size (first + size * (x % count))
+placed count some first size x = record { number = x % count; few = mod-lt x some; is = refl }
 
 -- four bytes put down
 module _ (was : List ℕ) (a n r x y : ℕ) (room : a + 4 ≤ length was) where
@@ -492,7 +492,7 @@ module _ (h : Shape) where
   width = h .fluents + h .characters
 
   -- a step put down
-  module _ {t : Table} {was now : List ℕ} {name root a next at : ℕ} (b : Before h was t) (e : getD was (43470 + t .rows / 961) 0 ≡ name) (some : 0 < name) (place : Place stepsAt 4 at) (put : StepPut was now at name root a next) where
+  module _ {t : Table} {was now : List ℕ} {name root a next at : ℕ} (b : Before h was t) (e : getD was (43470 + t .rows / 961) 0 ≡ name) (some : 0 < name) (place : Place 128 stepsAt 4 at) (put : StepPut was now at name root a next) where
     step-bounds : (stepsAt ≤ at) × (at + 4 ≤ factsAt)
     step-bounds = (omega (arith, place .is), omega (arith, place .is, place .few))
 

@@ -189,7 +189,7 @@ module _ {th : Theory} {T : List Node} {pack places : List ℕ} {h : Shape} {was
   same-rows now = ap (λ (f : ℕ). rowsBy now (f + h .characters) f (h .characters)) (x .same-fluents) ∙ ap (λ (c : ℕ). rowsBy now (t .fluents + c) (t .fluents) c) (x .same-characters) ∙ ap (λ (w : ℕ). rowsBy now w (t .fluents) (t .characters)) (x .tabled .fits .wide)
 
   -- it is known
-  module _ {K : ℕ} {mid : List ℕ} {name next a at : ℕ} (n : Naming h t was mid name) (long : length mid ≡ length was) (read : StepRead mid at name root a) (place : Place stepsAt 4 at) (e : getD mid (at + 3) 0 ≡ next) (m : Memory th K h slot was) where
+  module _ {K : ℕ} {mid : List ℕ} {name next a at : ℕ} (n : Naming h t was mid name) (long : length mid ≡ length was) (read : StepRead mid at name root a) (place : Place 128 stepsAt 4 at) (e : getD mid (at + 3) 0 ≡ next) (m : Memory th K h slot was) where
     abbrev mid-memory : Memory th K h slot mid × (0 < name → Named h mid t name)
     mid-memory = n .told th K slot (omega (arith, bound)) (x .slotted) m
 

@@ -20,10 +20,10 @@ pub struct Key {
 // The place of the entry for a name and a key.
 pub fn fact_at(name: usize, k: Key) -> usize
     requires { ⌜ name < 256 ⌝ }
-    ensures { λ r. ⌜ Place 44160 7 r ⌝ }
+    ensures { λ r. ⌜ Place 256 44160 7 r ⌝ }
 {
-    let h = name * 11 + k.who % 8 * 37 + k.left % 8 * 5 + k.nesting % 4;
-    44160 + 7 * (h % 128)
+    let h = name * 11 + k.who % 8 * 37 + k.left % 32 * 5 + k.nesting % 4;
+    44160 + 7 * (h % 256)
 }
 
 // Whether an entry has a key.

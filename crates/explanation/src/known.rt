@@ -18,7 +18,7 @@ ghost use Rattle.explanation.specs.Inner.Explain.{Stage, Steppable, Adva
 // The place of the entry for an action in a row of the table of a name.
 pub fn step_at(name: usize, root: usize, action: usize) -> usize
     requires { ⌜ (name < 256) × (root < 256) × (action < 256) ⌝ }
-    ensures { λ r. ⌜ Place 43648 4 r ⌝ }
+    ensures { λ r. ⌜ Place 128 43648 4 r ⌝ }
 {
     43648 + 4 * ((name * 11 + root * 5 + action) % 128)
 }
@@ -71,7 +71,7 @@ pub fn again(work: &mut [u8], p: Shape, next: usize, slot: usize) -> u8
     if next == 0 {
         return 10;
     }
-    let from = 45040 + 16 * next;
+    let from = 45940 + 12 * next;
     let nodes = wide(work[from]);
     copy_part(work, from, slot, 1 + nodes * (p.fluents + p.characters));
     work[43470 + slot / 961] = next as u8;

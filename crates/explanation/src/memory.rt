@@ -34,13 +34,13 @@ pub fn goes_by(work: &[u8], p: Shape, t: Table, name: usize) -> bool
         return false;
     }
     let n = t.nodes * t.width;
-    if 16 * wide(work[43518]) + 15 < 16 * name + n {
+    if 12 * wide(work[43518]) + 11 < 12 * name + n {
         return false;
     }
-    if wide(work[45040 + 16 * name]) != t.nodes {
+    if wide(work[45940 + 12 * name]) != t.nodes {
         return false;
     }
-    n <= first_other(work, t.rows, 45041 + 16 * name, n)
+    n <= first_other(work, t.rows, 45941 + 12 * name, n)
 }
 
 // Keeps a table where there is room: its name, or 0.
@@ -50,12 +50,12 @@ pub fn store(work: &mut [u8], p: Shape, t: Table) -> usize
 {
     let n = t.nodes * t.width;
     let taken = wide(work[43518]);
-    if 4079 < 16 * taken + n {
+    if 3059 < 12 * taken + n {
         return 0;
     }
-    work[45056 + 16 * taken] = t.nodes as u8;
-    copy_part(work, t.rows, 45057 + 16 * taken, n);
-    work[43518] = (taken + n / 16 + 1) as u8;
+    work[45952 + 12 * taken] = t.nodes as u8;
+    copy_part(work, t.rows, 45953 + 12 * taken, n);
+    work[43518] = (taken + n / 12 + 1) as u8;
     taken + 1
 }
 
@@ -68,7 +68,7 @@ pub fn keep(work: &mut [u8], p: Shape, t: Table) -> usize
     if name != 0 {
         return name;
     }
-    clear(work, 43470, 1586);
+    clear(work, 43470, 2482);
     store(work, p, t)
 }
 

@@ -72,7 +72,7 @@ module _ {th : Theory} {T : List Node} {pack places : List ℕ} {h : Shape} {cha
     }
 
     -- the memory is empty then
-    module _ {then : List ℕ} (cl : Cleared mid then memoryAt 1586) (long : length then ≡ length mid) where
+    module _ {then : List ℕ} (cl : Cleared mid then memoryAt 2482) (long : length then ≡ length mid) where
       pub judge-ready : Stage th T pack places h then judgeFrom 961
       judge-ready = stage-same judge-stage (λ q l. cl .low q (omega arith)) long
 

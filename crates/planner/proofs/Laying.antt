@@ -37,7 +37,7 @@ module _ {T : List Node} {pack : List ℕ} {first nodes : ℕ} {h : Shape} {work
       pub lay-down : Apart 2400 1 (r * w) × (2400 + r * w ≤ length (set mid′ 0 r)) × (1 + r * w ≤ length (set mid′ 0 r))
       lay-down = let room = length-set mid′ 0 r ∙ long ∙ y .long in (omega (arith, merged-size), omega (arith, merged-size, room, x .room), omega (arith, merged-size, room, x .room))
 
-      pub lay-done : {now then : List ℕ} → PartCopied (set mid′ 0 r) now 2400 1 (r * w) → Cleared now then memoryAt 1586 → LaidStart T h work then
+      pub lay-done : {now then : List ℕ} → PartCopied (set mid′ 0 r) now 2400 1 (r * w) → Cleared now then memoryAt 2482 → LaidStart T h work then
       lay-done {now} {then} c cl =
           let count : getD then 0 0 ≡ r = cl .low 0 (omega arith) ∙ c .low 0 (omega arith) ∙ getD-set-same mid′ 0 r 0 (omega (arith, long, y .long, x .room)) in
           let rows : rowsAt then w f C 1 r ≡ rowsAt mid′ w f C 2400 r = rows-same mid′ then w f C 2400 1 r (omega arith) (λ q l. cl .low (1 + q) (omega (arith, l, merged-size)) ∙ c .part q l ∙ getD-set-other mid′ 0 (2400 + q) r 0 (λ e. omega (arith, e))) in

@@ -74,7 +74,7 @@ pub fn judge_chart(
         characters: p.characters,
         width: p.fluents + p.characters,
     };
-    clear(work, 43470, 1586);
+    clear(work, 43470, 2482);
     let verdict = explained(
         pack,
         places,

@@ -295,7 +295,7 @@ pub fn lay_start(pack: &[u8], first: usize, nodes: usize, p: Shape, work: &mut [
     let rows = merge_table(work, nodes, width, p.fluents, p.characters);
     work[0] = rows as u8;
     copy_part(work, 2400, 1, rows * width);
-    clear(work, 43470, 1586);
+    clear(work, 43470, 2482);
 }
 
 // The search from what node 0 means of the nodes that are read from `first` on. The work buffer is cleared.

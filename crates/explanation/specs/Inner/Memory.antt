@@ -17,7 +17,7 @@ use Rattle.explanation.specs.declared.fact.Key.{Key}
 use Rattle.explanation.specs.Ending.{Explained}
 use Rattle.explanation.specs.Inner.Lists.{slotTable, Above, Ends}
 
--- where it begins, with the name of the table in each slot; how many blocks of 16 bytes are taken; behind that are names found by a hash, of which nothing is asked; then steps, lists and tables
+-- where it begins, with the name of the table in each slot; how many blocks of 12 bytes are taken; behind that are names found by a hash, of which nothing is asked; then steps, lists and tables
 abbrev pub memoryAt : ℕ
 memoryAt = 43470
 
@@ -31,11 +31,11 @@ abbrev pub factsAt : ℕ
 factsAt = 44160
 
 abbrev pub tablesAt : ℕ
-tablesAt = 45056
+tablesAt = 45952
 
 -- the table of a name begins with a block
 abbrev pub keptAt : ℕ → ℕ
-keptAt n = 45040 + 16 * n
+keptAt n = 45940 + 12 * n
 
 abbrev pub keptTable : Shape → List ℕ → ℕ → Table
 keptTable h work n = slotTable h work (keptAt n)
@@ -44,7 +44,7 @@ keptTable h work n = slotTable h work (keptAt n)
 pub record Kept (h : Shape) (work : List ℕ) (n : ℕ) : Type 0 where
   pub some : 0 < n
   pub few : getD work (keptAt n) 0 ≤ 32
-  pub inside : keptAt n + 1 + getD work (keptAt n) 0 * (h .fluents + h .characters) ≤ tablesAt + 16 * getD work takenAt 0
+  pub inside : keptAt n + 1 + getD work (keptAt n) 0 * (h .fluents + h .characters) ≤ tablesAt + 12 * getD work takenAt 0
 
 -- n is the name of a table
 pub record Named (h : Shape) (work : List ℕ) (t : Table) (n : ℕ) : Type 0 where
@@ -86,12 +86,12 @@ pub record Memory (p : Theory) (foresight : ℕ) (h : Shape) (limit : ℕ) (work
   pub narrow : h .fluents + h .characters ≤ 30
   pub slots : (i : ℕ) → 961 * i + 961 ≤ limit → SlotEntry h work i
   pub steps : (i : ℕ) → i < 128 → StepEntry p h work (stepsAt + 4 * i)
-  pub facts : (i : ℕ) → i < 128 → FactEntry p foresight h work (factsAt + 7 * i)
+  pub facts : (i : ℕ) → i < 256 → FactEntry p foresight h work (factsAt + 7 * i)
 
--- where an entry begins, of 128 of so many bytes
-pub record Place (first size a : ℕ) : Type 0 where
+-- where an entry begins, of so many of a size
+pub record Place (count first size a : ℕ) : Type 0 where
   pub number : ℕ
-  pub few : number < 128
+  pub few : number < count
   pub is : a ≡ first + size * number
 
 -- a table before the memory

@@ -1,5 +1,6 @@
 -- The place of an entry. Assumes nothing.
 use Rattle.explanation.proofs.Remembering.{placed}
+use native.Mathlib.Omega.{arith}
 use borrow.Author.Needs.{needs}
 use Rattle.explanation.proofs.fact.fact_at.Statement.{statement}
 use Rattle.explanation.proofs.fact.fact_at.Tie as tie
@@ -15,4 +16,4 @@ fact-at-spec =
     (λ c. search needs)
     (λ c. search needs)
     (λ c. search needs)
-    (λ c. placed 44160 7 _))
+    (λ c. placed 256 (omega arith) 44160 7 _))

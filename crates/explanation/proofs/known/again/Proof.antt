@@ -27,7 +27,7 @@ returns-2 c =
     let k = c .before .before .before .before .before .before .before .before .before .pre .2 (omega (arith, c .before .before .before .before .before .before .before .if1 .left)) in
     let a = c .before .before .before .before .before .before .before .before .before .args in
     let copied = c .before .before .copy-part in
-    copied-again (a .p) (c .before .before .before .before .before .before .before .before .before .pre .0) (omega (arith, c .before .before .before .before .before .before .before .before .slice-known .given 43518)) k (subst (λ (n : ℕ). PartCopied (a .work .now) (copied .last .0) (45040 + 16 * a .next) (a .slot) (1 + n * (a .p .fluents + a .p .characters))) (sym (c .before .before .before .before .before .wide .ensures)) (copied .ensures)) (copied .kept .0)
+    copied-again (a .p) (c .before .before .before .before .before .before .before .before .before .pre .0) (omega (arith, c .before .before .before .before .before .before .before .before .slice-known .given 43518)) k (subst (λ (n : ℕ). PartCopied (a .work .now) (copied .last .0) (45940 + 12 * a .next) (a .slot) (1 + n * (a .p .fluents + a .p .characters))) (sym (c .before .before .before .before .before .wide .ensures)) (copied .ensures)) (copied .kept .0)
 
 pub again-spec : {M : Type 1} → statement M
 again-spec =

@@ -1,5 +1,6 @@
 -- The place of an entry. Assumes nothing.
 use Rattle.explanation.proofs.Remembering.{placed}
+use native.Mathlib.Omega.{arith}
 use borrow.Author.Needs.{needs}
 use Rattle.explanation.proofs.known.step_at.Statement.{statement}
 use Rattle.explanation.proofs.known.step_at.Tie as tie
@@ -14,4 +15,4 @@ step-at-spec =
     (λ c. search needs)
     (λ c. search needs)
     (λ c. search needs)
-    (λ c. placed 43648 4 _))
+    (λ c. placed 128 (omega arith) 43648 4 _))

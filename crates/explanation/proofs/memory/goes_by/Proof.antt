@@ -16,7 +16,7 @@ returns-4 c =
     let a = c .before .before .before .before .before .before .before .before .before .before .before .args in
     let f = c .first-other in
     kept-as (a .p) (c .before .before .before .before .before .before .before .before .before .before .before .pre .0) (a .name) (omega (arith, c .before .before .before .before .before .before .before .before .before .if1 .left)) (omega (arith, c .before .before .before .before .before .if2 .left, c .before .before .before .before .before .before .wide .ensures)) (omega (arith, c .before .before .before .wide2 .ensures, c .before .if3 .left))
-    (λ q l. let x : 45040 + 16 * a .name + 1 + q ≡ 45041 + 16 * a .name + q = omega arith in ap (λ (q : ℕ). getD (a .work .now) q 0) x ∙ sym (f .ensures .before q (omega (arith, l, leb-true (a .t .nodes * a .t .width) (f .result) e))))
+    (λ q l. let x : 45940 + 12 * a .name + 1 + q ≡ 45941 + 12 * a .name + q = omega arith in ap (λ (q : ℕ). getD (a .work .now) q 0) x ∙ sym (f .ensures .before q (omega (arith, l, leb-true (a .t .nodes * a .t .width) (f .result) e))))
 
 pub goes-by-spec : {M : Type 1} → statement M
 goes-by-spec =
