@@ -1,4 +1,3 @@
 -- The modules of `proofs/` that belong to no one function.
 pub mod Remembering
-pub mod Looking
 pub mod Telling

@@ -20,7 +20,7 @@ use Rattle.chart.specs.Call.{workRoom}
 use Rattle.partition.specs.Inner.Put.{Cleared, PartCopied}
 use Rattle.partition.specs.Inner.Level.{Agrees, SameByte}
 use Rattle.partition.proofs.Cells.{rows-same, row-in, rows-most}
-use Rattle.explanation.specs.declared.explain.Shape.{Shape}
+use Rattle.explanation.specs.declared.memory.Shape.{Shape}
 use Rattle.explanation.specs.declared.fact.Key.{Key}
 use Rattle.explanation.specs.Inner.Lists.{slotTable}
 use Rattle.explanation.specs.Inner.Memory.{memoryAt, takenAt, stepsAt, factsAt, tablesAt, keptAt, keptTable, Kept, Named, StepFact, Fact, keyAt, SlotEntry, StepEntry, FactEntry, Memory, Place, Before, InSlot, Only, Stored, Naming, Storable, KeyPut, Recalled, Remembered, StepRead, StepPut, Noted, Slot, Again, LeftNoted}

@@ -34,14 +34,13 @@ use Rattle.change.specs.Happening.{nothing, actionOf, Plays}
 use Rattle.transition.specs.Laws.Settled.{plays-one, plays-refuses}
 use Rattle.transition.specs.Inner.Play.{Setting, Left, PlayedIn}
 use Rattle.change.proofs.Changing.{tabled-same, small, row-inside, belief-is, belief-in as inside-table}
-use Rattle.explanation.specs.declared.explain.Shape.{Shape}
+use Rattle.explanation.specs.declared.memory.Shape.{Shape}
 use Rattle.explanation.specs.declared.fact.Key.{Key}
 use Rattle.explanation.specs.Ending.{Leads, Explained, utilityTo}
 use Rattle.explanation.specs.Inner.Lists.{slotTable, Other, AboveBy, AboveBySome, Agreed}
 use Rattle.explanation.specs.Inner.Lists as inner
 use Rattle.explanation.specs.Inner.Memory.{stepsAt, keptTable, Named, StepFact, StepEntry, Memory, Fact, Place, Before, InSlot, Naming, StepRead, Noted, Slot, Again, LeftNoted}
 use Rattle.explanation.specs.Inner.Explain.{Stage, Free, Told, Advanced}
-use Rattle.explanation.specs.Inner.Look.{Looking, Tryable, Hopeless}
 use Rattle.explanation.proofs.Remembering.{fact-same, row-states, grown-by, before-now, named-state, memory-quiet, memory-fewer}
 
 -- Told: passed on
@@ -93,17 +92,6 @@ module _ {th : Theory} {T : List Node} {pack places : List ℕ} {h : Shape} {was
 
   pub stage-setting : Free slot 1 → Setting th T pack places (h .actions) (h .triggers) was t slot
   stage-setting f = record { theorized = x .theorized; tabled = x .tabled; room = record { source = omega (arith, x .behind, f); slot-room = omega (arith, f); room = x .room } }
-
-  -- an action that is looked at
-  module _ {a : ℕ} (l : a < h .actions) where
-    stage-looking : Looking th pack places (h .triggers) a was t
-    stage-looking = record { acting = record { actions = h .actions; theorized = x .theorized; there = l }; over = x .tabled .over; fits = x .tabled .fits; some = x .tabled .some }
-
-    pub stage-tryable : {whose : ℕ} → whose < C + 1 → Tryable pack places (h .triggers) a was t whose
-    stage-tryable i = record { theory = th; looking = stage-looking; rules = i }
-
-    pub stage-hopeless : (whose : ℕ) {left base : ℕ} → Hopeless pack places (h .triggers) a was t whose left base → (s : State) → Plays th (meaning C T 0) a s → (left ≡ 0) × (condition.utility s (getD (th .utilities) whose []) ≤ base)
-    stage-hopeless whose f s plays = f th stage-looking s (subst (λ (U : List Node). Plays th (meaning C U 0) a s) (sym (x .tabled .same)) plays)
 
   -- where utility rules are found
   pub stage-rules : (c root : ℕ) → c < C → root < t .nodes → (Judged rulesAt pack (getD places (321 + c) 0) t was root) × (321 + c < length places)

@@ -2,4 +2,3 @@
 pub mod Lists
 pub mod Memory
 pub mod Explain
-pub mod Look

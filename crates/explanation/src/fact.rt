@@ -1,5 +1,5 @@
 // What is known of the lists from a state: entries by the name of its table, one for each hash, each true.
-use crate::explain::Shape;
+use crate::memory::Shape;
 use crate::memory::name_of;
 use reading::number::wide;
 use state::table::Table;

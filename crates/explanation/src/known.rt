@@ -1,5 +1,5 @@
 // Steps that are known: what an action leaves of a row of a kept table is made once, and then copied.
-use crate::explain::Shape;
+use crate::memory::Shape;
 use crate::memory::name_of;
 use partition::bytes::copy_part;
 use reading::number::wide;

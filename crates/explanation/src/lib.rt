@@ -1,6 +1,4 @@
-// The planner layer below its calls: whether an action is explained to a character, and what is known of states.
-pub mod explain;
+// The planner layer below its searches: what is known of states, of steps from them and of lists.
 pub mod fact;
 pub mod known;
-pub mod look;
 pub mod memory;

@@ -1,5 +1,4 @@
 // What is known of states, behind a step's scratch: tables that are kept, each under a number that is its name. What is known of steps and of lists is known by these names.
-use crate::explain::Shape;
 use partition::bytes::clear;
 use partition::bytes::copy_part;
 use partition::values::first_other;
@@ -10,6 +9,14 @@ ghost use mathlib.Core.Bool.{true};
 ghost use Prim.Native.Nat.{_+_, _*_, _<_, _≤_};
 ghost use lib.ListN.{length};
 ghost use Rattle.explanation.specs.Inner.Memory.{Before, Named, Stored, Naming};
+
+// A pack's counts.
+pub struct Shape {
+    pub actions: usize,
+    pub triggers: usize,
+    pub fluents: usize,
+    pub characters: usize,
+}
 
 // A number below 128 made of n bytes. Nothing depends on which.
 pub fn hash(work: &[u8], from: usize, n: usize) -> usize

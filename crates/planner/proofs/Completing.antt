@@ -20,7 +20,7 @@ use Rattle.chart.specs.Earliest.{Before}
 use Rattle.partition.specs.Laws.Lists.{place}
 use Rattle.change.specs.Happening.{nothing, Plays, actionOf}
 use Rattle.transition.specs.Laws.Settled.{plays-one}
-use Rattle.explanation.specs.declared.explain.Shape.{Shape}
+use Rattle.explanation.specs.declared.memory.Shape.{Shape}
 use Rattle.explanation.specs.Ending.{Leads, Explained, authorUtility}
 use Rattle.explanation.specs.Inner.Lists.{slotTable, Agreed, All, Ends, EndsBy}
 use Rattle.explanation.specs.Inner.Memory.{memoryAt, Fact}

@@ -34,7 +34,7 @@ use Rattle.chart.proofs.Checking.{counted, lent, checks, Accepted, FirstRead, f
 use Rattle.transition.proofs.Loaded.{read-tabled}
 use Rattle.transition.proofs.Loaded.{short-pack}
 use Rattle.planner.specs.declared.Judged.the-variants as judged
-use Rattle.explanation.specs.declared.explain.Shape.{Shape}
+use Rattle.explanation.specs.declared.memory.Shape.{Shape}
 use Rattle.explanation.specs.Ending.{Explained}
 use Rattle.planner.specs.Answers.{explainedTable}
 use Rattle.planner.specs.Replies.{foresightLimit, nestingLimit, explainedReply}

@@ -14,7 +14,7 @@ use Rattle.partition.specs.Inner.Put.{Cleared, Apart, PartCopied}
 use Rattle.chart.specs.Inner.Start.{Merged}
 use Rattle.partition.proofs.Cells.{rows-same}
 use Rattle.chart.proofs.Loading.{read-small, read-same, merged-small}
-use Rattle.explanation.specs.declared.explain.Shape.{Shape}
+use Rattle.explanation.specs.declared.memory.Shape.{Shape}
 use Rattle.explanation.specs.Inner.Memory.{memoryAt}
 use Rattle.planner.specs.Inner.Search.{Laying, LaidStart}
 use Rattle.explanation.proofs.Remembering.{emptied}

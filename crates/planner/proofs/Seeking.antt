@@ -36,7 +36,7 @@ use Rattle.chart.proofs.Looking.{cleared-all}
 use Rattle.transition.proofs.Loaded.{short-pack}
 use Rattle.planner.specs.declared.Found.{Found}
 use Rattle.planner.specs.declared.Found.the-variants as found
-use Rattle.explanation.specs.declared.explain.Shape.{Shape}
+use Rattle.explanation.specs.declared.memory.Shape.{Shape}
 use Rattle.planner.specs.declared.search.Ended.{Ended}
 use Rattle.explanation.specs.Ending.{Ending, authorUtility}
 use Rattle.planner.specs.Search.{Answer, ending, none, Sought, Searched}

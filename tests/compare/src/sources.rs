@@ -7,8 +7,8 @@ use std::path::{Path, PathBuf};
 use std::process::Command;
 
 /// The crates, each over those before it.
-const CRATES: [&str; 9] =
-    ["reading", "state", "pack", "partition", "chart", "change", "transition", "explanation", "planner"];
+const CRATES: [&str; 10] =
+    ["reading", "state", "pack", "partition", "chart", "change", "transition", "explanation", "reason", "planner"];
 
 /// Something that the search does without, by changed lines: the file, what it says, and what it is to say.
 pub struct Off {
@@ -26,15 +26,15 @@ pub const OFF: [Off; 8] = [
     Off {
         name: "memory of verdicts",
         edits: &[
-            ("explanation/explain.rs", "if known == 4 {", "if known == 9 {"),
-            ("explanation/explain.rs", "if known == 5 {", "if known == 9 {"),
+            ("reason/explain.rs", "if known == 4 {", "if known == 9 {"),
+            ("reason/explain.rs", "if known == 5 {", "if known == 9 {"),
         ],
     },
     Off {
         name: "memory of characters' lists",
         edits: &[
-            ("explanation/explain.rs", "if known == 1 {", "if known == 9 {"),
-            ("explanation/explain.rs", "if known == 2 {", "if known == 9 {"),
+            ("reason/explain.rs", "if known == 1 {", "if known == 9 {"),
+            ("reason/explain.rs", "if known == 2 {", "if known == 9 {"),
         ],
     },
     Off {
@@ -45,20 +45,20 @@ pub const OFF: [Off; 8] = [
         name: "repeats on the author's path",
         edits: &[("planner/search.rs", "if repeats(work, p, slot, done) {", "if false {")],
     },
-    Off { name: "conditions before consenters", edits: &[("explanation/look.rs", "if !may {", "if false {")] },
-    Off { name: "look before a last action", edits: &[("explanation/look.rs", "if 0 < left {", "if true {")] },
+    Off { name: "conditions before consenters", edits: &[("reason/look.rs", "if !may {", "if false {")] },
+    Off { name: "look before a last action", edits: &[("reason/look.rs", "if 0 < left {", "if true {")] },
     Off {
         name: "all of them",
         edits: &[
             ("explanation/known.rs", "if step_is(work, at, name, root, action) {", "if false {"),
-            ("explanation/explain.rs", "if known == 4 {", "if known == 9 {"),
-            ("explanation/explain.rs", "if known == 5 {", "if known == 9 {"),
-            ("explanation/explain.rs", "if known == 1 {", "if known == 9 {"),
-            ("explanation/explain.rs", "if known == 2 {", "if known == 9 {"),
+            ("reason/explain.rs", "if known == 4 {", "if known == 9 {"),
+            ("reason/explain.rs", "if known == 5 {", "if known == 9 {"),
+            ("reason/explain.rs", "if known == 1 {", "if known == 9 {"),
+            ("reason/explain.rs", "if known == 2 {", "if known == 9 {"),
             ("planner/search.rs", "if recall(work, p, t, key) == 3 {", "if false {"),
             ("planner/search.rs", "if repeats(work, p, slot, done) {", "if false {"),
-            ("explanation/look.rs", "if !may {", "if false {"),
-            ("explanation/look.rs", "if 0 < left {", "if true {"),
+            ("reason/look.rs", "if !may {", "if false {"),
+            ("reason/look.rs", "if 0 < left {", "if true {"),
         ],
     },
 ];

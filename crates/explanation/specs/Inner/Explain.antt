@@ -15,7 +15,7 @@ use Rattle.chart.specs.Inner.Look.{NodesRead}
 use Rattle.change.specs.Inner.Cause.{Tabled}
 use Rattle.change.specs.Happening.{Plays}
 use Rattle.transition.specs.Inner.Play.{Theorized, Left}
-use Rattle.explanation.specs.declared.explain.Shape.{Shape}
+use Rattle.explanation.specs.declared.memory.Shape.{Shape}
 use Rattle.explanation.specs.Inner.Memory.{InSlot, Memory}
 
 -- a theory, found in the pack, and a table before the first free slot

@@ -7,7 +7,7 @@ use Rattle.state.specs.Syntax.{Theory}
 use Rattle.state.specs.State.{State}
 use Rattle.state.specs.declared.table.Table.{Table}
 use Rattle.change.specs.Happening.{actionOf}
-use Rattle.explanation.specs.declared.explain.Shape.{Shape}
+use Rattle.explanation.specs.declared.memory.Shape.{Shape}
 use Rattle.explanation.specs.Ending.{Explained, utilityTo, authorUtility}
 use Rattle.explanation.specs.Laws.Explaining as explaining
 

@@ -12,7 +12,7 @@ use Rattle.state.specs.declared.table.Table.{Table}
 use Rattle.chart.specs.Call.{workRoom}
 use Rattle.partition.specs.Chart.{Starts}
 use Rattle.change.specs.Happening.{Plays}
-use Rattle.explanation.specs.declared.explain.Shape.{Shape}
+use Rattle.explanation.specs.declared.memory.Shape.{Shape}
 use Rattle.explanation.specs.declared.fact.Key.{Key}
 use Rattle.explanation.specs.Ending.{Explained}
 use Rattle.explanation.specs.Inner.Lists.{slotTable, Above, Ends}

@@ -13,7 +13,7 @@ use Rattle.chart.specs.Earliest.{Before}
 use Rattle.chart.specs.Inner.Look.{NodesFrom}
 use Rattle.transition.specs.Inner.Play.{Theorized}
 use Rattle.planner.specs.declared.Found.{Found}
-use Rattle.explanation.specs.declared.explain.Shape.{Shape}
+use Rattle.explanation.specs.declared.memory.Shape.{Shape}
 use Rattle.planner.specs.declared.search.Ended.{Ended}
 use Rattle.planner.specs.Search.{Answer, Searched}
 use Rattle.planner.specs.Replies.{answerReply}

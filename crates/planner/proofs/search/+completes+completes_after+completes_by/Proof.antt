@@ -18,7 +18,8 @@ use Rattle.explanation.specs.Inner.Memory.{Memory}
 use Rattle.explanation.specs.Inner.Explain.{Stage, Free}
 use Rattle.planner.specs.Inner.Search.{Best, Trail}
 use Rattle.explanation.proofs.Remembering.{memory-fewer}
-use Rattle.explanation.proofs.Telling.{stage-same, stage-tryable, stage-hopeless, nextTable, next-plays, next-stage, slot-stage, slot-same, stage-before, stage-state, known, note}
+use Rattle.reason.proofs.Looking.{stage-tryable, stage-hopeless}
+use Rattle.explanation.proofs.Telling.{stage-same, nextTable, next-plays, next-stage, slot-stage, slot-same, stage-before, stage-state, known, note}
 use Rattle.planner.proofs.Completing.{best-none, best-from, best-noted, best-same, fact-of-none, trail-step, trail-same, trail-repeats, best-end, best-first, best-no, best-hopeless, best-by, best-by-none, agreed-from, agreed-to}
 use borrow.Fn.Kinds.{In}
 use borrow.Fn.PlainCycle.{Measures, is, falls, and}
@@ -32,8 +33,8 @@ use Rattle.planner.proofs.search.completes_by.Reads as completes-by
 use Rattle.planner.proofs.search.completes_by.Kinds as completes-by-kinds
 use Rattle.planner.proofs.search.+completes+completes_after+completes_by.Lts-completes_by as completes-by-lts
 use Rattle.reading.proofs.number.wide.Reads as wide-reads
-use Rattle.explanation.proofs.explain.allowed.Reads as allowed-reads
-use Rattle.explanation.proofs.look.promising.Reads as promising-reads
+use Rattle.reason.proofs.explain.allowed.Reads as allowed-reads
+use Rattle.reason.proofs.look.promising.Reads as promising-reads
 use Rattle.explanation.proofs.fact.recall.Reads as recall-reads
 use Rattle.explanation.proofs.fact.remember.Reads as remember-reads
 use Rattle.planner.proofs.search.ends.Reads as ends-reads

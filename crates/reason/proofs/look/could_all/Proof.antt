@@ -3,9 +3,9 @@ use native.Mathlib.Omega.{arith}
 use borrow.Author.Needs.{needs}
 use borrow.Author.Tests.{not-true, not-false}
 use Rattle.state.specs.Grammar.{testAt}
-use Rattle.explanation.proofs.Looking.{Rest, run-start, run-stop, run-on, run-none, testRun, look-next, look-inside, test-inside, test-room, test-end, all-by, all-none}
-use Rattle.explanation.proofs.look.could_all.Statement.{statement}
-use Rattle.explanation.proofs.look.could_all.Tie as tie
+use Rattle.reason.proofs.Looking.{Rest, run-start, run-stop, run-on, run-none, testRun, look-next, look-inside, test-inside, test-room, test-end, all-by, all-none}
+use Rattle.reason.proofs.look.could_all.Statement.{statement}
+use Rattle.reason.proofs.look.could_all.Tie as tie
 
 abbrev Inv-loop : tie.InvT-loop
 Inv-loop pack places triggers x at work t n₀ left₀ n left = Rest (testRun pack places triggers x work t) pack at n left

@@ -8,8 +8,8 @@ use lib.ListN.{length, getD}
 use lib.Dec.{eqb}
 use borrow.Author.Count.{below-more}
 use borrow.Author.Tests.{eq-eqb, ne-eqb, lt-ltb, le-ltb}
-use Rattle.state.specs.Syntax.{Effect, Trigger, Test, Condition, Rule, Theory}
-use Rattle.state.specs.State.{State}
+use Rattle.state.specs.Syntax.{Effect, Trigger, Test, Condition, Rule, Node, Theory}
+use Rattle.state.specs.State.{State, meaning}
 use Rattle.reading.specs.Reading.{Reading, done, Reader, pick}
 use Rattle.reading.specs.Number.{counted, numberAt}
 use Rattle.state.specs.Grammar.{Dimensions, dimensions, testAt, conditionAt, rulesAt, ruleAt, effectAt, effectsAt}
@@ -20,9 +20,11 @@ use Rattle.state.specs.Table.{stateOf, bytesAt}
 use Rattle.state.specs.declared.table.Table.{Table}
 use Rattle.state.proofs.Judging.{Left, Next, left-start, left-one, left-next, left-none, counted-starts, test-ends, RuleParts, rule-parts}
 use Rattle.state.proofs.OneByte.{test-bytes, effect-bytes}
-use Rattle.change.specs.Happening.{nothing, actionOf}
+use Rattle.change.specs.Happening.{nothing, actionOf, Plays}
 use Rattle.transition.specs.Laws.Still.{writes, triggerWrites, plays-still, couldAt, couldPass, couldAll, couldHold, couldExceed, no-exceed}
-use Rattle.explanation.specs.Inner.Look.{movedBy, Acting, Acted, Moved, Looking, Lookable, Looked, Tryable, Hopeless}
+use Rattle.explanation.specs.declared.memory.Shape.{Shape}
+use Rattle.explanation.specs.Inner.Explain.{Stage}
+use Rattle.reason.specs.Inner.Look.{movedBy, Acting, Acted, Moved, Looking, Lookable, Looked, Tryable, Hopeless}
 
 -- flags
 pub unequal : true ≡ false → ⊥
@@ -367,3 +369,15 @@ module _ (pack places : List ℕ) (triggers a : ℕ) (work : List ℕ) (t : Tabl
 
   pub try-rules : {whose : ℕ} → Tryable pack places triggers a work t whose → Lookable rulesAt pack places triggers a (getD places (320 + whose) 0) work t
   try-rules {whose} x = record { theory = x .theory; looking = x .looking; value = getD (x .theory .utilities) whose []; stands = rules-at (x .rules) (x .theory) (x .looking) }
+
+-- a table before the free slots, in which an action is looked at
+module _ {th : Theory} {T : List Node} {pack places : List ℕ} {h : Shape} {was : List ℕ} {t : Table} {slot : ℕ} (x : Stage th T pack places h was t slot) where
+  module _ {a : ℕ} (l : a < h .actions) where
+    stage-looking : Looking th pack places (h .triggers) a was t
+    stage-looking = record { acting = record { actions = h .actions; theorized = x .theorized; there = l }; over = x .tabled .over; fits = x .tabled .fits; some = x .tabled .some }
+
+    pub stage-tryable : {whose : ℕ} → whose < t .characters + 1 → Tryable pack places (h .triggers) a was t whose
+    stage-tryable i = record { theory = th; looking = stage-looking; rules = i }
+
+    pub stage-hopeless : (whose : ℕ) {left base : ℕ} → Hopeless pack places (h .triggers) a was t whose left base → (s : State) → Plays th (meaning (t .characters) T 0) a s → (left ≡ 0) × (utility s (getD (th .utilities) whose []) ≤ base)
+    stage-hopeless whose f s plays = f th stage-looking s (subst (λ (U : List Node). Plays th (meaning (t .characters) U 0) a s) (sym (x .tabled .same)) plays)

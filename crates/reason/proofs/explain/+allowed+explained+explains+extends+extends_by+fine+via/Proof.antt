@@ -13,49 +13,50 @@ use Rattle.state.specs.Table.{Below, Above}
 use Rattle.chart.specs.Call.{workRoom}
 use Rattle.change.specs.Happening.{Plays}
 use Rattle.change.proofs.Changing.{small}
 use Rattle.explanation.specs.Ending.{Explained, utilityTo}
 use Rattle.explanation.specs.Inner.Lists.{slotTable, AboveBy}
 use Rattle.explanation.specs.Inner.Lists as inner
 use Rattle.explanation.specs.Inner.Memory.{Memory}
 use Rattle.explanation.specs.Inner.Explain.{Stage, Free}
 use Rattle.explanation.proofs.Remembering.{memory-fewer}
-use Rattle.explanation.proofs.Telling.{Content, told-none, told-by, told-no, told-yes, stage-same, stage-setting, stage-tryable, stage-hopeless, stage-rules, stage-utility, nextTable, next-plays, next-stage, reach-here, reach-no-more, by-hopeless, by-from, by-to, explained-from, explained-to, explained-zero, explained-plays, agreed-all, content-of, content-more, one-less, stage-row, stage-believed, consentersOf, consent-place, consent-readable, consent-count, consent-each, slot-stage, slot-same, stage-before, known, note, verdict, extended, noted}
+use Rattle.reason.proofs.Looking.{stage-tryable, stage-hopeless}
+use Rattle.explanation.proofs.Telling.{Content, told-none, told-by, told-no, told-yes, stage-same, stage-setting, stage-rules, stage-utility, nextTable, next-plays, next-stage, reach-here, reach-no-more, by-hopeless, by-from, by-to, explained-from, explained-to, explained-zero, explained-plays, agreed-all, content-of, content-more, one-less, stage-row, stage-believed, consentersOf, consent-place, consent-readable, consent-count, consent-each, slot-stage, slot-same, stage-before, known, note, verdict, extended, noted}
 use borrow.Fn.Kinds.{In}
 use borrow.Fn.PlainCycle.{Measures, is, falls, and}
-use Rattle.explanation.proofs.explain.allowed.Reads as allowed
-use Rattle.explanation.proofs.explain.allowed.Kinds as allowed-kinds
-use Rattle.explanation.proofs.explain.+allowed+explained+explains+extends+extends_by+fine+via.Lts-allowed as allowed-lts
-use Rattle.explanation.proofs.explain.explained.Reads as explained
-use Rattle.explanation.proofs.explain.explained.Kinds as explained-kinds
-use Rattle.explanation.proofs.explain.+allowed+explained+explains+extends+extends_by+fine+via.Lts-explained as explained-lts
-use Rattle.explanation.proofs.explain.explains.Reads as explains
-use Rattle.explanation.proofs.explain.explains.Kinds as explains-kinds
-use Rattle.explanation.proofs.explain.+allowed+explained+explains+extends+extends_by+fine+via.Lts-explains as explains-lts
-use Rattle.explanation.proofs.explain.extends.Reads as extends
-use Rattle.explanation.proofs.explain.extends.Kinds as extends-kinds
-use Rattle.explanation.proofs.explain.+allowed+explained+explains+extends+extends_by+fine+via.Lts-extends as extends-lts
-use Rattle.explanation.proofs.explain.extends_by.Reads as extends-by
-use Rattle.explanation.proofs.explain.extends_by.Kinds as extends-by-kinds
-use Rattle.explanation.proofs.explain.+allowed+explained+explains+extends+extends_by+fine+via.Lts-extends_by as extends-by-lts
-use Rattle.explanation.proofs.explain.fine.Reads as fine
-use Rattle.explanation.proofs.explain.fine.Kinds as fine-kinds
-use Rattle.explanation.proofs.explain.+allowed+explained+explains+extends+extends_by+fine+via.Lts-fine as fine-lts
-use Rattle.explanation.proofs.explain.via.Reads as via
-use Rattle.explanation.proofs.explain.via.Kinds as via-kinds
-use Rattle.explanation.proofs.explain.+allowed+explained+explains+extends+extends_by+fine+via.Lts-via as via-lts
+use Rattle.reason.proofs.explain.allowed.Reads as allowed
+use Rattle.reason.proofs.explain.allowed.Kinds as allowed-kinds
+use Rattle.reason.proofs.explain.+allowed+explained+explains+extends+extends_by+fine+via.Lts-allowed as allowed-lts
+use Rattle.reason.proofs.explain.explained.Reads as explained
+use Rattle.reason.proofs.explain.explained.Kinds as explained-kinds
+use Rattle.reason.proofs.explain.+allowed+explained+explains+extends+extends_by+fine+via.Lts-explained as explained-lts
+use Rattle.reason.proofs.explain.explains.Reads as explains
+use Rattle.reason.proofs.explain.explains.Kinds as explains-kinds
+use Rattle.reason.proofs.explain.+allowed+explained+explains+extends+extends_by+fine+via.Lts-explains as explains-lts
+use Rattle.reason.proofs.explain.extends.Reads as extends
+use Rattle.reason.proofs.explain.extends.Kinds as extends-kinds
+use Rattle.reason.proofs.explain.+allowed+explained+explains+extends+extends_by+fine+via.Lts-extends as extends-lts
+use Rattle.reason.proofs.explain.extends_by.Reads as extends-by
+use Rattle.reason.proofs.explain.extends_by.Kinds as extends-by-kinds
+use Rattle.reason.proofs.explain.+allowed+explained+explains+extends+extends_by+fine+via.Lts-extends_by as extends-by-lts
+use Rattle.reason.proofs.explain.fine.Reads as fine
+use Rattle.reason.proofs.explain.fine.Kinds as fine-kinds
+use Rattle.reason.proofs.explain.+allowed+explained+explains+extends+extends_by+fine+via.Lts-fine as fine-lts
+use Rattle.reason.proofs.explain.via.Reads as via
+use Rattle.reason.proofs.explain.via.Kinds as via-kinds
+use Rattle.reason.proofs.explain.+allowed+explained+explains+extends+extends_by+fine+via.Lts-via as via-lts
 use Rattle.state.proofs.judge.utility.Reads as utility-reads
 use Rattle.reading.proofs.number.wide.Reads as wide-reads
 use Rattle.state.proofs.write.consenter.Reads as consenter-reads
 use Rattle.state.proofs.write.consenters.Reads as consenters-reads
-use Rattle.explanation.proofs.explain.mark.Reads as mark-reads
-use Rattle.explanation.proofs.look.promising.Reads as promising-reads
+use Rattle.reason.proofs.explain.mark.Reads as mark-reads
+use Rattle.reason.proofs.look.promising.Reads as promising-reads
 use Rattle.explanation.proofs.fact.recall.Reads as recall-reads
 use Rattle.explanation.proofs.fact.remember.Reads as remember-reads
 use Rattle.explanation.proofs.known.known_step.Reads as known-step-reads
-use Rattle.explanation.proofs.explain.+allowed+explained+explains+extends+extends_by+fine+via.{
+use Rattle.reason.proofs.explain.+allowed+explained+explains+extends+extends_by+fine+via.{
   statement,
 }
-use Rattle.explanation.proofs.explain.+allowed+explained+explains+extends+extends_by+fine+via.Tie.{
+use Rattle.reason.proofs.explain.+allowed+explained+explains+extends+extends_by+fine+via.Tie.{
   close,
 }
 

@@ -1,9 +1,9 @@
 -- None of the effects so far writes the fluent. Assumes nothing.
 use native.Mathlib.Omega.{arith}
 use borrow.Author.Needs.{needs}
-use Rattle.explanation.proofs.Looking.{Rest, run-start, run-stop, run-on, run-none, effectRun, effects-inside, effects-next, effect-read, effect-ends, writes-told, writes-by, writes-none}
-use Rattle.explanation.proofs.look.writes.Statement.{statement}
-use Rattle.explanation.proofs.look.writes.Tie as tie
+use Rattle.reason.proofs.Looking.{Rest, run-start, run-stop, run-on, run-none, effectRun, effects-inside, effects-next, effect-read, effect-ends, writes-told, writes-by, writes-none}
+use Rattle.reason.proofs.look.writes.Statement.{statement}
+use Rattle.reason.proofs.look.writes.Tie as tie
 
 abbrev Inv-loop : tie.InvT-loop
 Inv-loop pack at fluent n₀ left₀ n left = Rest (effectRun fluent) pack at n left

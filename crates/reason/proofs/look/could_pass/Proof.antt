@@ -2,9 +2,9 @@
 use mathlib.Core.Path.{_≡_, sym, _∙_}
 use native.Mathlib.Omega.{arith}
 use borrow.Author.Needs.{needs}
-use Rattle.explanation.proofs.Looking.{test-inside, pass-open, pass-moved, pass-still}
-use Rattle.explanation.proofs.look.could_pass.Statement.{statement}
-use Rattle.explanation.proofs.look.could_pass.Tie as tie
+use Rattle.reason.proofs.Looking.{test-inside, pass-open, pass-moved, pass-still}
+use Rattle.reason.proofs.look.could_pass.Statement.{statement}
+use Rattle.reason.proofs.look.could_pass.Tie as tie
 
 -- src/look.rt:84:9
 returns-2 : tie.Need-returns-2

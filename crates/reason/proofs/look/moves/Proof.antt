@@ -2,9 +2,9 @@
 use Prim.Native.Nat.{_-_}
 use native.Mathlib.Omega.{arith}
 use borrow.Author.Needs.{needs}
-use Rattle.explanation.proofs.Looking.{Unmoved, acted-few, own-readable, own-moves, own-still, next-readable, next-moves, next-still, all-still}
-use Rattle.explanation.proofs.look.moves.Statement.{statement}
-use Rattle.explanation.proofs.look.moves.Tie as tie
+use Rattle.reason.proofs.Looking.{Unmoved, acted-few, own-readable, own-moves, own-still, next-readable, next-moves, next-still, all-still}
+use Rattle.reason.proofs.look.moves.Statement.{statement}
+use Rattle.reason.proofs.look.moves.Tie as tie
 
 abbrev Inv-loop : tie.InvT-loop
 Inv-loop pack places triggers x fluent i₀ i = Unmoved pack places triggers x fluent i

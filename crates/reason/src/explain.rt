@@ -1,9 +1,10 @@
 // Explanations: whether a character has a reason of their own for an action. A state is row `root` of a table; the slots of the work buffer from `slot` on are free.
-use crate::fact::Key;
-use crate::fact::recall;
-use crate::fact::remember;
-use crate::known::known_step;
 use crate::look::promising;
+use explanation::fact::Key;
+use explanation::fact::recall;
+use explanation::fact::remember;
+use explanation::known::known_step;
+use explanation::memory::Shape;
 use reading::number::wide;
 use state::judge::utility;
 use state::table::Table;
@@ -15,23 +16,15 @@ ghost use mathlib.Core.List.{List};
 ghost use Prim.Native.Nat.{suc, _+_, _*_, _<_, _≤_};
 ghost use Rattle.state.specs.Syntax.{Node, Theory};
 ghost use Rattle.state.specs.State.{meaning};
 ghost use Rattle.explanation.specs.Ending.{Explained};
 ghost use Rattle.explanation.specs.Inner.Lists.{slotTable, Other, Above, AboveBy, AboveBySome, Agreed};
 ghost use Rattle.explanation.specs.Inner.Memory.{Memory};
 ghost use Rattle.explanation.specs.Inner.Explain.{Stage, Prepared, Free, Told};
 
 // The foresight limit K, and the nesting limit E.
 pub struct Foresight(pub usize);
 
 pub struct Nesting(pub usize);
-
-// A pack's counts.
-pub struct Shape {
-    pub actions: usize,
-    pub triggers: usize,
-    pub fluents: usize,
-    pub characters: usize,
-}
 
 // Whether character c's action a is explained: as is known, or as is found out.
 pub fn explained(

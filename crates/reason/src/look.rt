@@ -1,5 +1,5 @@
 // A look before an action is tried: no step is made for one whose condition fails, nor for a last one after which no rule above some utility could hold. What effects may write, and what is believed, is left open.
-use crate::explain::Shape;
+use explanation::memory::Shape;
 use reading::number::Number;
 use reading::number::read_number;
 use reading::number::wide;
@@ -19,7 +19,7 @@ ghost use Rattle.state.specs.Grammar.{Dimensions, testAt, conditionAt, rulesAt,
 ghost use Rattle.pack.specs.Contents.{Gives};
 ghost use Rattle.state.specs.Judge.{alternativeAt, Small, Readable};
 ghost use Rattle.transition.specs.Laws.Still as still;
-ghost use Rattle.explanation.specs.Inner.Look.{Acted, Moved, Lookable, Looked, Tryable, Hopeless};
+ghost use Rattle.reason.specs.Inner.Look.{Acted, Moved, Lookable, Looked, Tryable, Hopeless};
 
 // Whether the effect at a place writes a fluent of the state itself.
 pub fn sets(pack: &[u8], at: usize, fluent: usize) -> bool

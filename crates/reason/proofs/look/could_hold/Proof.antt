@@ -2,9 +2,9 @@
 use native.Mathlib.Omega.{arith}
 use borrow.Author.Needs.{needs}
 use Rattle.state.specs.Judge.{alternativeAt}
-use Rattle.explanation.proofs.Looking.{Rest, run-start, run-stop, run-on, run-none, alternativeRun, condition-parts, hold-told, look-next, look-inside, look-readable, alternative-end, some-by, some-none}
-use Rattle.explanation.proofs.look.could_hold.Statement.{statement}
-use Rattle.explanation.proofs.look.could_hold.Tie as tie
+use Rattle.reason.proofs.Looking.{Rest, run-start, run-stop, run-on, run-none, alternativeRun, condition-parts, hold-told, look-next, look-inside, look-readable, alternative-end, some-by, some-none}
+use Rattle.reason.proofs.look.could_hold.Statement.{statement}
+use Rattle.reason.proofs.look.could_hold.Tie as tie
 
 abbrev Inv-loop : tie.InvT-loop
 Inv-loop pack places triggers x at work t n₀ left₀ n left = Rest (alternativeRun pack places triggers x work t) pack at n left

@@ -2,9 +2,9 @@
 use mathlib.Core.Path.{refl, sym, _∙_}
 use native.Mathlib.Omega.{arith}
 use borrow.Author.Needs.{needs}
-use Rattle.explanation.proofs.Looking.{effect-read, sets-is, sets-not}
-use Rattle.explanation.proofs.look.sets.Statement.{statement}
-use Rattle.explanation.proofs.look.sets.Tie as tie
+use Rattle.reason.proofs.Looking.{effect-read, sets-is, sets-not}
+use Rattle.reason.proofs.look.sets.Statement.{statement}
+use Rattle.reason.proofs.look.sets.Tie as tie
 
 pub sets-spec : {M : Type 1} → statement M
 sets-spec =

@@ -6,9 +6,9 @@ use borrow.Author.Needs.{needs}
 use Rattle.reading.specs.Said.{said}
 use Rattle.state.specs.Grammar.{ruleAt}
 use Rattle.reading.specs.Laws.Reading.{never, same-value, same-place}
-use Rattle.explanation.proofs.Looking.{Rest, run-start, run-stop, run-on, run-none, ruleRun, rules-parts, exceed-told, look-next, look-inside, look-readable, rule-look, rule-condition, rule-number, exceed-by, exceed-low, exceed-none}
-use Rattle.explanation.proofs.look.could_exceed.Statement.{statement}
-use Rattle.explanation.proofs.look.could_exceed.Tie as tie
+use Rattle.reason.proofs.Looking.{Rest, run-start, run-stop, run-on, run-none, ruleRun, rules-parts, exceed-told, look-next, look-inside, look-readable, rule-look, rule-condition, rule-number, exceed-by, exceed-low, exceed-none}
+use Rattle.reason.proofs.look.could_exceed.Statement.{statement}
+use Rattle.reason.proofs.look.could_exceed.Tie as tie
 
 abbrev Inv-loop : tie.InvT-loop
 Inv-loop pack places triggers x at work t base n₀ left₀ n left = Rest (ruleRun pack places triggers x work t base) pack at n left

@@ -2,9 +2,9 @@
 use native.Mathlib.Omega.{arith}
 use borrow.Author.Needs.{needs}
 use borrow.Author.Tests.{not-true}
-use Rattle.explanation.proofs.Looking.{unequal, try-judged, try-forbidden, try-rules, try-hopeless}
-use Rattle.explanation.proofs.look.promising.Statement.{statement}
-use Rattle.explanation.proofs.look.promising.Tie as tie
+use Rattle.reason.proofs.Looking.{unequal, try-judged, try-forbidden, try-rules, try-hopeless}
+use Rattle.reason.proofs.look.promising.Statement.{statement}
+use Rattle.reason.proofs.look.promising.Tie as tie
 
 pub promising-spec : {M : Type 1} → statement M
 promising-spec =

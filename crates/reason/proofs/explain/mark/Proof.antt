@@ -1,7 +1,7 @@
 -- The mark of a verdict. Assumes nothing.
 use native.Mathlib.Omega.{arith}
-use Rattle.explanation.proofs.explain.mark.Statement.{statement}
-use Rattle.explanation.proofs.explain.mark.Tie as tie
+use Rattle.reason.proofs.explain.mark.Statement.{statement}
+use Rattle.reason.proofs.explain.mark.Tie as tie
 
 returns : tie.Need-returns
 returns c = (λ e. absurd (omega (arith, e)), λ e. c .if1 .taken, omega arith, omega arith)
