@@ -65,8 +65,20 @@ fn use_lines_are_read() {
 fn wrong_programs_have_their_edits() {
     let page = std::fs::read_to_string(repository().join("docs/CONTRACTS.md")).expect("the page");
     let of = [
-        "reading", "state", "pack", "partition", "chart", "difference", "change", "transition", "step", "explanation",
-        "reason", "planner", "export", "ending",
+        "reading",
+        "state",
+        "pack",
+        "partition",
+        "chart",
+        "difference",
+        "change",
+        "transition",
+        "step",
+        "explanation",
+        "reason",
+        "planner",
+        "export",
+        "ending",
     ];
     let cited: Vec<&str> = page.split('`').skip(1).step_by(2).collect();
     let mut there = Vec::new();
