@@ -33,7 +33,7 @@ module _ (h : Change) (n m : ℕ) (l : m < n) where
       let r : (m * 7 + d) % 7 ≡ d = omega arith in
       rw (q, r, ne-eqb m n (omega arith), ne-eqb d (h .old) a, ne-eqb d (h .acted) b)
 
-  slot-acted : h .acted < 7 → h .acted ≢ h .old → memberOf h n (m * 7 + h .acted) ≡ acted m
+  pub slot-acted : h .acted < 7 → h .acted ≢ h .old → memberOf h n (m * 7 + h .acted) ≡ acted m
   unfolding memberOf
   slot-acted few a =
       let q : (m * 7 + h .acted) / 7 ≡ m = omega arith in
@@ -129,9 +129,9 @@ module _ {s : Scene} {pack places effects work : List ℕ} {h : Change} {t : Tab
 
       pub slot-took : b ≡ true → SlotIs h (t .nodes) (believed s C m d) (q * 7 + h .acted)
       slot-took g =
-          let (few, ne) = x .kinds .acts m d hm hd no (took-is m d took ∙ g) in
+          let few = x .kinds .acts m d hm hd no (took-is m d took ∙ g) in
           let l = belief-in (x .tabled) m d hm hd in
-          record { is = slot-acted h (t .nodes) q (omega (arith, eq)) few ne ∙ ap acted eq ∙ sym (quiet ∙ ap (λ (b : Bool). cond b (acted (target T m d)) (old (target T m d))) g); below = omega (arith, eq) }
+          record { is = slot-acted h (t .nodes) q (omega (arith, eq)) few (x .kinds .apart few) ∙ ap acted eq ∙ sym (quiet ∙ ap (λ (b : Bool). cond b (acted (target T m d)) (old (target T m d))) g); below = omega (arith, eq) }
 
       pub slot-kept : b ≡ false → SlotIs h (t .nodes) (believed s C m d) (q * 7 + h .old)
       slot-kept g =

@@ -1,5 +1,5 @@
 -- The pass over the slots of a change, row by row. Assumes nothing.
-use Prim.Native.Nat.{ℕ, suc, _+_, _*_, _/_, _-_, _<_, _≤_, max}
+use Prim.Native.Nat.{ℕ, suc, _+_, _*_, _<_, _≤_, max}
 use mathlib.Core.Path.{_≡_, refl, sym, ap, _∙_, subst}
 use mathlib.Core.List.{List}
 use native.Mathlib.Omega.{arith}
@@ -14,9 +14,8 @@ use Rattle.change.specs.declared.change.Change.{Change}
 use Rattle.change.specs.Happening.{change}
 use Rattle.change.specs.Laws.Changed as changed
 use Rattle.change.specs.Laws.Changed.{Member, acted, There}
-use Rattle.change.specs.Inner.Change.{Scene, Stands, at, tells, next, valuesOf, memberOf, Puts, Laid, RowMade, ChangeMade}
+use Rattle.change.specs.Inner.Change.{Scene, Stands, at, tells, next, valuesOf, memberOf, SlotIs, Puts, Laid, RowMade, ChangeMade}
 use Rattle.change.proofs.Causing.{untold-write}
-use Rattle.change.proofs.Changing.{member-first}
 
 -- how many slots there are
 abbrev pub slotsOf : Table → ℕ
@@ -38,6 +37,10 @@ module _ {s : Scene} {pack places effects was : List ℕ} {h : Change} {t : Tabl
           (omega (arith, l .scratch)) (omega (arith, x .tabled .fits .wide)) (few was b (slotsOf t) count n);
     }
 
+-- the first number is given to the root having taken part
+abbrev pub First : (h : Change) (t : Table) (was : List ℕ) (b : ℕ) → Type 0
+First h t was b = memberOf h (t .nodes) (keyAt was b (slotsOf t) 0) ≡ acted (h .root)
+
 module _ (s : Scene) (h : Change) (t : Table) where
   abbrev C : ℕ
   C = t .characters
@@ -52,17 +55,12 @@ module _ (s : Scene) (h : Change) (t : Table) where
   silent : changed.Silent (s .causes) (s .takes) C (s .table) (tells s C)
   silent m d e v = untold-write (s .causes (at s C m)) (suc d) e v
 
-  -- the last slot is that of the root having taken part
-  last : of (t .nodes * 7) ≡ acted (h .root)
-  last = let e : (t .nodes * 7) / 7 ≡ t .nodes = omega arith in sym (member-first h (t .nodes) (t .nodes * 7) e)
-
-  pub making-start : {old was : List ℕ} {b u root count : ℕ} → Given old was b (slotsOf t) 0 (slotsOf t - 1) root → count ≡ max 0 (suc root) → Making was was b u 0 count × (keyAt was b (slotsOf t) 0 ≡ t .nodes * 7)
-  making-start {was = was} {b} {u} {root} {count} g e =
+  pub making-start : {old was : List ℕ} {b u slot root count : ℕ} → SlotIs h (t .nodes) (acted (h .root)) slot → Given old was b (slotsOf t) 0 slot root → count ≡ max 0 (suc root) → Making was was b u 0 count × First h t was b
+  making-start {was = was} {b} {u} {slot} {root} {count} i g e =
       let one : max 0 (suc root) ≡ 1 = omega (arith, g .next) in
       let zero : root ≡ 0 = omega (arith, g .next) in
-      let slot : slotsOf t - 1 ≡ t .nodes * 7 = omega arith in
-      let key : keyAt was b (slotsOf t) 0 ≡ t .nodes * 7 = subst (λ (r : ℕ). keyAt was b (slotsOf t) r ≡ t .nodes * 7) zero (g .key ∙ slot) in
-      (rw (e ∙ one) (going-start C (There C) (valuesOf s C) (next s C) of was b (slotsOf t) u (t .width) (t .fluents) (subst (λ (k : ℕ). Numbering was b (slotsOf t) k) one (g .numbering)) (subst (There C) (sym (ap of key ∙ last)) tt)), key)
+      let first : First h t was b = subst (λ (r : ℕ). of (keyAt was b (slotsOf t) r) ≡ acted (h .root)) zero (ap of (g .key) ∙ i .is) in
+      (rw (e ∙ one) (going-start C (There C) (valuesOf s C) (next s C) of was b (slotsOf t) u (t .width) (t .fluents) (subst (λ (k : ℕ). Numbering was b (slotsOf t) k) one (g .numbering)) (subst (There C) (sym first) tt)), first)
 
   pub making-real : {was now : List ℕ} {b u i count : ℕ} → Making was now b u i count → i < count → There C (of (keyAt now b (slotsOf t) i))
   making-real g l = g .pass .real _ (omega (arith, g .count-met))
@@ -72,14 +70,14 @@ module _ (s : Scene) (h : Change) (t : Table) where
       going-row C (There C) (valuesOf s C) (next s C) of was old now b (slotsOf t) u (t .width) (t .fluents) i count more _ _ (laid .scratch) wide g l (r .filled) refl (r .names)
       (λ d k. changed.changed (s .causes) (s .takes) C (s .table) (tells s C) silent .real (of (keyAt old b (slotsOf t) i)) (making-real g l) d k)
 
-  pub making-end : {entry was now : List ℕ} {b u i count : ℕ} → Making was now b u i count → count ≤ i → keyAt was b (slotsOf t) 0 ≡ t .nodes * 7 → Below entry was b → Above entry was (b + slotsOf t + slotsOf t) → b + slotsOf t + slotsOf t ≤ u → ChangeMade s h t entry now b u count
-  making-end {entry} {was} {now} {b} {u} {i} {count} g l key low high after =
+  pub making-end : {entry was now : List ℕ} {b u i count : ℕ} → Making was now b u i count → count ≤ i → First h t was b → Below entry was b → Above entry was (b + slotsOf t + slotsOf t) → b + slotsOf t + slotsOf t ≤ u → ChangeMade s h t entry now b u count
+  making-end {entry} {was} {now} {b} {u} {i} {count} g l first low high after =
       let (ordered, means) = going-end C (There C) (valuesOf s C) (next s C) of (changed.sem C (s .table) (change (s .causes) (s .takes))) (changed.changed (s .causes) (s .takes) C (s .table) (tells s C) silent) was now b (slotsOf t) u (t .width) (t .fluents) i count g l in
       record {
         some = g .some;
         few = g .room;
         ordered = ordered;
-        means = means ∙ ap (λ (k : ℕ). changed.sem C (s .table) (change (s .causes) (s .takes)) (of k)) key ∙ ap (changed.sem C (s .table) (change (s .causes) (s .takes))) last;
+        means = means ∙ ap (changed.sem C (s .table) (change (s .causes) (s .takes))) first;
         low = λ q k. g .low q k ∙ low q k;
         high = λ q k. g .high q k ∙ high q (omega arith);
       }

@@ -10,6 +10,7 @@ use partition::number::name_beliefs;
 use partition::number::number_of;
 use reading::number::wide;
 use state::table::Table;
+ghost use mathlib.Core.Logic.{_≢_};
 ghost use Prim.Native.Nat.{_+_, _*_, _<_, _≤_};
 ghost use lib.ListN.{length};
 ghost use Rattle.partition.specs.Inner.Numbers.{Numbering, keyAt};
@@ -150,7 +151,7 @@ pub fn put_edge(
     write_told(pack, effects[m], c + 1, work, to, t.fluents)
 }
 
-// Writes the row of a slot. The last slot is that of the root having taken part.
+// Writes the row of a slot. The last slot is that of the root having taken part, where no other is.
 pub fn put_member(
     pack: &[u8],
     places: &[usize],
@@ -201,6 +202,18 @@ pub fn change_row(
     name_beliefs(work, b, size, to + t.fluents, t.characters, count)
 }
 
+// The slot of the root having taken part: as of any row, or the last where rows have none for that.
+pub fn first_slot(h: Change, nodes: usize) -> usize
+    requires { ⌜ (nodes ≤ 32) × (h .root < nodes) × (h .acted < 7 → h .acted ≢ h .old) ⌝ }
+    ensures { λ r. ⌜ SlotIs h nodes (acted (h .root)) r ⌝ }
+{
+    if h.acted < 7 {
+        h.root * 7 + h.acted
+    } else {
+        nodes * 7
+    }
+}
+
 // Makes the table of what happens, from u on; how many rows that is.
 pub fn change_table(
     pack: &[u8],
@@ -217,7 +230,8 @@ pub fn change_table(
 {
     let size = t.nodes * 7 + 1;
     clear(work, b, size);
-    let root = number_of(work, b, size, 0, size - 1);
+    let first = first_slot(h, t.nodes);
+    let root = number_of(work, b, size, 0, first);
     let mut count = more(0, root);
     let mut i = 0;
     while i < count {

@@ -5,7 +5,7 @@ use mathlib.Core.Bool.{Bool, true, false, _&&_, _||_}
 use mathlib.Core.List.{List, [], _∷_}
 use native.Mathlib.Omega.{arith}
 use lib.ListN.{length, getD}
-use lib.Dec.{eqb}
+use lib.Dec.{eqb, ltb}
 use borrow.Author.Count.{below-more}
 use borrow.Author.Tests.{eq-eqb, ne-eqb, lt-ltb, le-ltb}
 use Rattle.state.specs.Syntax.{Effect, Trigger, Test, Condition, Rule, Node, Theory}
@@ -18,7 +18,7 @@ use Rattle.pack.specs.Contents.{Gives}
 use Rattle.state.specs.Judge.{alternativeAt, Small, Over, Readable, Judged}
 use Rattle.state.specs.Table.{stateOf, bytesAt}
 use Rattle.state.specs.declared.table.Table.{Table}
-use Rattle.state.proofs.Judging.{Left, Next, left-start, left-one, left-next, left-none, counted-starts, test-ends, RuleParts, rule-parts}
+use Rattle.state.proofs.Judging.{Left, Next, left-start, left-one, left-next, left-last, left-none, counted-starts, test-ends, RuleParts, rule-parts}
 use Rattle.state.proofs.OneByte.{test-bytes, effect-bytes}
 use Rattle.change.specs.Happening.{nothing, actionOf, Plays}
 use Rattle.transition.specs.Laws.Still.{writes, triggerWrites, plays-still, couldAt, couldPass, couldAll, couldHold, couldExceed, no-exceed}
@@ -29,6 +29,10 @@ use Rattle.reason.specs.Inner.Look.{movedBy, Acting, Acted, Moved, Looki
 -- flags
 pub unequal : true ≡ false → ⊥
 unequal e = let z : _≡_ {A = ℕ} 1 0 = ap (λ (b : Bool). pick b 1 0) e in omega arith
+
+never-both : (a : Bool) → (a && false) ≡ false
+never-both true = refl
+never-both false = refl
 
 neither : (a b : Bool) → (a || b) ≡ false → (a ≡ false) × (b ≡ false)
 neither true b e = absurd (unequal e)
@@ -77,6 +81,13 @@ module _ {A K : Type 0} (w : Run A K) (s : List ℕ) (from : ℕ) where
     pub run-stop : {b : Bool} → ((k : K) (x : A) (rest : List A) → Gives (w .part k) s n x → w .tells k (x ∷ rest) ≡ b) → Told b
     unfolding run-item
     run-stop e k xs g = let y = one k xs g in sym (y .same ∙ e k (y .item) (y .rest) (run-here k xs g))
+
+    -- or, the last of them, it tells nothing
+    pub run-last : left ≤ 1 → {b : Bool} → ((k : K) (x : A) (rest : List A) → Gives (w .part k) s n x → w .tells k (x ∷ rest) ≡ w .tells k rest) → ((k : K) → w .tells k [] ≡ b) → Told b
+    unfolding run-item run-here
+    run-last few e none k xs g =
+        let y = one k xs g in
+        sym (left-last (w .part k) s (w .tells k) xs (g .end) n left y few (e k (y .item) (y .rest) (run-here k xs g)) ∙ none k)
 
     -- or the rest does
     pub run-on : (m : ℕ) → ((k : K) (x : A) (g : Gives (w .part k) s n x) → g .end ≡ m) → ((k : K) (x : A) (rest : List A) → Gives (w .part k) s n x → w .tells k (x ∷ rest) ≡ w .tells k rest) → Rest m (left - 1)
@@ -223,6 +234,10 @@ module _ (m : ℕ → Bool) (s : State) where
     pub exceed-by : base < x .utility → {b c : Bool} → b ≡ couldHold m s (x .condition) → b ≡ c → couldExceed m s base (x ∷ rest) ≡ (c || couldExceed m s base rest)
     unfolding couldExceed
     exceed-by l q e = ap (λ (b : Bool). (b && couldHold m s (x .condition)) || couldExceed m s base rest) (lt-ltb base (x .utility) l) ∙ ap (λ (b : Bool). b || couldExceed m s base rest) (sym q ∙ e)
+
+    pub exceed-not : {b : Bool} → b ≡ couldHold m s (x .condition) → b ≡ false → couldExceed m s base (x ∷ rest) ≡ couldExceed m s base rest
+    unfolding couldExceed
+    exceed-not q e = ap (λ (b : Bool). (ltb base (x .utility) && b) || couldExceed m s base rest) (sym q ∙ e) ∙ ap (λ (b : Bool). b || couldExceed m s base rest) (never-both (ltb base (x .utility)))
 
     pub exceed-low : x .utility ≤ base → couldExceed m s base (x ∷ rest) ≡ couldExceed m s base rest
     unfolding couldExceed

@@ -157,13 +157,19 @@ pub fn could_exceed(
     let mut n = at + 1;
     let mut left = wide(pack[at]);
     while 0 < left {
+        let could = could_hold(pack, places, triggers, x, n, work, t);
+        if !could {
+            if left < 2 {
+                return false;
+            }
+        }
         match read_number(pack, after_condition(pack, n)) {
             Number::Refused(_, _) => {
                 return true;
             }
             Number::Is(value, next) => {
                 if base < value {
-                    if could_hold(pack, places, triggers, x, n, work, t) {
+                    if could {
                         return true;
                     }
                 }

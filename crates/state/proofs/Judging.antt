@@ -81,6 +81,10 @@ module _ {A B : Type 0} (p : Reader A) (s : List ℕ) (f : List A → B) (xs : L
   left-none n zero l h = l .same ∙ ap f (sym (same-value (l .reads)))
   left-none n (suc left) l h = absurd (omega arith)
 
+  -- the last of what is left tells nothing
+  pub left-last : (n left : ℕ) (x : Next p s n left f xs end) → left ≤ 1 → f (x .item ∷ x .rest) ≡ f (x .rest) → f xs ≡ f []
+  left-last n left x h g = left-none (x .place) (left - 1) (left-next n left x (x .place) refl g) (omega arith)
+
   pub left-end : (n left : ℕ) → Left p s n left f xs end → left ≤ 0 → n ≡ end
   unfolding runs
   left-end n zero l h = same-place (l .reads)

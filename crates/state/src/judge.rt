@@ -83,6 +83,9 @@ pub fn holds(s: &[u8], at: usize, buffer: &[u8], t: Table, node: usize) -> bool
         if met {
             return true;
         }
+        if left == 1 {
+            return false;
+        }
         n = after_alternative(s, n);
         left = left - 1;
     }
@@ -111,13 +114,17 @@ pub fn utility(s: &[u8], at: usize, buffer: &[u8], t: Table, node: usize) -> usi
     let mut n = at + 1;
     let mut left = wide(s[at]);
     while 0 < left {
-        let m = after_condition(s, n);
-        match read_number(s, m) {
+        let holding = holds(s, n, buffer, t, node);
+        if !holding {
+            if left < 2 {
+                return 0;
+            }
+        }
+        match read_number(s, after_condition(s, n)) {
             Number::Refused(_, _) => {
                 return 0;
             }
             Number::Is(value, next) => {
-                let holding = holds(s, n, buffer, t, node);
                 if holding {
                     return value;
                 }

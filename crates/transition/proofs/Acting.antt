@@ -63,8 +63,9 @@ module _ {p : Theory} {T : List Node} {pack places : List ℕ} {actions triggers
             (λ (o : (u ≡ 7) × ((d : ℕ) → d < C → told (A .effects) (suc d) ≡ true)). omega (arith, o .0, q, small (x .tabled))) (y .one),
       );
       acts = λ m d hm hd e f. ⊎-elim
-          (λ (o : (u < C) × (told (A .effects) (suc u) ≡ false)). (omega (arith, o .0, small (x .tabled)), omega (arith, o .0, small (x .tabled))))
+          (λ (o : (u < C) × (told (A .effects) (suc u) ≡ false)). omega (arith, o .0, small (x .tabled)))
           (λ (o : (u ≡ 7) × ((d : ℕ) → d < C → told (A .effects) (suc d) ≡ true)). clash (o .1 d hd) e) (y .one);
+      apart = λ l. ⊎-elim (λ (o : (u < C) × (told (A .effects) (suc u) ≡ false)). omega (arith, o .0, small (x .tabled))) (λ (o : (u ≡ 7) × ((d : ℕ) → d < C → told (A .effects) (suc d) ≡ true)). absurd (omega (arith, o .0, l))) (y .one);
       keeps = λ m d hm hd e. omega arith;
     }
 

@@ -206,12 +206,11 @@ module _ {was : List ℕ} {t : Table} {slot : ℕ} (p : SlotTable was t slot) wh
           let most : r ≤ 32 = omega (arith, o .few, p .few) in
           (omega (arith, rows-length now w f C 36720 r, some (rowsAt now w f C 36720 r) (o .written .ordered .whole)), most, sized r most)
 
-      pub slot-done : {now′ : List ℕ} → length now ≡ length was → PartCopied (set now slot r) now′ 36720 (t .rows) (r * w) → Acted (stateOf t was 0) t was now′ slot r
+      pub slot-done : {now′ : List ℕ} → length now ≡ length was → PartCopied (set now slot r) now′ 36720 (slot + 1) (r * w) → Acted (stateOf t was 0) t was now′ slot r
       slot-done {now′} long c =
           let (pos, most, narrow) = slot-few in
-          let c′ : PartCopied (set now slot r) now′ 36720 (slot + 1) (r * w) = subst (λ (a : ℕ). PartCopied (set now slot r) now′ 36720 a (r * w)) (p .rows) c in
-          let (holds, only) = put-down t was now now′ (p .wide) (p .slot-room) (omega (arith, long, p .room)) pos most narrow (o .written, o .means ∙ ap (λ (T : List Node). meaning C T 0) same-table)
-          (λ q l. o .low q (omega arith) ∙ z .low q (omega arith)) (λ q l. o .high q (omega (arith, sized n (p .few))) ∙ z .high q (omega (arith, p .few))) c′ in
+          let (holds, only) = put-down t was now now′ (p .wide) (p .slot-room) (omega arith) (omega (arith, long, p .room)) pos most narrow (o .written, o .means ∙ ap (λ (T : List Node). meaning C T 0) same-table)
+          (λ q l. o .low q (omega arith) ∙ z .low q (omega arith)) (λ q l. o .high q (omega (arith, sized n (p .few))) ∙ z .high q (omega (arith, p .few))) c in
           record { holds = holds; only = only }
 
 -- A round in a slot

@@ -163,7 +163,7 @@ module _ {p : Theory} {T : List Node} {pack places : List ℕ} {actions triggers
           effects-stand = λ m hm. f .each m hm .effects;
           long = omega (arith, l, g .few);
           observes = record { everyone = λ q z c. refl; few = omega arith; inside = λ h. absurd (h refl); condition = λ h c lc. absurd (h refl); stands = λ h c lc. absurd (h refl); judged = λ h c lc z. absurd (h refl) };
-          kinds = record { edges = λ m d hm hd q. (omega (arith, small round-table), omega (arith, small round-table)); acts = λ m d hm hd q k. (omega arith, omega arith); keeps = λ m d hm hd q. clash refl q };
+          kinds = record { edges = λ m d hm hd q. (omega (arith, small round-table), omega (arith, small round-table)); acts = λ m d hm hd q k. omega arith; apart = λ l. omega arith; keeps = λ m d hm hd q. clash refl q };
           root = g .holds .some;
         }
 

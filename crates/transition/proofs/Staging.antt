@@ -22,6 +22,7 @@ use Rattle.partition.specs.Inner.Level.{Levels, Parted}
 use Rattle.partition.specs.Laws.Merged.{classes, grows}
 use Rattle.partition.specs.Laws.Unique.{ordered-reached, some}
 use Rattle.partition.proofs.Cells.{rows-same, rows-most}
+use Rattle.partition.proofs.Merging.{classed-apart}
 use Rattle.partition.proofs.Numbering.{pigeons}
 use Rattle.change.specs.declared.change.Change.{Change}
 use Rattle.change.specs.Happening.{change}
@@ -29,13 +30,13 @@ use Rattle.change.specs.Inner.Change.{Scene, Stands, at, Laid, ChangeMade}
 use Rattle.transition.specs.Inner.Stage.{StageRoom, SlotOnly, InSlot, Staged}
 use Rattle.change.proofs.Changing.{small}
 
--- a written chart of r rows from 36720 on, its count put into a slot and its rows copied down behind it
-pub put-down : (t : Table) (was now now′ : List ℕ) {z : State} {slot r : ℕ} → t .fluents + t .characters ≤ t .width → slot + 961 ≤ 28832 → workRoom ≤ length now → 0 < r → r ≤ 32 → r * t .width ≤ 960
-    → Starts (t .characters) z (rowsAt now (t .width) (t .fluents) (t .characters) 36720 r) → Below was now 28832 → Above was now 43470 → PartCopied (set now slot r) now′ 36720 (slot + 1) (r * t .width)
+-- a written chart of r rows in the scratch, its count put into a slot and its rows copied down behind it
+pub put-down : (t : Table) (was now now′ : List ℕ) {z : State} {slot from r : ℕ} → t .fluents + t .characters ≤ t .width → slot + 961 ≤ 28832 → 28832 ≤ from → workRoom ≤ length now → 0 < r → r ≤ 32 → r * t .width ≤ 960
+    → Starts (t .characters) z (rowsAt now (t .width) (t .fluents) (t .characters) from r) → Below was now 28832 → Above was now 43470 → PartCopied (set now slot r) now′ from (slot + 1) (r * t .width)
     → InSlot t z now′ slot r × SlotOnly was now′ slot
-put-down t was now now′ {z} {slot} {r} wide slot-room room some few narrow starts below above c =
+put-down t was now now′ {z} {slot} {from} {r} wide slot-room behind room some few narrow starts below above c =
     let kept : (q : ℕ) → q ≢ slot → getD (set now slot r) q 0 ≡ getD now q 0 = λ q g. getD-set-other now slot q r 0 g in
-    let rows = rows-same now now′ (t .width) (t .fluents) (t .characters) 36720 (slot + 1) r wide (λ q l. c .part q l ∙ kept (36720 + q) (omega arith)) in (
+    let rows = rows-same now now′ (t .width) (t .fluents) (t .characters) from (slot + 1) r wide (λ q l. c .part q l ∙ kept (from + q) (omega arith)) in (
       record {
         some = some;
         count = λ g. c .low slot (omega arith) ∙ getD-set-same now slot r 0 (omega arith);
@@ -138,6 +139,16 @@ module _ {s : Scene} {pack places effects was : List ℕ} {h : Change} {t : Tabl
         pub stage-classed : Classed mid′ k w f C 29284 36264
         stage-classed = z .few few .0
 
+        -- each row is a class of its own: the rows are put down as they stand
+        module _ (all : k ≤ count) where
+          pub apart-inside : (k ≤ 32) × (k * w ≤ 960) × (29284 + k * w ≤ length mid′)
+          apart-inside = let l = sized k 32 (omega arith) in (omega arith, omega (arith, l), omega (arith, l, long, long′, p .room))
+
+          pub stage-apart : {now′ : List ℕ} → PartCopied (set mid′ slot k) now′ 29284 (slot + 1) (k * w) → Staged s (h .root) t was now′ slot k
+          stage-apart {now′} c =
+              let (holds, only) = put-down t was mid′ now′ wide (p .slot-room) (omega arith) (omega (arith, long, long′, p .room)) (y .some) (apart-inside .0) (apart-inside .1) (classed-apart stage-classed (omega (arith, z .few few .1)), means) below (λ q l. above q (omega arith)) c in
+              record { holds = holds; only = only }
+
         module _ {now : List ℕ} {r : ℕ} (o : WrittenOut mid′ now k w f C 29284 36720 r) where
           pub stage-few : (0 < r) × (r ≤ 32)
           stage-few =
@@ -156,5 +167,5 @@ module _ {s : Scene} {pack places effects was : List ℕ} {h : Change} {t : Tabl
           pub stage-done : {now′ : List ℕ} → length now ≡ length was → PartCopied (set now slot r) now′ 36720 (slot + 1) (r * w) → Staged s (h .root) t was now′ slot r
           stage-done {now′} size c =
               let (some, most) = stage-few in
-              let (holds, only) = put-down t was now now′ wide (p .slot-room) (omega (arith, size, p .room)) some most (sized r 32 most) (o .written, o .means ∙ means) (λ q l. o .low q (omega arith) ∙ below q l) (λ q l. o .high q (omega (arith, sized k 225 some-rows)) ∙ above q (omega arith)) c in
+              let (holds, only) = put-down t was now now′ wide (p .slot-room) (omega arith) (omega (arith, size, p .room)) some most (sized r 32 most) (o .written, o .means ∙ means) (λ q l. o .low q (omega arith) ∙ below q l) (λ q l. o .high q (omega (arith, sized k 225 some-rows)) ∙ above q (omega arith)) c in
               record { holds = holds; only = only }

@@ -1,8 +1,8 @@
 // A round of triggers in a slot. Where it tells nobody anything, every belief stays where it was: the values change in place, and rows that have become the same are merged.
+use crate::stage::put_down;
 use crate::stage::stage;
 use change::cause::write_told;
 use change::change::Change;
-use partition::bytes::copy_part;
 use partition::merge::write_merged;
 use partition::partition::partition;
 use reading::number::wide;
@@ -99,8 +99,7 @@ pub fn merge_slot(work: &mut [u8], t: Table, slot: usize) -> usize
         36264,
         36720,
     );
-    work[slot] = count as u8;
-    copy_part(work, 36720, t.rows, count * t.width);
+    put_down(work, 36720, count, t.width, slot);
     count
 }
 

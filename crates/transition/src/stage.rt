@@ -5,10 +5,22 @@ use partition::bytes::copy_part;
 use partition::merge::write_merged;
 use partition::partition::partition;
 use state::table::Table;
+ghost use Prim.Native.Nat.{_+_, _*_, _≤_};
+ghost use lib.ListN.{length, set};
+ghost use Rattle.partition.specs.Inner.Put.{PartCopied};
 ghost use Rattle.change.specs.Inner.Change.{Scene, Stands, Scened};
 ghost use Rattle.transition.specs.Inner.Stage.{StageRoom, Staged};
 
-// Puts the table of what happens, merged, into the slot at `slot`: its count there and its rows behind it. How many rows that is, or more than 32, and then the slot is as it was.
+// Puts n rows of w bytes, which stand from `from` on in the scratch, into the slot at `slot`: their count there and the rows behind it.
+pub fn put_down(work: &mut [u8], from: usize, n: usize, w: usize, slot: usize)
+    requires { ⌜ (n ≤ 32) × (n * w ≤ 960) × (slot + 961 ≤ 28832) × (28832 ≤ from) × (from + n * w ≤ length (now work)) ⌝ }
+    ensures { λ _. ⌜ PartCopied (set (now (work .entry)) slot n) (now (work .exit)) from (slot + 1) (n * w) ⌝ }
+{
+    work[slot] = n as u8;
+    copy_part(work, from, slot + 1, n * w);
+}
+
+// Puts the table of what happens, merged, into the slot at `slot`. How many rows that is, or more than 32, and then the slot is as it was.
 pub fn stage(
     pack: &[u8],
     places: &[usize],
@@ -37,6 +49,10 @@ pub fn stage(
     if 32 < classes {
         return classes;
     }
+    if rows <= classes {
+        put_down(work, 29284, rows, t.width, slot);
+        return rows;
+    }
     let count = write_merged(
         work,
         rows,
@@ -47,7 +63,6 @@ pub fn stage(
         36264,
         36720,
     );
-    work[slot] = count as u8;
-    copy_part(work, 36720, slot + 1, count * t.width);
+    put_down(work, 36720, count, t.width, slot);
     count
 }

@@ -52,7 +52,8 @@ module _ (s : Scene) (C : ℕ) where
 -- which of a row's seven slots stand for what: one that a character is told something by is that character's
 pub record Kinds (s : Scene) (n C : ℕ) (h : Change) : Type 0 where
   pub edges : (m d : ℕ) → m < n → d < C → tells s C m d ≡ true → (d ≢ h .old) × (d ≢ h .acted)
-  pub acts : (m d : ℕ) → m < n → d < C → tells s C m d ≡ false → s .takes (at s C m) d ≡ true → (h .acted < 7) × (h .acted ≢ h .old)
+  pub acts : (m d : ℕ) → m < n → d < C → tells s C m d ≡ false → s .takes (at s C m) d ≡ true → h .acted < 7
+  pub apart : h .acted < 7 → h .acted ≢ h .old
   pub keeps : (m d : ℕ) → m < n → d < C → s .takes (at s C m) d ≡ false → h .old < 7
 
 -- what a slot stands for, where there are n rows

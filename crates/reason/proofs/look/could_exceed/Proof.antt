@@ -3,10 +3,11 @@ use mathlib.Core.Path.{sym, ap, _∙_}
 use mathlib.Core.Logic.{⊎-elim}
 use native.Mathlib.Omega.{arith}
 use borrow.Author.Needs.{needs}
+use borrow.Author.Tests.{not-true}
 use Rattle.reading.specs.Said.{said}
 use Rattle.state.specs.Grammar.{ruleAt}
 use Rattle.reading.specs.Laws.Reading.{never, same-value, same-place}
-use Rattle.reason.proofs.Looking.{Rest, run-start, run-stop, run-on, run-none, ruleRun, rules-parts, exceed-told, look-next, look-inside, look-readable, rule-look, rule-condition, rule-number, exceed-by, exceed-low, exceed-none}
+use Rattle.reason.proofs.Looking.{Rest, run-start, run-stop, run-last, run-on, run-none, ruleRun, rules-parts, exceed-told, look-next, look-inside, look-readable, rule-look, rule-condition, rule-number, exceed-by, exceed-not, exceed-low, exceed-none}
 use Rattle.reason.proofs.look.could_exceed.Statement.{statement}
 use Rattle.reason.proofs.look.could_exceed.Tie as tie
 
@@ -16,22 +17,27 @@ Inv-loop pack places triggers x at work t base n₀ left₀ n left = Rest (ruleR
 abbrev μ-loop : tie.MeasureT-loop
 μ-loop pack places triggers x at work t base n₀ left₀ n left = left
 
--- src/look.rt:163:25
-returns-2 : tie.Need-returns-2 Inv-loop μ-loop
-returns-2 c =
-    exceed-told _ _ _ _ _ _ _ (run-stop (ruleRun _ _ _ _ _ _ _) _ _ (c .before .before .before .before .before .before .before .before .before .loop .inv) (c .before .before .before .before .before .before .before .before .loop-test .taken) (λ k x rest g.
-    let is = same-value (rule-number _ _ _ _ _ _ _ (c .before .before .before .before .before .before .before .after-condition .ensures) (c .before .before .before .before .before .before .read-number .ensures ∙ ap said (c .before .before .before .before .value .given .1)) (k .0) (k .1) x g) in
-    exceed-by _ _ _ x rest (omega (arith, is, c .before .before .if1 .taken)) (c .before .could-hold .ensures (k .0) (k .1) (x .condition) (rule-condition _ _ (k .0) x g)) (c .if2 .taken)))
+-- the last rule could not hold
+returns : tie.Need-returns Inv-loop μ-loop
+returns c =
+    exceed-told _ _ _ _ _ _ _ (run-last (ruleRun _ _ _ _ _ _ _) _ _ (c .before .before .before .before .loop .inv) (c .before .before .before .loop-test .taken) (omega (arith, c .if2 .taken))
+    (λ k x rest g. exceed-not _ _ _ x rest (c .before .before .could-hold .ensures (k .0) (k .1) (x .condition) (rule-condition _ _ (k .0) x g)) (not-true (c .before .before .could-hold .result) (c .before .if1 .taken)))
+    (λ k. exceed-none _ _ _))
 
--- src/look.rt:155:5
+returns-3 : tie.Need-returns-3 Inv-loop μ-loop
+returns-3 c =
+    exceed-told _ _ _ _ _ _ _ (run-stop (ruleRun _ _ _ _ _ _ _) _ _ (c .before .before .before .before .before .before .before .before .before .before .loop .inv) (c .before .before .before .before .before .before .before .before .before .loop-test .taken) (λ k x rest g.
+    let is = same-value (rule-number _ _ _ _ _ _ _ (c .before .before .before .before .before .before .after-condition .ensures) (c .before .before .before .before .before .read-number .ensures ∙ ap said (c .before .before .before .value .given .1)) (k .0) (k .1) x g) in
+    exceed-by _ _ _ x rest (omega (arith, is, c .before .if3 .taken)) (c .before .before .before .before .before .before .before .before .could-hold .ensures (k .0) (k .1) (x .condition) (rule-condition _ _ (k .0) x g)) (c .if4 .taken)))
+
 loop-again : tie.Need-loop-again Inv-loop μ-loop
 loop-again c =
-    run-on (ruleRun _ _ _ _ _ _ _) _ _ (c .before .before .before .before .before .before .before .loop .inv) (c .before .before .before .before .before .before .loop-test .taken) _ (λ k x g. sym (same-place (rule-number _ _ _ _ _ _ _ (c .before .before .before .before .before .after-condition .ensures) (c .before .before .before .before .read-number .ensures ∙ ap said (c .before .before .value .given .1)) (k .0) (k .1) x g))) (λ k x rest g.
+    run-on (ruleRun _ _ _ _ _ _ _) _ _ (c .before .before .before .before .before .before .before .before .before .loop .inv) (c .before .before .before .before .before .before .before .before .loop-test .taken) _ (λ k x g. sym (same-place (rule-number _ _ _ _ _ _ _ (c .before .before .before .before .before .after-condition .ensures) (c .before .before .before .before .read-number .ensures ∙ ap said (c .before .before .value .given .1)) (k .0) (k .1) x g))) (λ k x rest g.
     let is = same-value (rule-number _ _ _ _ _ _ _ (c .before .before .before .before .before .after-condition .ensures) (c .before .before .before .before .read-number .ensures ∙ ap said (c .before .before .value .given .1)) (k .0) (k .1) x g) in
     ⊎-elim
-    (λ y. exceed-by _ _ _ x rest (omega (arith, is, y .0 .taken)) (y .1 .ensures (k .0) (k .1) (x .condition) (rule-condition _ _ (k .0) x g)) (y .2 .left))
+    (λ y. exceed-not _ _ _ x rest (c .before .before .before .before .before .before .before .could-hold .ensures (k .0) (k .1) (x .condition) (rule-condition _ _ (k .0) x g)) (y .1 .left))
     (λ y. exceed-low _ _ _ x rest (omega (arith, is, y .left)))
-    (c .if1 .came))
+    (c .if3 .came))
 
 pub could-exceed-spec : {M : Type 1} → statement M
 could-exceed-spec =
@@ -43,13 +49,14 @@ could-exceed-spec =
     (λ c. look-inside _ _ _ _ _ _ ruleAt (rules-parts _ _ _ _ _ _ (c .before .before .before .before .pre)))
     (λ c κs. search needs)
     (λ c. run-start (ruleRun _ _ _ _ _ _ _) _ _ (omega arith) _ (c .wide .ensures))
-    (λ c κs. look-readable _ _ _ _ _ _ (rule-look _ _ _ _ _ _ _ (look-next _ _ _ _ _ _ ruleAt (rules-parts _ _ _ _ _ _ (c .before .before .before .before .before .before .before .pre)) (c .before .loop .inv) (c .loop-test .taken))))
+    (λ c κs. rule-look _ _ _ _ _ _ _ (look-next _ _ _ _ _ _ ruleAt (rules-parts _ _ _ _ _ _ (c .before .before .before .before .before .before .before .pre)) (c .before .loop .inv) (c .loop-test .taken)))
+    returns
+    (λ c κs. look-readable _ _ _ _ _ _ (rule-look _ _ _ _ _ _ _ (look-next _ _ _ _ _ _ ruleAt (rules-parts _ _ _ _ _ _ (c .before .before .before .before .before .before .before .before .before .pre)) (c .before .before .before .loop .inv) (c .before .before .loop-test .taken))))
     (λ c κs. search needs)
     (λ c. search needs)
-    (λ c. exceed-told _ _ _ _ _ _ _ (run-stop (ruleRun _ _ _ _ _ _ _) _ _ (c .before .before .before .before .before .loop .inv) (c .before .before .before .before .loop-test .taken) (λ k x rest g. never (rule-number _ _ _ _ _ _ _ (c .before .before .before .after-condition .ensures) (c .before .before .read-number .ensures ∙ ap said (c .enum-told .given .1)) (k .0) (k .1) x g))))
+    (λ c. exceed-told _ _ _ _ _ _ _ (run-stop (ruleRun _ _ _ _ _ _ _) _ _ (c .before .before .before .before .before .before .before .loop .inv) (c .before .before .before .before .before .before .loop-test .taken) (λ k x rest g. never (rule-number _ _ _ _ _ _ _ (c .before .before .before .after-condition .ensures) (c .before .before .read-number .ensures ∙ ap said (c .enum-told .given .1)) (k .0) (k .1) x g))))
     (λ c. search needs)
-    (λ c κs. rule-look _ _ _ _ _ _ _ (look-next _ _ _ _ _ _ ruleAt (rules-parts _ _ _ _ _ _ (c .before .before .before .before .before .before .before .before .before .before .before .before .before .pre)) (c .before .before .before .before .before .before .before .loop .inv) (c .before .before .before .before .before .before .loop-test .taken)))
-    returns-2
+    returns-3
     (λ c. search needs)
     (λ c. search needs)
     loop-again
