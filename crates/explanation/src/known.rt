@@ -1,5 +1,6 @@
 // Steps that are known: what an action leaves of a row of a kept table is made once, and then copied.
 use crate::memory::Shape;
+use crate::memory::name_anew;
 use crate::memory::name_of;
 use partition::bytes::copy_part;
 use reading::number::wide;
@@ -91,7 +92,7 @@ pub fn note_left(work: &mut [u8], p: Shape, t: Table, root: usize, action: usize
         characters: p.characters,
         width: p.fluents + p.characters,
     };
-    let next = name_of(work, p, left);
+    let next = name_anew(work, p, left);
     if next != 0 {
         note(work, p, t, root, action, next);
     }

@@ -95,16 +95,23 @@ pub fn look_up(work: &mut [u8], p: Shape, t: Table) -> usize
 }
 
 // As `look_up`, of the table in a slot, whose name is known from then on.
+pub fn name_anew(work: &mut [u8], p: Shape, t: Table) -> usize
+    requires { ⌜ Before p (now work) t ⌝ }
+    ensures { λ r. ⌜ Naming p t (now (work .entry)) (now (work .exit)) r ⌝ }
+{
+    let name = look_up(work, p, t);
+    work[43470 + t.rows / 961] = name as u8;
+    name
+}
+
+// The same where the slot's name is not known yet. It mostly is, so the way there is short.
 pub fn name_of(work: &mut [u8], p: Shape, t: Table) -> usize
     requires { ⌜ Before p (now work) t ⌝ }
     ensures { λ r. ⌜ Naming p t (now (work .entry)) (now (work .exit)) r ⌝ }
 {
-    let at = 43470 + t.rows / 961;
-    let known = wide(work[at]);
+    let known = wide(work[43470 + t.rows / 961]);
     if known != 0 {
         return known;
     }
-    let name = look_up(work, p, t);
-    work[at] = name as u8;
-    name
+    name_anew(work, p, t)
 }

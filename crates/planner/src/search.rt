@@ -12,7 +12,6 @@ use explanation::memory::Shape;
 use pack::contents::read_pack;
 use partition::bytes::clear;
 use partition::bytes::copy_part;
-use partition::bytes::sweep;
 use partition::values::first_other;
 use reading::number::Number;
 use reading::number::wide;
@@ -324,7 +323,7 @@ pub fn search_nodes(
     };
     let base = utility(pack, places[320], work, t, 0);
     let found = shortest(pack, places, p, work, list, s, e, k, base);
-    sweep(work, 0, 49152);
+    clear(work, 0, 49152);
     if found.length == 0 {
         return Found::Refused(13, 0);
     }

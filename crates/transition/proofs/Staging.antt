@@ -112,6 +112,13 @@ module _ {s : Scene} {pack places effects was : List ℕ} {h : Change} {t : Tabl
     some-rows : k ≤ 225
     some-rows = omega (arith, y .few, most)
 
+    -- one row is a written chart as it stands
+    pub stage-one : k ≡ 1 → {now′ : List ℕ} → PartCopied (set mid slot 1) now′ 29284 (slot + 1) (1 * w) → Staged s (h .root) t was now′ slot 1
+    stage-one e {now′} c =
+        let starts : Starts C made (rowsAt mid w f C 29284 k) = (record { ordered = y .ordered; apart = λ i j a b q. omega (arith, a, b, e, rows-length mid w f C 29284 k) }, y .means) in
+        let (holds, only) = put-down t was mid now′ wide (p .slot-room) (omega arith) (omega (arith, long, p .room)) (omega arith) (omega arith) (omega (arith, sized 1 32 (omega arith))) (subst (λ (k : ℕ). Starts C made (rowsAt mid w f C 29284 k)) e starts) (y .low) (λ q l. y .high q (omega (arith, sized (t .nodes * 7 + 1) 225 most))) c in
+        record { holds = holds; only = only }
+
     pub stage-levels : Levels mid k w f C 29284 36036 36264 36492
     stage-levels = record { few = omega (arith, some-rows); wide = wide; source = omega (arith, sized k 225 some-rows); new = omega (arith, some-rows); old = omega (arith, some-rows); leads = omega (arith, some-rows, p .room) }
 

@@ -34,6 +34,10 @@ pub fn stage(
     ensures { λ r. ⌜ ((s : Scene) → Stands s (now (pack .entry)) (now (places .entry)) (now (effects .entry)) h (now (work .entry)) t → Staged s (h .root) t (now (work .entry)) (now (work .exit)) slot r) ⌝ }
 {
     let rows = change_table(pack, places, effects, h, work, t, 28832, 29284);
+    if rows == 1 {
+        put_down(work, 29284, 1, t.width, slot);
+        return 1;
+    }
     let classes = partition(
         work,
         rows,

@@ -10,8 +10,8 @@ use Rattle.explanation.proofs.known.note_left.Statement.{statement}
 use Rattle.explanation.proofs.known.note_left.Tie as tie
 
 -- src/known.rt:94:9
-name-of-requires : tie.Need-name-of-requires
-name-of-requires c κs =
+name-anew-requires : tie.Need-name-anew-requires
+name-anew-requires c κs =
     let a = c .before .before .before .before .before .args in
     let P = c .before .before .before .before .before .pre in
     subst (λ (n : ℕ). Before (a .p) (nameless (a .p) (P .3)) (record { rows = a .slot + 1; nodes = n; fluents = a .p .fluents; characters = a .p .characters; width = a .p .fluents + a .p .characters })) (c .before .before .wide .ensures) (left-before (a .p) (P .3) (P .4))
@@ -21,7 +21,7 @@ returns : tie.Need-returns
 returns c =
     let a = c .before .before .before .before .before .before .before .before .before .before .before .before .before .args in
     let P = c .before .before .before .before .before .before .before .before .before .before .before .before .before .pre in
-    let n = c .before .before .before .before .before .before .before .name-of in
+    let n = c .before .before .before .before .before .before .before .name-anew in
     let x = subst (λ (k : ℕ). Naming (a .p) (record { rows = a .slot + 1; nodes = k; fluents = a .p .fluents; characters = a .p .characters; width = a .p .fluents + a .p .characters }) (nameless (a .p) (P .3)) (n .last .0) (n .result)) (sym (c .before .before .before .before .before .before .before .before .before .before .wide .ensures)) (n .ensures) in
     left-noted (a .p) (P .3) (P .4) (P .0) (n .kept .0 ∙ length-set (a .work .now) (43470 + a .slot / 961) 0) x (omega (arith, c .before .before .before .before .if1 .taken)) (c .before .before .note .ensures)
 
@@ -30,7 +30,7 @@ returns-2 : tie.Need-returns-2
 returns-2 c =
     let a = c .before .before .before .before .before .before .before .before .before .args in
     let P = c .before .before .before .before .before .before .before .before .before .pre in
-    let n = c .before .before .before .name-of in
+    let n = c .before .before .before .name-anew in
     let x = subst (λ (k : ℕ). Naming (a .p) (record { rows = a .slot + 1; nodes = k; fluents = a .p .fluents; characters = a .p .characters; width = a .p .fluents + a .p .characters }) (nameless (a .p) (P .3)) (n .last .0) (n .result)) (sym (c .before .before .before .before .before .before .wide .ensures)) (n .ensures) in
     left-unnoted (a .p) (P .3) (P .4) (P .0) (n .kept .0 ∙ length-set (a .work .now) (43470 + a .slot / 961) 0) x
 
@@ -44,9 +44,9 @@ note-left-spec =
     (λ c. let a = c .before .before .args in let s = c .before .before .pre .3 in omega (arith, s .before, s .room, length-set (a .work .now) (43470 + a .slot / 961) 0))
     (λ c κs. search needs)
     (λ c. search needs)
-    name-of-requires
-    (λ c κs. let a = c .before .before .before .before .before .before .before .before .before .before .args in let P = c .before .before .before .before .before .before .before .before .before .before .pre in let n = c .before .before .before .before .name-of in (before-now (a .p) (n .kept .0 ∙ length-set (a .work .now) (43470 + a .slot / 961) 0) (P .0), P .1, P .2, n .ensures .small))
-    (λ c. c .before .before .note .kept .0 ∙ c .before .before .before .before .before .before .before .name-of .kept .0 ∙ length-set (c .before .before .before .before .before .before .before .before .before .before .before .before .before .args .work .now) (43470 + c .before .before .before .before .before .before .before .before .before .before .before .before .before .args .slot / 961) 0)
+    name-anew-requires
+    (λ c κs. let a = c .before .before .before .before .before .before .before .before .before .before .args in let P = c .before .before .before .before .before .before .before .before .before .before .pre in let n = c .before .before .before .before .name-anew in (before-now (a .p) (n .kept .0 ∙ length-set (a .work .now) (43470 + a .slot / 961) 0) (P .0), P .1, P .2, n .ensures .small))
+    (λ c. c .before .before .note .kept .0 ∙ c .before .before .before .before .before .before .before .name-anew .kept .0 ∙ length-set (c .before .before .before .before .before .before .before .before .before .before .before .before .before .args .work .now) (43470 + c .before .before .before .before .before .before .before .before .before .before .before .before .before .args .slot / 961) 0)
     returns
-    (λ c. c .before .before .before .name-of .kept .0 ∙ length-set (c .before .before .before .before .before .before .before .before .before .args .work .now) (43470 + c .before .before .before .before .before .before .before .before .before .args .slot / 961) 0)
+    (λ c. c .before .before .before .name-anew .kept .0 ∙ length-set (c .before .before .before .before .before .before .before .before .before .args .work .now) (43470 + c .before .before .before .before .before .before .before .before .before .args .slot / 961) 0)
     returns-2)

@@ -1,7 +1,7 @@
--- The name that is known by the slot; else it is looked up, and known from then on. Assumes nothing.
+-- The name that is known by the slot, or a new one. Assumes nothing.
 use Prim.Native.Nat.{_+_, _/_}
 use native.Mathlib.Omega.{arith}
-use Rattle.explanation.proofs.Remembering.{naming-known, naming-new}
+use Rattle.explanation.proofs.Remembering.{naming-known}
 use borrow.Author.Needs.{needs}
 use Rattle.explanation.proofs.memory.name_of.Statement.{statement}
 use Rattle.explanation.proofs.memory.name_of.Tie as tie
@@ -16,6 +16,4 @@ name-of-spec =
     (λ c. naming-known (c .before .before .before .before .before .args .p) (c .before .before .before .before .before .pre) (omega (arith, c .before .wide .ensures, c .before .before .slice-known2 .given (43470 + c .before .before .before .before .before .args .t .rows / 961))) (c .before .wide .ensures))
     (λ c κs. search needs)
     (λ c. search needs)
-    (λ c. search needs)
-    (λ c. search needs)
-    (λ c. let k = c .before .before .look-up in naming-new (c .before .before .before .before .before .before .before .before .before .args .p) (k .kept .0) (c .before .before .before .before .before .before .before .before .before .pre) (k .ensures)))
+    (λ c. c .before .before .name-anew .ensures))

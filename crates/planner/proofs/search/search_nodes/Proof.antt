@@ -33,14 +33,14 @@ shortest-requires c κs =
     let is = author-utility (seek-ready x y long (c .before .before .before .before .before .before .wide .ensures)) 0 (c .before .before .utility .ensures) in
     ((th, (seekTable x y long, (seek-slot x y long, seek-memory x y long, seek-base x y long (c .before .before .before .before .before .before .wide .ensures) is))), x .foreseen .0, x .foreseen .1, x .nested, x .storied, x .list-room)
 
-sweep-requires : tie.Need-sweep-requires
-sweep-requires c κs = let (th, (T, x)) = c .before .before .before .before .before .before .before .before .before .before .before .before .before .before .before .before .before .before .before .before .before .before .pre in omega (arith, x .room, c .before .before .before .before .before .shortest .kept .1 .1 .1 .0, c .before .before .before .before .before .before .before .before .before .before .before .before .before .before .before .before .lay-start .kept)
+clear-requires : tie.Need-clear-requires
+clear-requires c κs = let (th, (T, x)) = c .before .before .before .before .before .before .before .before .before .before .before .before .before .before .before .before .before .before .before .before .before .before .pre in omega (arith, x .room, c .before .before .before .before .before .shortest .kept .1 .1 .1 .0, c .before .before .before .before .before .before .before .before .before .before .before .before .before .before .before .before .lay-start .kept)
 
 returns : tie.Need-returns
 returns c =
     let l = c .before .before .before .before .before .before .before .before .before .before .before .before .before .before .before .before .before .before .before .before .before .lay-start .ensures in
     let e = c .before .before .before .before .before .before .before .before .before .before .shortest in
-    let z = c .before .before .before .before .sweep in
+    let z = c .before .before .before .before .clear in
     λ th T x.
     let y = l T (seek-laying x) in
     let long = c .before .before .before .before .before .before .before .before .before .before .before .before .before .before .before .before .before .before .before .before .before .lay-start .kept .1 .1 .1 .1 .0 in
@@ -51,7 +51,7 @@ returns-2 : tie.Need-returns-2
 returns-2 c =
     let l = c .before .before .before .before .before .before .before .before .before .before .before .before .before .before .before .before .before .before .before .before .before .lay-start .ensures in
     let e = c .before .before .before .before .before .before .before .before .before .before .shortest in
-    let z = c .before .before .before .before .sweep in
+    let z = c .before .before .before .before .clear in
     λ th T x.
     let y = l T (seek-laying x) in
     let long = c .before .before .before .before .before .before .before .before .before .before .before .before .before .before .before .before .before .before .before .before .before .lay-start .kept .1 .1 .1 .1 .0 in
@@ -61,4 +61,4 @@ returns-2 c =
 pub search-nodes-spec : {M : Type 1} → statement M
 search-nodes-spec =
     tie.close
-    (tie.spec lay-start-requires slice-read-wide (λ c κs. search needs) add-t20 shared-slice-read-utility utility-requires shortest-requires sweep-requires (λ c. search needs) (λ c. search needs) returns (λ c. search needs) (λ c. search needs) returns-2)
+    (tie.spec lay-start-requires slice-read-wide (λ c κs. search needs) add-t20 shared-slice-read-utility utility-requires shortest-requires clear-requires (λ c. search needs) (λ c. search needs) returns (λ c. search needs) (λ c. search needs) returns-2)

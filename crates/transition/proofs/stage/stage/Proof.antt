@@ -1,77 +1,87 @@
 -- The pass, the classes, and the rows put into the slot: as they stand where each is a class of its own, else the merged ones. Assumes nothing.
 use mathlib.Core.Path.{_∙_}
-use Prim.Native.Nat.{_≤_}
+use Prim.Native.Nat.{_*_, _≤_}
 use native.Mathlib.Omega.{arith}
-use Rattle.transition.proofs.Staging.{stage-laid, stage-levels, stage-many, stage-room, stage-classed, apart-inside, stage-apart, stage-few, stage-inside, stage-done}
+use Rattle.change.proofs.Changing.{small}
+use Rattle.transition.proofs.Staging.{stage-laid, stage-one, stage-levels, stage-many, stage-room, stage-classed, apart-inside, stage-apart, stage-few, stage-inside, stage-done}
 use Rattle.transition.proofs.stage.stage.Statement.{statement}
 use Rattle.transition.proofs.stage.stage.Tie as tie
 
-partition-requires : tie.Need-partition-requires
-partition-requires c κs =
-    let p = c .before .before .before .before .before .before .before .before .before .pre in
-    let y = c .before .before .before .change-table .ensures (p .0 .0) (p .0 .1) in
-    ((stage-levels (p .0 .1) (p .1) y (c .before .before .before .change-table .kept .1 .1 .1 .1 .0), y .some, omega arith), y .ordered)
-
-returns : tie.Need-returns
-returns c =
-    let a = c .before .before .before .before .before .before .before .change-table in
-    let b = c .before .before .before .partition in
-    λ s x. stage-many x (c .before .before .before .before .before .before .before .before .before .before .before .before .before .pre .1) (a .ensures s x) (a .kept .1 .1 .1 .1 .0) (b .ensures) (b .kept .0) (c .if1 .taken)
-
 put-down-requires : tie.Need-put-down-requires
 put-down-requires c κs =
-    let p = c .before .before .before .before .before .before .before .before .before .before .before .before .before .before .before .pre in
-    let a = c .before .before .before .before .before .before .before .before .before .change-table in
-    let b = c .before .before .before .before .before .partition in
-    let (few, slim, inside) = apart-inside (p .0 .1) (p .1) (a .ensures (p .0 .0) (p .0 .1)) (a .kept .1 .1 .1 .1 .0) (b .ensures) (b .kept .0) (omega (arith, c .before .before .if1 .left)) (c .before .if2 .taken) in
-    (few, slim, p .1 .slot-room, omega arith, inside)
+    let p = c .before .before .before .before .before .before .before .before .before .before .pre in
+    let slim : c .before .before .before .before .before .before .before .before .before .before .args .t .width ≤ 30 = omega (arith, p .0 .1 .tabled .fits .wide, small (p .0 .1 .tabled)) in
+    (omega arith, omega (arith, slim), p .1 .slot-room, omega arith, omega (arith, slim, p .1 .room, c .before .before .before .before .change-table .kept .1 .1 .1 .1 .0))
+
+partition-requires : tie.Need-partition-requires
+partition-requires c κs =
+    let p = c .before .before .before .before .before .before .before .before .before .before .pre in
+    let y = c .before .before .before .before .change-table .ensures (p .0 .0) (p .0 .1) in
+    ((stage-levels (p .0 .1) (p .1) y (c .before .before .before .before .change-table .kept .1 .1 .1 .1 .0), y .some, omega arith), y .ordered)
 
 returns-2 : tie.Need-returns-2
 returns-2 c =
-    let a = c .before .before .before .before .before .before .before .before .before .before .before .before .change-table in
-    let b = c .before .before .before .before .before .before .before .before .partition in
-    λ s x. stage-apart x (c .before .before .before .before .before .before .before .before .before .before .before .before .before .before .before .before .before .before .pre .1) (a .ensures s x) (a .kept .1 .1 .1 .1 .0) (b .ensures) (b .kept .0) (omega (arith, c .before .before .before .before .before .if1 .left)) (c .before .before .before .before .if2 .taken) (c .before .before .put-down .ensures)
-
-write-merged-requires : tie.Need-write-merged-requires
-write-merged-requires c κs =
-    let p = c .before .before .before .before .before .before .before .before .before .before .before .before .before .before .before .pre in
-    let x = p .0 .1 in
-    let a = c .before .before .before .before .before .before .before .before .before .change-table in
-    let y = a .ensures (p .0 .0) x in
-    let b = c .before .before .before .before .before .partition in
-    (stage-room x (p .1) y (a .kept .1 .1 .1 .1 .0) (b .ensures) (b .kept .0), stage-classed x (p .1) y (a .kept .1 .1 .1 .1 .0) (b .ensures) (b .kept .0) (omega (arith, c .before .before .if1 .left)))
+    let a = c .before .before .before .before .before .before .before .before .change-table in
+    let b = c .before .before .before .partition in
+    λ s x. stage-many x (c .before .before .before .before .before .before .before .before .before .before .before .before .before .before .pre .1) (a .ensures s x) (a .kept .1 .1 .1 .1 .0) (b .ensures) (b .kept .0) (c .if2 .taken)
 
 put-down-requires-2 : tie.Need-put-down-requires-2
 put-down-requires-2 c κs =
-    let p = c .before .before .before .before .before .before .before .before .before .before .before .before .before .before .before .before .before .before .before .pre in
-    let x = p .0 .1 in
-    let a = c .before .before .before .before .before .before .before .before .before .before .before .before .before .change-table in
-    let y = a .ensures (p .0 .0) x in
-    let b = c .before .before .before .before .before .before .before .before .before .partition in
-    let o = c .before .before .before .write-merged in
-    let l : c .before .before .before .before .before .before .before .before .before .partition .result ≤ 32 = omega (arith, c .before .before .before .before .before .before .if1 .left) in
-    let (inside, slim, room) = stage-inside x (p .1) y (a .kept .1 .1 .1 .1 .0) (b .ensures) (b .kept .0) l (o .ensures) in
-    (stage-few x (p .1) y (a .kept .1 .1 .1 .1 .0) (b .ensures) (b .kept .0) l (o .ensures) .1, omega (arith, slim), p .1 .slot-room, omega arith, omega (arith, inside, room, o .kept .0 ∙ b .kept .0 ∙ a .kept .1 .1 .1 .1 .0))
+    let p = c .before .before .before .before .before .before .before .before .before .before .before .before .before .before .before .before .pre in
+    let a = c .before .before .before .before .before .before .before .before .before .before .change-table in
+    let b = c .before .before .before .before .before .partition in
+    let (few, slim, inside) = apart-inside (p .0 .1) (p .1) (a .ensures (p .0 .0) (p .0 .1)) (a .kept .1 .1 .1 .1 .0) (b .ensures) (b .kept .0) (omega (arith, c .before .before .if2 .left)) (c .before .if3 .taken) in
+    (few, slim, p .1 .slot-room, omega arith, inside)
 
 returns-3 : tie.Need-returns-3
 returns-3 c =
-    let a = c .before .before .before .before .before .before .before .before .before .before .before .before .before .before .before .before .change-table in
+    let a = c .before .before .before .before .before .before .before .before .before .before .before .before .before .change-table in
+    let b = c .before .before .before .before .before .before .before .before .partition in
+    λ s x. stage-apart x (c .before .before .before .before .before .before .before .before .before .before .before .before .before .before .before .before .before .before .before .pre .1) (a .ensures s x) (a .kept .1 .1 .1 .1 .0) (b .ensures) (b .kept .0) (omega (arith, c .before .before .before .before .before .if2 .left)) (c .before .before .before .before .if3 .taken) (c .before .before .put-down2 .ensures)
+
+write-merged-requires : tie.Need-write-merged-requires
+write-merged-requires c κs =
+    let p = c .before .before .before .before .before .before .before .before .before .before .before .before .before .before .before .before .pre in
+    let x = p .0 .1 in
+    let a = c .before .before .before .before .before .before .before .before .before .before .change-table in
+    let y = a .ensures (p .0 .0) x in
+    let b = c .before .before .before .before .before .partition in
+    (stage-room x (p .1) y (a .kept .1 .1 .1 .1 .0) (b .ensures) (b .kept .0), stage-classed x (p .1) y (a .kept .1 .1 .1 .1 .0) (b .ensures) (b .kept .0) (omega (arith, c .before .before .if2 .left)))
+
+put-down-requires-3 : tie.Need-put-down-requires-3
+put-down-requires-3 c κs =
+    let p = c .before .before .before .before .before .before .before .before .before .before .before .before .before .before .before .before .before .before .before .before .pre in
+    let x = p .0 .1 in
+    let a = c .before .before .before .before .before .before .before .before .before .before .before .before .before .before .change-table in
+    let y = a .ensures (p .0 .0) x in
+    let b = c .before .before .before .before .before .before .before .before .before .partition in
+    let o = c .before .before .before .write-merged in
+    let l : b .result ≤ 32 = omega (arith, c .before .before .before .before .before .before .if2 .left) in
+    let (inside, slim, room) = stage-inside x (p .1) y (a .kept .1 .1 .1 .1 .0) (b .ensures) (b .kept .0) l (o .ensures) in
+    (stage-few x (p .1) y (a .kept .1 .1 .1 .1 .0) (b .ensures) (b .kept .0) l (o .ensures) .1, omega (arith, slim), p .1 .slot-room, omega arith, omega (arith, inside, room, o .kept .0 ∙ b .kept .0 ∙ a .kept .1 .1 .1 .1 .0))
+
+returns-4 : tie.Need-returns-4
+returns-4 c =
+    let a = c .before .before .before .before .before .before .before .before .before .before .before .before .before .before .before .before .before .change-table in
     let b = c .before .before .before .before .before .before .before .before .before .before .before .before .partition in
     let o = c .before .before .before .before .before .before .write-merged in
-    λ s x. stage-done x (c .before .before .before .before .before .before .before .before .before .before .before .before .before .before .before .before .before .before .before .before .before .before .pre .1) (a .ensures s x) (a .kept .1 .1 .1 .1 .0) (b .ensures) (b .kept .0) (omega (arith, c .before .before .before .before .before .before .before .before .before .if1 .left)) (o .ensures) (o .kept .0 ∙ b .kept .0 ∙ a .kept .1 .1 .1 .1 .0) (c .before .before .put-down2 .ensures)
+    λ s x. stage-done x (c .before .before .before .before .before .before .before .before .before .before .before .before .before .before .before .before .before .before .before .before .before .before .before .pre .1) (a .ensures s x) (a .kept .1 .1 .1 .1 .0) (b .ensures) (b .kept .0) (omega (arith, c .before .before .before .before .before .before .before .before .before .if2 .left)) (o .ensures) (o .kept .0 ∙ b .kept .0 ∙ a .kept .1 .1 .1 .1 .0) (c .before .before .put-down3 .ensures)
 
 pub stage-spec : {M : Type 1} → statement M
 stage-spec =
     tie.close
     (tie.spec
     (λ c κs. let p = c .before .before .before .before .before .pre in (p .0, stage-laid (p .0 .1) (p .1)))
-    partition-requires
-    (λ c. c .before .before .before .partition .kept .0 ∙ c .before .before .before .before .before .before .before .change-table .kept .1 .1 .1 .1 .0)
-    returns
     put-down-requires
-    (λ c. c .before .before .put-down .kept .0 ∙ c .before .before .before .before .before .before .before .before .partition .kept .0 ∙ c .before .before .before .before .before .before .before .before .before .before .before .before .change-table .kept .1 .1 .1 .1 .0)
+    (λ c. c .before .before .put-down .kept .0 ∙ c .before .before .before .before .before .before .before .change-table .kept .1 .1 .1 .1 .0)
+    (λ c. let a = c .before .before .before .before .before .before .before .change-table in λ s x. stage-one x (c .before .before .before .before .before .before .before .before .before .before .before .before .before .pre .1) (a .ensures s x) (a .kept .1 .1 .1 .1 .0) (c .before .before .before .before .if1 .taken) (c .before .before .put-down .ensures))
+    partition-requires
+    (λ c. c .before .before .before .partition .kept .0 ∙ c .before .before .before .before .before .before .before .before .change-table .kept .1 .1 .1 .1 .0)
     returns-2
-    write-merged-requires
     put-down-requires-2
-    (λ c. c .before .before .put-down2 .kept .0 ∙ c .before .before .before .before .before .before .write-merged .kept .0 ∙ c .before .before .before .before .before .before .before .before .before .before .before .before .partition .kept .0 ∙ c .before .before .before .before .before .before .before .before .before .before .before .before .before .before .before .before .change-table .kept .1 .1 .1 .1 .0)
-    returns-3)
+    (λ c. c .before .before .put-down2 .kept .0 ∙ c .before .before .before .before .before .before .before .before .partition .kept .0 ∙ c .before .before .before .before .before .before .before .before .before .before .before .before .before .change-table .kept .1 .1 .1 .1 .0)
+    returns-3
+    write-merged-requires
+    put-down-requires-3
+    (λ c. c .before .before .put-down3 .kept .0 ∙ c .before .before .before .before .before .before .write-merged .kept .0 ∙ c .before .before .before .before .before .before .before .before .before .before .before .before .partition .kept .0 ∙ c .before .before .before .before .before .before .before .before .before .before .before .before .before .before .before .before .before .change-table .kept .1 .1 .1 .1 .0)
+    returns-4)
