@@ -18,7 +18,7 @@ use reading::number::wide;
 use reason::explain::Foresight;
 use reason::explain::Nesting;
 use reason::explain::allowed;
-use reason::look::promising;
+use reason::look::next_promising;
 use state::copy::copy_table;
 use state::judge::utility;
 use state::table::Table;
@@ -146,13 +146,13 @@ pub fn completes_after(
     requires { ⌜ Underway (k .0) (e .0) base (now pack) (now places) p (now work) slot done (suc left) × (0 < k .0) × (k .0 ≤ 6) × Free slot (2 + left + k .0 * e .0) × (done + suc left ≤ length (now list)) × (slot ≡ done * 961) ⌝ }
     ensures { λ r. ⌜ ((th : Theory) (T : List Node) → Stage th T (now (pack .entry)) (now (places .entry)) p (now (work .entry)) (slotTable p (now (work .entry)) slot) (slot + 961) → Memory th (k .0) p (slot + 961) (now (work .entry)) → Trail th (k .0) (e .0) base p (now (work .entry)) done (suc left) (meaning (p .characters) T 0) → Best (Memory th (k .0) p (slot + 961)) (Ends th (k .0) (e .0) base (meaning (p .characters) T 0)) (suc left) (now (list .entry)) (now (list .exit)) done (slot + 961) (now (work .entry)) (now (work .exit)) r) ⌝ }
 {
-    let mut x = 0;
+    let mut x = next_promising(pack, places, p, work, slot, 0, 0, left, base);
     while x < p.actions {
         let after = completes_by(pack, places, p, work, slot, list, done, x, e, k, left, base);
         if after != 0 {
             return after;
         }
-        x += 1;
+        x = next_promising(pack, places, p, work, slot, x + 1, 0, left, base);
     }
     0
 }
@@ -198,9 +198,6 @@ pub fn completes_by(
         characters: p.characters,
         width: p.fluents + p.characters,
     };
-    if !promising(pack, places, p, work, t, x, 0, left, base) {
-        return 0;
-    }
     let agreed = allowed(
         pack,
         places,

@@ -3,6 +3,7 @@ use Prim.Native.Nat.{ℕ, zero, suc, _+_, _*_, _-_, _<_, _≤_}
 use mathlib.Core.Path.{_≡_, refl, sym, ap, _∙_, subst}
 use mathlib.Core.Bool.{Bool, true, false, _&&_, _||_}
 use mathlib.Core.List.{List, [], _∷_}
+use native.Mathlib.Decide.{decLt}
 use native.Mathlib.Omega.{arith}
 use lib.ListN.{length, getD}
 use lib.Dec.{eqb, ltb}
@@ -21,10 +22,12 @@ use Rattle.state.specs.declared.table.Table.{Table}
 use Rattle.state.proofs.Judging.{Left, Next, left-start, left-one, left-next, left-last, left-none, counted-starts, test-ends, RuleParts, rule-parts}
 use Rattle.state.proofs.OneByte.{test-bytes, effect-bytes}
 use Rattle.change.specs.Happening.{nothing, actionOf, Plays}
+use Rattle.change.proofs.Changing as changing
 use Rattle.transition.specs.Laws.Still.{writes, triggerWrites, plays-still, couldAt, couldPass, couldAll, couldHold, couldExceed, no-exceed}
 use Rattle.explanation.specs.declared.memory.Shape.{Shape}
+use Rattle.explanation.specs.Inner.Lists.{slotTable}
 use Rattle.explanation.specs.Inner.Explain.{Stage}
-use Rattle.reason.specs.Inner.Look.{movedBy, Acting, Acted, Moved, Looking, Lookable, Looked, Tryable, Hopeless}
+use Rattle.reason.specs.Inner.Look.{movedBy, Acting, Acted, Moved, Looking, Lookable, Looked, Tryable, Hopeless, Trying, Skipped}
 
 -- flags
 pub unequal : true ≡ false → ⊥
@@ -396,3 +399,26 @@ module _ {th : Theory} {T : List Node} {pack places : List ℕ} {h : Shape} {was
 
     pub stage-hopeless : (whose : ℕ) {left base : ℕ} → Hopeless pack places (h .triggers) a was t whose left base → (s : State) → Plays th (meaning (t .characters) T 0) a s → (left ≡ 0) × (utility s (getD (th .utilities) whose []) ≤ base)
     stage-hopeless whose f s plays = f th stage-looking s (subst (λ (U : List Node). Plays th (meaning (t .characters) U 0) a s) (sym (x .tabled .same)) plays)
+
+-- The first that is worth a try in the state in a slot
+module _ {pack places : List ℕ} {h : Shape} {work : List ℕ} {slot whose left base x : ℕ} where
+  pub skipped-none : x ≤ h .actions → Skipped pack places h work slot whose left base x x
+  skipped-none l = record { from = omega arith; few = l; hopeless = λ a f g. absurd (omega (arith, f, g)) }
+
+  pub skipped-more : {y : ℕ} → Skipped pack places h work slot whose left base x y → y < h .actions → Hopeless pack places (h .triggers) y work (slotTable h work slot) whose left base → Skipped pack places h work slot whose left base x (y + 1)
+  skipped-more {y} s l f = record {
+    from = omega (arith, s .from);
+    few = omega (arith, l);
+    hopeless = λ a g u. below-more (λ a. x ≤ a → Hopeless pack places (h .triggers) a work (slotTable h work slot) whose left base) y (λ a u g. s .hopeless a g u) (λ g. f) a u g;
+  }
+
+-- what holds below n, and from there on below r, holds below r
+pub below-far : (P : ℕ → Type 0) {n r : ℕ} → ((y : ℕ) → y < n → P y) → ((y : ℕ) → n ≤ y → y < r → P y) → (y : ℕ) → y < r → P y
+below-far P {n} {r} near far y l = elim (decLt y n) as (λ d. P y) [ yes h ↦ near y h | no h ↦ far y (omega (arith, h)) l ]
+
+module _ {th : Theory} {T : List Node} {pack places : List ℕ} {h : Shape} {work : List ℕ} {slot : ℕ} (x : Stage th T pack places h work (slotTable h work slot) (slot + 961)) (before : slot + 961 ≤ 28832) where
+  pub stage-trying : {whose : ℕ} → whose < h .characters + 1 → Trying pack places h work slot whose
+  stage-trying l = record { before = before; room = x .room; narrow = omega (arith, changing.small (x .tabled)); each = λ a g. stage-tryable x g l }
+
+  pub stage-skipped : {whose left base n r : ℕ} → Skipped pack places h work slot whose left base n r → (a : ℕ) → n ≤ a → a < r → (s : State) → Plays th (meaning (h .characters) T 0) a s → (left ≡ 0) × (utility s (getD (th .utilities) whose []) ≤ base)
+  stage-skipped {whose} s a f l = stage-hopeless x (omega (arith, l, s .few)) whose (s .hopeless a f l)

@@ -1,5 +1,5 @@
 // Explanations: whether a character has a reason of their own for an action. A state is row `root` of a table; the slots of the work buffer from `slot` on are free.
-use crate::look::promising;
+use crate::look::next_promising;
 use explanation::fact::Key;
 use explanation::fact::recall;
 use explanation::fact::remember;
@@ -171,13 +171,13 @@ pub fn extends_by(
     requires { ⌜ Prepared (k .0) (now pack) (now places) p (now work) (slotTable p (now work) slot) (slot + 961) × (c < p .characters) × (0 < k .0) × (k .0 ≤ 6) × Free slot (2 + left + k .0 * e .0) ⌝ }
     ensures { λ r. ⌜ ((th : Theory) (T : List Node) → Stage th T (now (pack .entry)) (now (places .entry)) p (now (work .entry)) (slotTable p (now (work .entry)) slot) (slot + 961) → Memory th (k .0) p (slot + 961) (now (work .entry)) → Told (Memory th (k .0) p (slot + 961)) (slot + 961) (now (work .entry)) (now (work .exit)) r (AboveBySome th (k .0) (e .0) c base (suc left) (meaning (p .characters) T 0))) ⌝ }
 {
-    let mut x = 0;
+    let mut x = next_promising(pack, places, p, work, slot, 0, c + 1, left, base);
     while x < p.actions {
         let found = via(pack, places, p, work, slot, c, x, e, k, left, base);
         if found {
             return true;
         }
-        x += 1;
+        x = next_promising(pack, places, p, work, slot, x + 1, c + 1, left, base);
     }
     false
 }
@@ -206,9 +206,6 @@ pub fn via(
         characters: p.characters,
         width: p.fluents + p.characters,
     };
-    if !promising(pack, places, p, work, t, x, c + 1, left, base) {
-        return false;
-    }
     let agreed = allowed(pack, places, p, work, t, 0, slot + 961, c, x, e, k);
     if !agreed {
         return false;

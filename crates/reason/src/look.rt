@@ -8,7 +8,7 @@ use state::judge::after_condition;
 use state::judge::holds;
 use state::judge::passes;
 use state::table::Table;
-ghost use Prim.Native.Nat.{ℕ};
+ghost use Prim.Native.Nat.{ℕ, _≤_};
 ghost use mathlib.Core.Path.{_≡_};
 ghost use mathlib.Core.Bool.{Bool, false, _&&_};
 ghost use mathlib.Core.List.{List};
@@ -19,7 +19,7 @@ ghost use Rattle.state.specs.Grammar.{Dimensions, testAt, conditionAt, rulesAt,
 ghost use Rattle.pack.specs.Contents.{Gives};
 ghost use Rattle.state.specs.Judge.{alternativeAt, Small, Readable};
 ghost use Rattle.transition.specs.Laws.Still as still;
-ghost use Rattle.reason.specs.Inner.Look.{Acted, Moved, Lookable, Looked, Tryable, Hopeless};
+ghost use Rattle.reason.specs.Inner.Look.{Acted, Moved, Lookable, Looked, Tryable, Hopeless, Trying, Skipped};
 
 // Whether the effect at a place writes a fluent of the state itself.
 pub fn sets(pack: &[u8], at: usize, fluent: usize) -> bool
@@ -213,4 +213,36 @@ pub fn promising(
         t,
         base,
     )
+}
+
+// The first action from x on that is worth a try in the state in a slot, or how many actions there are.
+pub fn next_promising(
+    pack: &[u8],
+    places: &[usize],
+    p: Shape,
+    work: &[u8],
+    slot: usize,
+    x: usize,
+    whose: usize,
+    left: usize,
+    base: usize,
+) -> usize
+    requires { ⌜ Trying (now pack) (now places) p (now work) slot whose × (x ≤ p .actions) ⌝ }
+    ensures { λ r. ⌜ Skipped (now (pack .entry)) (now (places .entry)) p (now (work .entry)) slot whose left base x r ⌝ }
+{
+    let t = Table {
+        rows: slot + 1,
+        nodes: wide(work[slot]),
+        fluents: p.fluents,
+        characters: p.characters,
+        width: p.fluents + p.characters,
+    };
+    let mut y = x;
+    while y < p.actions {
+        if promising(pack, places, p, work, t, y, whose, left, base) {
+            return y;
+        }
+        y += 1;
+    }
+    y
 }

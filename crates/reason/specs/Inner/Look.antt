@@ -3,7 +3,7 @@ use mathlib.Core.Path.{_≡_}
 use mathlib.Core.Bool.{Bool, _||_}
 use mathlib.Core.List.{List, []}
 use Prim.Native.Nat.{ℕ, _+_, _<_, _≤_}
-use lib.ListN.{getD}
+use lib.ListN.{length, getD}
 use Rattle.state.specs.Syntax.{Theory}
 use Rattle.state.specs.State.{State}
 use Rattle.state.specs.Condition.{utility}
@@ -13,9 +13,12 @@ use Rattle.pack.specs.Contents.{Gives}
 use Rattle.state.specs.Judge.{Over}
 use Rattle.state.specs.Table.{stateOf, TableFits}
 use Rattle.state.specs.declared.table.Table.{Table}
+use Rattle.chart.specs.Call.{workRoom}
 use Rattle.change.specs.Happening.{Plays, actionOf}
 use Rattle.transition.specs.Laws.Still.{writes, triggerWrites}
 use Rattle.transition.specs.Inner.Play.{Theorized}
+use Rattle.explanation.specs.declared.memory.Shape.{Shape}
+use Rattle.explanation.specs.Inner.Lists.{slotTable}
 
 -- the fluents that action a or a trigger writes in the state itself
 abbrev pub movedBy : Theory → ℕ → ℕ → Bool
@@ -64,3 +67,16 @@ pub record Tryable (pack places : List ℕ) (triggers a : ℕ) (work : List ℕ)
 abbrev pub Hopeless : (pack places : List ℕ) (triggers a : ℕ) (work : List ℕ) (t : Table) (whose left base : ℕ) → Type 0
 Hopeless pack places triggers a work t whose left base =
     (p : Theory) → Looking p pack places triggers a work t → (s : State) → Plays p (stateOf t work 0) a s → (left ≡ 0) × (utility s (getD (p .utilities) whose []) ≤ base)
+
+-- every action may be tried in the state in a slot
+pub record Trying (pack places : List ℕ) (h : Shape) (work : List ℕ) (slot whose : ℕ) : Type 0 where
+  pub before : slot + 961 ≤ 28832
+  pub room : workRoom ≤ length work
+  pub narrow : h .fluents + h .characters ≤ 30
+  pub each : (a : ℕ) → a < h .actions → Tryable pack places (h .triggers) a work (slotTable h work slot) whose
+
+-- those from x up to r are hopeless there
+pub record Skipped (pack places : List ℕ) (h : Shape) (work : List ℕ) (slot whose left base x r : ℕ) : Type 0 where
+  pub from : x ≤ r
+  pub few : r ≤ h .actions
+  pub hopeless : (a : ℕ) → x ≤ a → a < r → Hopeless pack places (h .triggers) a work (slotTable h work slot) whose left base

@@ -18,7 +18,7 @@ use Rattle.explanation.specs.Inner.Memory.{Memory}
 use Rattle.explanation.specs.Inner.Explain.{Stage, Free}
 use Rattle.planner.specs.Inner.Search.{Best, Trail}
 use Rattle.explanation.proofs.Remembering.{memory-fewer}
-use Rattle.reason.proofs.Looking.{stage-tryable, stage-hopeless}
+use Rattle.reason.proofs.Looking.{below-far, stage-trying, stage-skipped}
 use Rattle.explanation.proofs.Telling.{stage-same, nextTable, next-plays, next-stage, slot-stage, slot-same, stage-before, stage-state, known, note}
 use Rattle.planner.proofs.Completing.{best-none, best-from, best-noted, best-same, fact-of-none, trail-step, trail-same, trail-repeats, best-end, best-first, best-no, best-hopeless, best-by, best-by-none, agreed-from, agreed-to}
 use borrow.Fn.Kinds.{In}
@@ -34,7 +34,7 @@ use Rattle.planner.proofs.search.completes_by.Kinds as completes-by-kin
 use Rattle.planner.proofs.search.+completes+completes_after+completes_by.Lts-completes_by as completes-by-lts
 use Rattle.reading.proofs.number.wide.Reads as wide-reads
 use Rattle.reason.proofs.explain.allowed.Reads as allowed-reads
-use Rattle.reason.proofs.look.promising.Reads as promising-reads
+use Rattle.reason.proofs.look.next_promising.Reads as next-promising-reads
 use Rattle.explanation.proofs.fact.recall.Reads as recall-reads
 use Rattle.explanation.proofs.fact.remember.Reads as remember-reads
 use Rattle.planner.proofs.search.ends.Reads as ends-reads
@@ -88,10 +88,10 @@ completes-by-below t =
     completes-by.Pre
 
 abbrev completes-after-calls : ℕ → completes-after-lts.Claims
-completes-after-calls t = (completes-by-below t, completes-by.Post)
+completes-after-calls t = (next-promising-reads.Asked, next-promising-reads.Learnt, completes-by-below t, completes-by.Post)
 
 abbrev completes-by-calls : ℕ → completes-by-lts.Claims
-completes-by-calls t = (wide-reads.Asked, wide-reads.Learnt, promising-reads.Asked, promising-reads.Learnt, allowed-reads.Asked, allowed-reads.Learnt, known-step-reads.Asked, known-step-reads.Learnt, completes-below t, completes.Post)
+completes-by-calls t = (wide-reads.Asked, wide-reads.Learnt, allowed-reads.Asked, allowed-reads.Learnt, known-step-reads.Asked, known-step-reads.Learnt, completes-below t, completes.Post)
 
 abbrev completes-calls : ℕ → completes-lts.Claims
 completes-calls t = (ends-reads.Asked, ends-reads.Learnt, repeats-reads.Asked, repeats-reads.Learnt, wide-reads.Asked, wide-reads.Learnt, recall-reads.Asked, recall-reads.Learnt, completes-after-below t, completes-after.Post, remember-reads.Asked, remember-reads.Learnt)
@@ -217,12 +217,19 @@ completes-after-Inv-loop pack places p work₀ slot list₀ done e k left base x
 abbrev completes-after-μ-loop : completes-after-lts.MeasureT-loop
 completes-after-μ-loop pack places p work₀ slot list₀ done e k left base x₀ work list x = p .actions - x
 
+completes-after-next-promising-requires : (t : ℕ) → completes-after-lts.Need-next-promising-requires (completes-after-calls t) (completes-after-at t) completes-after.Post completes-after-Inv-loop completes-after-μ-loop
+completes-after-next-promising-requires t c κs = let P = c .before .before .before .before .before .pre .1 in
+    let (th, (T, (y, mem, trail))) = P .0 in
+    (stage-trying y (omega (arith, P .3)) (omega arith), omega arith)
+
 completes-after-loop-holds : (t : ℕ) → completes-after-lts.Need-loop-holds (completes-after-calls t) (completes-after-at t) completes-after.Post completes-after-Inv-loop completes-after-μ-loop
-completes-after-loop-holds t c = (refl, refl, λ q l. refl, λ q l. refl, λ th T y mem trail. (mem, λ j l. absurd (omega arith)))
+completes-after-loop-holds t c = let P = c .before .before .before .before .before .before .pre .1 in
+    let a = c .before .before .before .before .before .before .args in
+    (refl, refl, λ q l. refl, λ q l. refl, λ th T y mem trail. (mem, λ j l. best-hopeless th (a .k .0) (a .e .0) (a .base) (meaning (a .p .characters) T 0) j (stage-skipped y (omega (arith, P .3)) (c .next-promising .ensures) j (omega arith) l)))
 
 completes-after-completes-by-requires : (t : ℕ) → completes-after-lts.Need-completes-by-requires (completes-after-calls t) (completes-after-at t) completes-after.Post completes-after-Inv-loop completes-after-μ-loop
-completes-after-completes-by-requires t c κs = let (m, P) = c .before .before .before .before .before .before .before .before .before .pre in
-    let a = c .before .before .before .before .before .before .before .before .before .args in
+completes-after-completes-by-requires t c κs = let (m, P) = c .before .before .before .before .before .before .before .before .before .before .before .pre in
+    let a = c .before .before .before .before .before .before .before .before .before .before .before .args in
     let (th, (T, (y, mem, trail))) = P .0 in
     let (long, same, low, high, rest) = c .before .before .before .before .loop .inv in
     (omega (arith, m), ((th, (T, (slot-same (a .slot) y low long, rest th T y mem trail .0, trail-same th (a .k .0) (a .e .0) (a .base) (meaning (a .p .characters) T 0) (λ q l. low q (omega (arith, l, P .5))) trail))), c .before .before .if1 .taken, P .1, P .2, omega (arith, P .3), omega (arith, P .4, ap length same), P .5))
@@ -234,8 +241,8 @@ completes-after-same-length-2 : (t : ℕ) → completes-after-lts.Need-same-leng
 completes-after-same-length-2 t c = c .before .before .before .before .before .completes-by .kept .1 .1 .1 .1 .1 .0 ∙ ap length (c .before .before .before .before .before .before .before .before .before .before .loop .inv .1)
 
 completes-after-returns : (t : ℕ) → completes-after-lts.Need-returns (completes-after-calls t) (completes-after-at t) completes-after.Post completes-after-Inv-loop completes-after-μ-loop
-completes-after-returns t c = let P = c .before .before .before .before .before .before .before .before .before .before .before .before .before .before .before .pre .1 in
-    let a = c .before .before .before .before .before .before .before .before .before .before .before .before .before .before .before .args in
+completes-after-returns t c = let P = c .before .before .before .before .before .before .before .before .before .before .before .before .before .before .before .before .before .pre .1 in
+    let a = c .before .before .before .before .before .before .before .before .before .before .before .before .before .before .before .before .before .args in
     let v = c .before .before .before .before .before .completes-by in
     let (long, same, low, high, rest) = c .before .before .before .before .before .before .before .before .before .before .loop .inv in
     λ th T y mem trail.
@@ -243,18 +250,27 @@ completes-after-returns t c = let P = c .before .before .before .before .before 
     let b = best-first th (a .k .0) (a .e .0) (a .base) s low high (rest th T y mem trail .1) (omega (arith, c .if2 .taken)) (v .ensures th T (slot-same (a .slot) y low long) (rest th T y mem trail .0) (trail-same th (a .k .0) (a .e .0) (a .base) s (λ q l. low q (omega (arith, l, P .5))) trail)) in
     subst (λ (was : List ℕ). Best (Memory th (a .k .0) (a .p) (a .slot + 961)) (Ends th (a .k .0) (a .e .0) (a .base) s) (suc (a .left)) was (v .last .1 .1 .1 .1 .1 .0) (a .done) (a .slot + 961) (a .work .now) (v .last .1 .1 .1 .0) (v .result)) same b
 
-completes-after-add-x : (t : ℕ) → completes-after-lts.Need-add-x (completes-after-calls t) (completes-after-at t) completes-after.Post completes-after-Inv-loop completes-after-μ-loop
-completes-after-add-x t c = search needs
+completes-after-add-next-promising : (t : ℕ) → completes-after-lts.Need-add-next-promising (completes-after-calls t) (completes-after-at t) completes-after.Post completes-after-Inv-loop completes-after-μ-loop
+completes-after-add-next-promising t c = let (th, (T, (y, mem, trail))) = c .before .before .before .before .before .before .before .before .before .before .before .before .before .before .before .before .before .before .pre .1 .0 in omega (arith, c .before .before .before .before .before .before .before .before .before .if1 .taken, y .theorized .found .mostActions)
+
+completes-after-next-promising-requires-2 : (t : ℕ) → completes-after-lts.Need-next-promising-requires-2 (completes-after-calls t) (completes-after-at t) completes-after.Post completes-after-Inv-loop completes-after-μ-loop
+completes-after-next-promising-requires-2 t c κs = let P = c .before .before .before .before .before .before .before .before .before .before .before .before .before .before .before .before .before .before .pre .1 in
+    let a = c .before .before .before .before .before .before .before .before .before .before .before .before .before .before .before .before .before .before .args in
+    let v = c .before .before .before .before .before .before .completes-by in
+    let (long, same, low, high, rest) = c .before .before .before .before .before .before .before .before .before .before .before .loop .inv in
+    let (th, (T, (y, mem, trail))) = P .0 in
+    let b = v .ensures th T (slot-same (a .slot) y low long) (rest th T y mem trail .0) (trail-same th (a .k .0) (a .e .0) (a .base) (meaning (a .p .characters) T 0) (λ q l. low q (omega (arith, l, P .5))) trail) in
+    (stage-trying (slot-same (a .slot) y (λ q l. b .low q l ∙ low q l) (v .kept .1 .1 .1 .0 ∙ long)) (omega (arith, P .3)) (omega arith), omega (arith, c .before .before .before .before .before .before .before .before .before .if1 .taken))
 
 completes-after-loop-less : (t : ℕ) → completes-after-lts.Need-loop-less (completes-after-calls t) (completes-after-at t) completes-after.Post completes-after-Inv-loop completes-after-μ-loop
-completes-after-loop-less t c = search needs
+completes-after-loop-less t c = omega (arith, c .next-promising2 .ensures .from, c .before .before .before .before .before .before .before .before .before .before .if1 .taken)
 
 completes-after-loop-again : (t : ℕ) → completes-after-lts.Need-loop-again (completes-after-calls t) (completes-after-at t) completes-after.Post completes-after-Inv-loop completes-after-μ-loop
-completes-after-loop-again t c = let P = c .before .before .before .before .before .before .before .before .before .before .before .before .before .before .before .pre .1 in
-    let a = c .before .before .before .before .before .before .before .before .before .before .before .before .before .before .before .args in
-    let v = c .before .before .before .before .before .completes-by in
-    let (long, same, low, high, rest) = c .before .before .before .before .before .before .before .before .before .before .loop .inv in
-    let zero : v .result ≡ 0 = omega (arith, c .if2 .left) in
+completes-after-loop-again t c = let P = c .before .before .before .before .before .before .before .before .before .before .before .before .before .before .before .before .before .before .before .pre .1 in
+    let a = c .before .before .before .before .before .before .before .before .before .before .before .before .before .before .before .before .before .before .before .args in
+    let v = c .before .before .before .before .before .before .before .completes-by in
+    let (long, same, low, high, rest) = c .before .before .before .before .before .before .before .before .before .before .before .before .loop .inv in
+    let zero : v .result ≡ 0 = omega (arith, c .before .before .if2 .left) in
     let (th, (T, (y, mem, trail))) = P .0 in
     let b = v .ensures th T (slot-same (a .slot) y low long) (rest th T y mem trail .0) (trail-same th (a .k .0) (a .e .0) (a .base) (meaning (a .p .characters) T 0) (λ q l. low q (omega (arith, l, P .5))) trail) in (
       v .kept .1 .1 .1 .0 ∙ long,
@@ -263,7 +279,12 @@ completes-after-loop-again t c = let P = c .before .before .before .before .befo
       λ q l. b .high q l ∙ high q l,
       λ th T y mem trail.
           let b = v .ensures th T (slot-same (a .slot) y low long) (rest th T y mem trail .0) (trail-same th (a .k .0) (a .e .0) (a .base) (meaning (a .p .characters) T 0) (λ q l. low q (omega (arith, l, P .5))) trail) in
-          (b .memory, below-more (λ x. (l : List ℕ) (w : ℕ) → length l ≡ suc (a .left) → ¬ EndsBy th (a .k .0) (a .e .0) (a .base) x (meaning (a .p .characters) T 0) l w) (c .before .before .before .before .before .before .before .before .before .before .loop .x) (rest th T y mem trail .1) (b .none zero .1)),
+          let z = slot-same (a .slot) y (λ q l. b .low q l ∙ low q l) (v .kept .1 .1 .1 .0 ∙ long) in (
+            b .memory,
+            below-far (λ x. (l : List ℕ) (w : ℕ) → length l ≡ suc (a .left) → ¬ EndsBy th (a .k .0) (a .e .0) (a .base) x (meaning (a .p .characters) T 0) l w)
+                (below-more (λ x. (l : List ℕ) (w : ℕ) → length l ≡ suc (a .left) → ¬ EndsBy th (a .k .0) (a .e .0) (a .base) x (meaning (a .p .characters) T 0) l w) (c .before .before .before .before .before .before .before .before .before .before .before .before .loop .x) (rest th T y mem trail .1) (b .none zero .1))
+                (λ j f l. best-hopeless th (a .k .0) (a .e .0) (a .base) (meaning (a .p .characters) T 0) j (stage-skipped z (omega (arith, P .3)) (c .next-promising2 .ensures) j f l)),
+          ),
     )
 
 completes-after-same-length-3 : (t : ℕ) → completes-after-lts.Need-same-length-3 (completes-after-calls t) (completes-after-at t) completes-after.Post completes-after-Inv-loop completes-after-μ-loop
@@ -273,7 +294,7 @@ completes-after-same-length-4 : (t : ℕ) → completes-after-lts.Need-same-leng
 completes-after-same-length-4 t c = ap length (c .before .before .loop .inv .1)
 
 completes-after-returns-2 : (t : ℕ) → completes-after-lts.Need-returns-2 (completes-after-calls t) (completes-after-at t) completes-after.Post completes-after-Inv-loop completes-after-μ-loop
-completes-after-returns-2 t c = let a = c .before .before .before .before .before .before .before .args in
+completes-after-returns-2 t c = let a = c .before .before .before .before .before .before .before .before .before .args in
     let (long, same, low, high, rest) = c .before .before .loop .inv in
     λ th T y mem trail.
     let s = meaning (a .p .characters) T 0 in
@@ -289,156 +310,137 @@ completes-by-slice-read-wide t c = let (th, (T, (y, mem, trail))) = c .before .b
 completes-by-wide-requires : (t : ℕ) → completes-by-lts.Need-wide-requires (completes-by-calls t) (completes-by-at t) completes-by.Post
 completes-by-wide-requires t c κs = search needs
 
-completes-by-add-t21 : (t : ℕ) → completes-by-lts.Need-add-t21 (completes-by-calls t) (completes-by-at t) completes-by.Post
-completes-by-add-t21 t c = omega (arith, c .before .before .before .before .before .before .before .pre .1 .4)
+completes-by-add-known-step : (t : ℕ) → completes-by-lts.Need-add-known-step (completes-by-calls t) (completes-by-at t) completes-by.Post
+completes-by-add-known-step t c = omega (arith, c .before .before .before .before .before .before .before .pre .1 .4)
 
-completes-by-promising-requires : (t : ℕ) → completes-by-lts.Need-promising-requires (completes-by-calls t) (completes-by-at t) completes-by.Post
-completes-by-promising-requires t c κs =
+completes-by-add-allowed-2 : (t : ℕ) → completes-by-lts.Need-add-allowed-2 (completes-by-calls t) (completes-by-at t) completes-by.Post
+completes-by-add-allowed-2 t c = omega (arith, c .before .before .before .before .before .before .before .before .pre .1 .4)
+
+completes-by-allowed-requires : (t : ℕ) → completes-by-lts.Need-allowed-requires (completes-by-calls t) (completes-by-at t) completes-by.Post
+completes-by-allowed-requires t c κs =
     let P = c .before .before .before .before .before .before .before .before .pre .1 in
     let a = c .before .before .before .before .before .before .before .before .args in
     let (th, (T, (y, mem, trail))) = P .0 in
-    stage-tryable (slot-stage (a .p) (a .work .now) (a .slot) (c .before .before .wide .ensures) y) (P .1) (omega arith)
+    let z = slot-stage (a .p) (a .work .now) (a .slot) (c .before .before .wide .ensures) y in
+    ((th, (T, (z, mem))), z .tabled .some, P .1, P .2, P .3, omega (arith, P .4))
 
 completes-by-same-length : (t : ℕ) → completes-by-lts.Need-same-length (completes-by-calls t) (completes-by-at t) completes-by.Post
 completes-by-same-length t c = search needs
 
 completes-by-returns : (t : ℕ) → completes-by-lts.Need-returns (completes-by-calls t) (completes-by-at t) completes-by.Post
 completes-by-returns t c =
-    let P = c .before .before .before .before .before .before .before .before .before .before .pre .1 in
-    let a = c .before .before .before .before .before .before .before .before .before .before .args in
-    let w = c .before .promising in
-    λ th T y mem trail.
-    let z = slot-stage (a .p) (a .work .now) (a .slot) (c .before .before .before .before .wide .ensures) y in
-    best-none _ (λ q l. refl) (λ q l. refl) mem (best-hopeless th (a .k .0) (a .e .0) (a .base) (meaning (a .p .characters) T 0) (a .x) (stage-hopeless z (P .1) 0 (w .ensures (not-true (w .result) (c .if1 .taken)))))
-
-completes-by-add-allowed-2 : (t : ℕ) → completes-by-lts.Need-add-allowed-2 (completes-by-calls t) (completes-by-at t) completes-by.Post
-completes-by-add-allowed-2 t c = omega (arith, c .before .before .before .before .before .before .before .before .before .before .before .pre .1 .4)
-
-completes-by-allowed-requires : (t : ℕ) → completes-by-lts.Need-allowed-requires (completes-by-calls t) (completes-by-at t) completes-by.Post
-completes-by-allowed-requires t c κs =
-    let P = c .before .before .before .before .before .before .before .before .before .before .before .pre .1 in
-    let a = c .before .before .before .before .before .before .before .before .before .before .before .args in
-    let (th, (T, (y, mem, trail))) = P .0 in
-    let z = slot-stage (a .p) (a .work .now) (a .slot) (c .before .before .before .before .before .wide .ensures) y in
-    ((th, (T, (z, mem))), z .tabled .some, P .1, P .2, P .3, omega (arith, P .4))
-
-completes-by-same-length-2 : (t : ℕ) → completes-by-lts.Need-same-length-2 (completes-by-calls t) (completes-by-at t) completes-by.Post
-completes-by-same-length-2 t c = search needs
-
-completes-by-returns-2 : (t : ℕ) → completes-by-lts.Need-returns-2 (completes-by-calls t) (completes-by-at t) completes-by.Post
-completes-by-returns-2 t c =
-    let P = c .before .before .before .before .before .before .before .before .before .before .before .before .before .before .before .pre .1 in
-    let a = c .before .before .before .before .before .before .before .before .before .before .before .before .before .before .before .args in
+    let P = c .before .before .before .before .before .before .before .before .before .before .before .before .pre .1 in
+    let a = c .before .before .before .before .before .before .before .before .before .before .before .before .args in
     let w = c .before .before .before .allowed in
     λ th T y mem trail.
-    let told = w .ensures th T (slot-stage (a .p) (a .work .now) (a .slot) (c .before .before .before .before .before .before .before .before .before .wide .ensures) y) mem in
-    best-none _ (told .low) (told .high) (told .memory) (λ l v q g. told .complete (not-true (w .result) (c .if2 .taken)) (agreed-to y (a .k .0) (a .e .0) (a .x) (P .1) (meaning (a .p .characters) T 0) (g .2 .2)))
+    let told = w .ensures th T (slot-stage (a .p) (a .work .now) (a .slot) (c .before .before .before .before .before .before .wide .ensures) y) mem in
+    best-none _ (told .low) (told .high) (told .memory) (λ l v q g. told .complete (not-true (w .result) (c .if1 .taken)) (agreed-to y (a .k .0) (a .e .0) (a .x) (P .1) (meaning (a .p .characters) T 0) (g .2 .2)))
 
-completes-by-add-known-step : (t : ℕ) → completes-by-lts.Need-add-known-step (completes-by-calls t) (completes-by-at t) completes-by.Post
-completes-by-add-known-step t c = let (th, (T, (y, mem, trail))) = c .before .before .before .before .before .before .before .before .before .before .before .before .before .before .before .before .pre .1 .0 in omega (arith, small (y .tabled))
+completes-by-add-known-step-2 : (t : ℕ) → completes-by-lts.Need-add-known-step-2 (completes-by-calls t) (completes-by-at t) completes-by.Post
+completes-by-add-known-step-2 t c = let (th, (T, (y, mem, trail))) = c .before .before .before .before .before .before .before .before .before .before .before .before .before .pre .1 .0 in omega (arith, small (y .tabled))
 
 completes-by-known-step-requires : (t : ℕ) → completes-by-lts.Need-known-step-requires (completes-by-calls t) (completes-by-at t) completes-by.Post
-completes-by-known-step-requires t c κs = let P = c .before .before .before .before .before .before .before .before .before .before .before .before .before .before .before .before .pre .1 in
-    let a = c .before .before .before .before .before .before .before .before .before .before .before .before .before .before .before .before .args in
+completes-by-known-step-requires t c κs = let P = c .before .before .before .before .before .before .before .before .before .before .before .before .before .pre .1 in
+    let a = c .before .before .before .before .before .before .before .before .before .before .before .before .before .args in
     let (th, (T, (y, mem, trail))) = P .0 in
-    let z = slot-stage (a .p) (a .work .now) (a .slot) (c .before .before .before .before .before .before .before .before .before .before .wide .ensures) y in
+    let z = slot-stage (a .p) (a .work .now) (a .slot) (c .before .before .before .before .before .before .before .wide .ensures) y in
     let w = c .before .before .before .before .allowed in
     let told = w .ensures th T z mem in
     (a .k .0, ((th, (T, (stage-same z (told .low) (w .kept .1 .1 .1 .0), told .memory))), P .1, z .tabled .some, omega (arith, P .4)))
 
-completes-by-same-length-3 : (t : ℕ) → completes-by-lts.Need-same-length-3 (completes-by-calls t) (completes-by-at t) completes-by.Post
-completes-by-same-length-3 t c = c .before .before .before .known-step .kept .1 .1 .1 .1 .0 ∙ c .before .before .before .before .before .before .before .before .allowed .kept .1 .1 .1 .0
+completes-by-same-length-2 : (t : ℕ) → completes-by-lts.Need-same-length-2 (completes-by-calls t) (completes-by-at t) completes-by.Post
+completes-by-same-length-2 t c = c .before .before .before .known-step .kept .1 .1 .1 .1 .0 ∙ c .before .before .before .before .before .before .before .before .allowed .kept .1 .1 .1 .0
 
-completes-by-returns-3 : (t : ℕ) → completes-by-lts.Need-returns-3 (completes-by-calls t) (completes-by-at t) completes-by.Post
-completes-by-returns-3 t c = let a = c .before .before .before .before .before .before .before .before .before .before .before .before .before .before .before .before .before .before .before .before .args in
+completes-by-returns-2 : (t : ℕ) → completes-by-lts.Need-returns-2 (completes-by-calls t) (completes-by-at t) completes-by.Post
+completes-by-returns-2 t c = let a = c .before .before .before .before .before .before .before .before .before .before .before .before .before .before .before .before .before .args in
     let w = c .before .before .before .before .before .before .before .before .allowed in
     let s = c .before .before .before .known-step in
     λ th T y mem trail.
-    let z = slot-stage (a .p) (a .work .now) (a .slot) (c .before .before .before .before .before .before .before .before .before .before .before .before .before .before .wide .ensures) y in
+    let z = slot-stage (a .p) (a .work .now) (a .slot) (c .before .before .before .before .before .before .before .before .before .before .before .wide .ensures) y in
     let told = w .ensures th T z mem in
     let played = s .ensures th T (a .k .0) (stage-same z (told .low) (w .kept .1 .1 .1 .0)) (told .memory) in
-    best-none _ (λ q l. played .low q l ∙ told .low q l) (λ q l. played .high q l ∙ told .high q l) (played .memory) (λ l v q g. played .none (c .if3 .taken) (g .2 .0) (g .2 .1))
+    best-none _ (λ q l. played .low q l ∙ told .low q l) (λ q l. played .high q l ∙ told .high q l) (played .memory) (λ l v q g. played .none (c .if2 .taken) (g .2 .0) (g .2 .1))
 
 completes-by-add-completes : (t : ℕ) → completes-by-lts.Need-add-completes (completes-by-calls t) (completes-by-at t) completes-by.Post
-completes-by-add-completes t c = omega (arith, c .before .before .before .before .before .before .before .before .before .before .before .before .before .before .before .before .before .before .before .before .before .pre .1 .4)
+completes-by-add-completes t c = omega (arith, c .before .before .before .before .before .before .before .before .before .before .before .before .before .before .before .before .before .before .pre .1 .4)
 
 completes-by-add-completes-2 : (t : ℕ) → completes-by-lts.Need-add-completes-2 (completes-by-calls t) (completes-by-at t) completes-by.Post
-completes-by-add-completes-2 t c = omega (arith, c .before .before .before .before .before .before .before .before .before .before .before .before .before .before .before .before .before .before .before .before .before .before .pre .1 .5, c .before .before .before .before .before .before .before .before .before .before .before .before .before .before .before .before .before .before .before .before .before .before .good .1 .1 .1 .1 .1 .0 .0)
+completes-by-add-completes-2 t c = omega (arith, c .before .before .before .before .before .before .before .before .before .before .before .before .before .before .before .before .before .before .before .pre .1 .5, c .before .before .before .before .before .before .before .before .before .before .before .before .before .before .before .before .before .before .before .good .1 .1 .1 .1 .1 .0 .0)
 
 completes-by-completes-requires : (t : ℕ) → completes-by-lts.Need-completes-requires (completes-by-calls t) (completes-by-at t) completes-by.Post
-completes-by-completes-requires t c κs = let (m, P) = c .before .before .before .before .before .before .before .before .before .before .before .before .before .before .before .before .before .before .before .before .before .before .pre in
-    let a = c .before .before .before .before .before .before .before .before .before .before .before .before .before .before .before .before .before .before .before .before .before .before .args in
+completes-by-completes-requires t c κs = let (m, P) = c .before .before .before .before .before .before .before .before .before .before .before .before .before .before .before .before .before .before .before .pre in
+    let a = c .before .before .before .before .before .before .before .before .before .before .before .before .before .before .before .before .before .before .before .args in
     let (th, (T, (y, mem, trail))) = P .0 in
     let w = c .before .before .before .before .before .before .before .before .before .before .allowed in
     let s = c .before .before .before .before .before .known-step in
-    let z = slot-stage (a .p) (a .work .now) (a .slot) (c .before .before .before .before .before .before .before .before .before .before .before .before .before .before .before .before .wide .ensures) y in
+    let z = slot-stage (a .p) (a .work .now) (a .slot) (c .before .before .before .before .before .before .before .before .before .before .before .before .before .wide .ensures) y in
     let told = w .ensures th T z mem in
     let z′ = stage-same z (told .low) (w .kept .1 .1 .1 .0) in
     let f : Free (a .slot + 961) 1 = omega (arith, P .4) in
     let long = s .kept .1 .1 .1 .1 .0 in
     let played = s .ensures th T (a .k .0) z′ (told .memory) in
-    let zero : s .result ≡ 0 = omega (arith, c .before .before .if3 .left) in
+    let zero : s .result ≡ 0 = omega (arith, c .before .before .if2 .left) in
     let plays = next-plays z′ 0 played f long zero in
-    let agreed = agreed-from y (a .k .0) (a .e .0) (a .x) (P .1) (meaning (a .p .characters) T 0) (told .sound (not-false (w .result) (c .before .before .before .before .before .before .before .if2 .left))) in
+    let agreed = agreed-from y (a .k .0) (a .e .0) (a .x) (P .1) (meaning (a .p .characters) T 0) (told .sound (not-false (w .result) (c .before .before .before .before .before .before .before .if1 .left))) in
     let next = trail-step (a .slot) y (a .k .0) (a .e .0) (a .base) trail (P .6) (s .last .1 .1 .1 .1 .0) (λ q l. played .low q l ∙ told .low q l) (long ∙ w .kept .1 .1 .1 .0) plays agreed in
     (omega (arith, m), ((th, (nextTable z′ 0 played f long zero, (next-stage z′ 0 played f long zero, played .further zero, next))), P .2, P .3, omega (arith, P .4), omega (arith, P .5), omega (arith, P .6)))
 
 completes-by-cast-list : (t : ℕ) → completes-by-lts.Need-cast-list (completes-by-calls t) (completes-by-at t) completes-by.Post
-completes-by-cast-list t c = let (th, (T, (y, mem, trail))) = c .before .before .before .before .before .before .before .before .before .before .before .before .before .before .before .before .before .before .before .before .before .before .before .before .before .before .before .before .pre .1 .0 in omega (arith, c .before .before .before .before .before .before .before .before .before .before .before .before .before .before .before .before .before .before .before .before .before .before .before .before .before .before .before .before .pre .1 .1, y .theorized .found .mostActions)
+completes-by-cast-list t c = let (th, (T, (y, mem, trail))) = c .before .before .before .before .before .before .before .before .before .before .before .before .before .before .before .before .before .before .before .before .before .before .before .before .before .pre .1 .0 in omega (arith, c .before .before .before .before .before .before .before .before .before .before .before .before .before .before .before .before .before .before .before .before .before .before .before .before .before .pre .1 .1, y .theorized .found .mostActions)
 
 completes-by-slice-write-list : (t : ℕ) → completes-by-lts.Need-slice-write-list (completes-by-calls t) (completes-by-at t) completes-by.Post
-completes-by-slice-write-list t c = omega (arith, c .before .before .before .before .before .before .before .before .before .before .before .before .before .before .before .before .before .before .before .before .before .before .before .before .before .before .before .before .pre .1 .5, c .before .before .before .before .before .completes .kept .1 .1 .1 .1 .1 .0)
+completes-by-slice-write-list t c = omega (arith, c .before .before .before .before .before .before .before .before .before .before .before .before .before .before .before .before .before .before .before .before .before .before .before .before .before .pre .1 .5, c .before .before .before .before .before .completes .kept .1 .1 .1 .1 .1 .0)
+
+completes-by-same-length-3 : (t : ℕ) → completes-by-lts.Need-same-length-3 (completes-by-calls t) (completes-by-at t) completes-by.Post
+completes-by-same-length-3 t c = c .before .before .before .before .before .completes .kept .1 .1 .1 .0 ∙ c .before .before .before .before .before .before .before .before .before .before .before .known-step .kept .1 .1 .1 .1 .0 ∙ c .before .before .before .before .before .before .before .before .before .before .before .before .before .before .before .before .allowed .kept .1 .1 .1 .0
 
 completes-by-same-length-4 : (t : ℕ) → completes-by-lts.Need-same-length-4 (completes-by-calls t) (completes-by-at t) completes-by.Post
-completes-by-same-length-4 t c = c .before .before .before .before .before .completes .kept .1 .1 .1 .0 ∙ c .before .before .before .before .before .before .before .before .before .before .before .known-step .kept .1 .1 .1 .1 .0 ∙ c .before .before .before .before .before .before .before .before .before .before .before .before .before .before .before .before .allowed .kept .1 .1 .1 .0
+completes-by-same-length-4 t c = length-set {A = ℕ} (c .before .before .before .before .before .completes .last .1 .1 .1 .1 .1 .0) (c .before .before .before .before .before .before .before .before .before .before .before .before .before .before .before .before .before .before .before .before .before .before .before .before .before .args .done) (c .before .before .before .before .before .before .before .before .before .before .before .before .before .before .before .before .before .before .before .before .before .before .before .before .before .args .x) ∙ c .before .before .before .before .before .completes .kept .1 .1 .1 .1 .1 .0
 
-completes-by-same-length-5 : (t : ℕ) → completes-by-lts.Need-same-length-5 (completes-by-calls t) (completes-by-at t) completes-by.Post
-completes-by-same-length-5 t c = length-set {A = ℕ} (c .before .before .before .before .before .completes .last .1 .1 .1 .1 .1 .0) (c .before .before .before .before .before .before .before .before .before .before .before .before .before .before .before .before .before .before .before .before .before .before .before .before .before .before .before .before .args .done) (c .before .before .before .before .before .before .before .before .before .before .before .before .before .before .before .before .before .before .before .before .before .before .before .before .before .before .before .before .args .x) ∙ c .before .before .before .before .before .completes .kept .1 .1 .1 .1 .1 .0
-
-completes-by-returns-4 : (t : ℕ) → completes-by-lts.Need-returns-4 (completes-by-calls t) (completes-by-at t) completes-by.Post
-completes-by-returns-4 t c = let P = c .before .before .before .before .before .before .before .before .before .before .before .before .before .before .before .before .before .before .before .before .before .before .before .before .before .before .before .before .pre .1 in
-    let a = c .before .before .before .before .before .before .before .before .before .before .before .before .before .before .before .before .before .before .before .before .before .before .before .before .before .before .before .before .args in
+completes-by-returns-3 : (t : ℕ) → completes-by-lts.Need-returns-3 (completes-by-calls t) (completes-by-at t) completes-by.Post
+completes-by-returns-3 t c = let P = c .before .before .before .before .before .before .before .before .before .before .before .before .before .before .before .before .before .before .before .before .before .before .before .before .before .pre .1 in
+    let a = c .before .before .before .before .before .before .before .before .before .before .before .before .before .before .before .before .before .before .before .before .before .before .before .before .before .args in
     let w = c .before .before .before .before .before .before .before .before .before .before .before .before .before .before .before .before .allowed in
     let s = c .before .before .before .before .before .before .before .before .before .before .before .known-step in
     let d = c .before .before .before .before .before .completes in
     λ th T y mem trail.
-    let z = slot-stage (a .p) (a .work .now) (a .slot) (c .before .before .before .before .before .before .before .before .before .before .before .before .before .before .before .before .before .before .before .before .before .before .wide .ensures) y in
+    let z = slot-stage (a .p) (a .work .now) (a .slot) (c .before .before .before .before .before .before .before .before .before .before .before .before .before .before .before .before .before .before .before .wide .ensures) y in
     let told = w .ensures th T z mem in
     let z′ = stage-same z (told .low) (w .kept .1 .1 .1 .0) in
     let f : Free (a .slot + 961) 1 = omega (arith, P .4) in
     let long = s .kept .1 .1 .1 .1 .0 in
     let played = s .ensures th T (a .k .0) z′ (told .memory) in
-    let zero : s .result ≡ 0 = omega (arith, c .before .before .before .before .before .before .before .before .if3 .left) in
+    let zero : s .result ≡ 0 = omega (arith, c .before .before .before .before .before .before .before .before .if2 .left) in
     let plays = next-plays z′ 0 played f long zero in
-    let agreed = agreed-from y (a .k .0) (a .e .0) (a .x) (P .1) (meaning (a .p .characters) T 0) (told .sound (not-false (w .result) (c .before .before .before .before .before .before .before .before .before .before .before .before .before .if2 .left))) in
+    let agreed = agreed-from y (a .k .0) (a .e .0) (a .x) (P .1) (meaning (a .p .characters) T 0) (told .sound (not-false (w .result) (c .before .before .before .before .before .before .before .before .before .before .before .before .before .if1 .left))) in
     let next = trail-step (a .slot) y (a .k .0) (a .e .0) (a .base) trail (P .6) (s .last .1 .1 .1 .1 .0) (λ q l. played .low q l ∙ told .low q l) (long ∙ w .kept .1 .1 .1 .0) plays agreed in
-    best-by th (a .k .0) (a .e .0) (a .base) (meaning (a .p .characters) T 0) (a .x) plays agreed (omega arith) (memory-fewer (a .p) (omega arith)) (λ q l. played .low q l ∙ told .low q l) (λ q l. played .high q l ∙ told .high q l) (d .ensures th (nextTable z′ 0 played f long zero) (next-stage z′ 0 played f long zero) (played .further zero) next) (omega (arith, c .if4 .taken))
+    best-by th (a .k .0) (a .e .0) (a .base) (meaning (a .p .characters) T 0) (a .x) plays agreed (omega arith) (memory-fewer (a .p) (omega arith)) (λ q l. played .low q l ∙ told .low q l) (λ q l. played .high q l ∙ told .high q l) (d .ensures th (nextTable z′ 0 played f long zero) (next-stage z′ 0 played f long zero) (played .further zero) next) (omega (arith, c .if3 .taken))
     (getD-set-same {A = ℕ} (d .last .1 .1 .1 .1 .1 .0) (a .done) (a .x) 0 (omega (arith, P .5, d .kept .1 .1 .1 .1 .1 .0))) (λ q n. getD-set-other {A = ℕ} (d .last .1 .1 .1 .1 .1 .0) (a .done) q (a .x) 0 n)
 
+completes-by-same-length-5 : (t : ℕ) → completes-by-lts.Need-same-length-5 (completes-by-calls t) (completes-by-at t) completes-by.Post
+completes-by-same-length-5 t c = c .before .before .before .before .before .completes .kept .1 .1 .1 .0 ∙ c .before .before .before .before .before .before .before .before .before .before .before .known-step .kept .1 .1 .1 .1 .0 ∙ c .before .before .before .before .before .before .before .before .before .before .before .before .before .before .before .before .allowed .kept .1 .1 .1 .0
+
 completes-by-same-length-6 : (t : ℕ) → completes-by-lts.Need-same-length-6 (completes-by-calls t) (completes-by-at t) completes-by.Post
-completes-by-same-length-6 t c = c .before .before .before .before .before .completes .kept .1 .1 .1 .0 ∙ c .before .before .before .before .before .before .before .before .before .before .before .known-step .kept .1 .1 .1 .1 .0 ∙ c .before .before .before .before .before .before .before .before .before .before .before .before .before .before .before .before .allowed .kept .1 .1 .1 .0
+completes-by-same-length-6 t c = c .before .before .before .before .before .completes .kept .1 .1 .1 .1 .1 .0
 
-completes-by-same-length-7 : (t : ℕ) → completes-by-lts.Need-same-length-7 (completes-by-calls t) (completes-by-at t) completes-by.Post
-completes-by-same-length-7 t c = c .before .before .before .before .before .completes .kept .1 .1 .1 .1 .1 .0
-
-completes-by-returns-5 : (t : ℕ) → completes-by-lts.Need-returns-5 (completes-by-calls t) (completes-by-at t) completes-by.Post
-completes-by-returns-5 t c = let P = c .before .before .before .before .before .before .before .before .before .before .before .before .before .before .before .before .before .before .before .before .before .before .before .before .before .before .before .before .pre .1 in
-    let a = c .before .before .before .before .before .before .before .before .before .before .before .before .before .before .before .before .before .before .before .before .before .before .before .before .before .before .before .before .args in
+completes-by-returns-4 : (t : ℕ) → completes-by-lts.Need-returns-4 (completes-by-calls t) (completes-by-at t) completes-by.Post
+completes-by-returns-4 t c = let P = c .before .before .before .before .before .before .before .before .before .before .before .before .before .before .before .before .before .before .before .before .before .before .before .before .before .pre .1 in
+    let a = c .before .before .before .before .before .before .before .before .before .before .before .before .before .before .before .before .before .before .before .before .before .before .before .before .before .args in
     let w = c .before .before .before .before .before .before .before .before .before .before .before .before .before .before .before .before .allowed in
     let s = c .before .before .before .before .before .before .before .before .before .before .before .known-step in
     let d = c .before .before .before .before .before .completes in
     λ th T y mem trail.
-    let z = slot-stage (a .p) (a .work .now) (a .slot) (c .before .before .before .before .before .before .before .before .before .before .before .before .before .before .before .before .before .before .before .before .before .before .wide .ensures) y in
+    let z = slot-stage (a .p) (a .work .now) (a .slot) (c .before .before .before .before .before .before .before .before .before .before .before .before .before .before .before .before .before .before .before .wide .ensures) y in
     let told = w .ensures th T z mem in
     let z′ = stage-same z (told .low) (w .kept .1 .1 .1 .0) in
     let f : Free (a .slot + 961) 1 = omega (arith, P .4) in
     let long = s .kept .1 .1 .1 .1 .0 in
     let played = s .ensures th T (a .k .0) z′ (told .memory) in
-    let zero : s .result ≡ 0 = omega (arith, c .before .before .before .before .before .before .before .before .if3 .left) in
+    let zero : s .result ≡ 0 = omega (arith, c .before .before .before .before .before .before .before .before .if2 .left) in
     let plays = next-plays z′ 0 played f long zero in
-    let agreed = agreed-from y (a .k .0) (a .e .0) (a .x) (P .1) (meaning (a .p .characters) T 0) (told .sound (not-false (w .result) (c .before .before .before .before .before .before .before .before .before .before .before .before .before .if2 .left))) in
+    let agreed = agreed-from y (a .k .0) (a .e .0) (a .x) (P .1) (meaning (a .p .characters) T 0) (told .sound (not-false (w .result) (c .before .before .before .before .before .before .before .before .before .before .before .before .before .if1 .left))) in
     let next = trail-step (a .slot) y (a .k .0) (a .e .0) (a .base) trail (P .6) (s .last .1 .1 .1 .1 .0) (λ q l. played .low q l ∙ told .low q l) (long ∙ w .kept .1 .1 .1 .0) plays agreed in
-    best-by-none th (a .k .0) (a .e .0) (a .base) (meaning (a .p .characters) T 0) (a .x) plays agreed (omega arith) (memory-fewer (a .p) (omega arith)) (λ q l. played .low q l ∙ told .low q l) (λ q l. played .high q l ∙ told .high q l) (d .ensures th (nextTable z′ 0 played f long zero) (next-stage z′ 0 played f long zero) (played .further zero) next) (omega (arith, c .if4 .left))
+    best-by-none th (a .k .0) (a .e .0) (a .base) (meaning (a .p .characters) T 0) (a .x) plays agreed (omega arith) (memory-fewer (a .p) (omega arith)) (λ q l. played .low q l ∙ told .low q l) (λ q l. played .high q l ∙ told .high q l) (d .ensures th (nextTable z′ 0 played f long zero) (next-stage z′ 0 played f long zero) (played .further zero) next) (omega (arith, c .if3 .left))
 
 pub +completes+completes-after+completes-by-spec : {M : Type 1} → statement M
 +completes+completes-after+completes-by-spec =
@@ -473,12 +475,14 @@ pub +completes+completes-after+completes-by-spec : {M : Type 1} → statement M
     completes-after.Post
     completes-after-Inv-loop
     completes-after-μ-loop
+    (completes-after-next-promising-requires t)
     (completes-after-loop-holds t)
     (completes-after-completes-by-requires t)
     (completes-after-same-length t)
     (completes-after-same-length-2 t)
     (completes-after-returns t)
-    (completes-after-add-x t)
+    (completes-after-add-next-promising t)
+    (completes-after-next-promising-requires-2 t)
     (completes-after-loop-less t)
     (completes-after-loop-again t)
     (completes-after-same-length-3 t)
@@ -490,26 +494,23 @@ pub +completes+completes-after+completes-by-spec : {M : Type 1} → statement M
     (completes-by-add-allowed t)
     (completes-by-slice-read-wide t)
     (completes-by-wide-requires t)
-    (completes-by-add-t21 t)
-    (completes-by-promising-requires t)
-    (completes-by-same-length t)
-    (completes-by-returns t)
+    (completes-by-add-known-step t)
     (completes-by-add-allowed-2 t)
     (completes-by-allowed-requires t)
+    (completes-by-same-length t)
+    (completes-by-returns t)
+    (completes-by-add-known-step-2 t)
+    (completes-by-known-step-requires t)
     (completes-by-same-length-2 t)
     (completes-by-returns-2 t)
-    (completes-by-add-known-step t)
-    (completes-by-known-step-requires t)
-    (completes-by-same-length-3 t)
-    (completes-by-returns-3 t)
     (completes-by-add-completes t)
     (completes-by-add-completes-2 t)
     (completes-by-completes-requires t)
     (completes-by-cast-list t)
     (completes-by-slice-write-list t)
+    (completes-by-same-length-3 t)
     (completes-by-same-length-4 t)
+    (completes-by-returns-3 t)
     (completes-by-same-length-5 t)
-    (completes-by-returns-4 t)
     (completes-by-same-length-6 t)
-    (completes-by-same-length-7 t)
-    (completes-by-returns-5 t)
+    (completes-by-returns-4 t)

@@ -19,7 +19,7 @@ use Rattle.explanation.specs.Inner.Lists as inner
 use Rattle.explanation.specs.Inner.Memory.{Memory}
 use Rattle.explanation.specs.Inner.Explain.{Stage, Free}
 use Rattle.explanation.proofs.Remembering.{memory-fewer}
-use Rattle.reason.proofs.Looking.{stage-tryable, stage-hopeless}
+use Rattle.reason.proofs.Looking.{below-far, stage-trying, stage-skipped}
 use Rattle.explanation.proofs.Telling.{Content, told-none, told-by, told-no, told-yes, stage-same, stage-setting, stage-rules, stage-utility, nextTable, next-plays, next-stage, reach-here, reach-no-more, by-hopeless, by-from, by-to, explained-from, explained-to, explained-zero, explained-plays, agreed-all, content-of, content-more, one-less, stage-row, stage-believed, consentersOf, consent-place, consent-readable, consent-count, consent-each, slot-stage, slot-same, stage-before, known, note, verdict, extended, noted}
 use borrow.Fn.Kinds.{In}
 use borrow.Fn.PlainCycle.{Measures, is, falls, and}
@@ -49,7 +49,7 @@ use Rattle.reading.proofs.number.wide.Reads as wide-reads
 use Rattle.state.proofs.write.consenter.Reads as consenter-reads
 use Rattle.state.proofs.write.consenters.Reads as consenters-reads
 use Rattle.reason.proofs.explain.mark.Reads as mark-reads
-use Rattle.reason.proofs.look.promising.Reads as promising-reads
+use Rattle.reason.proofs.look.next_promising.Reads as next-promising-reads
 use Rattle.explanation.proofs.fact.recall.Reads as recall-reads
 use Rattle.explanation.proofs.fact.remember.Reads as remember-reads
 use Rattle.explanation.proofs.known.known_step.Reads as known-step-reads
@@ -139,8 +139,11 @@ extends-calls t = (wide-reads.Asked, wide-reads.Learnt, utility-reads.Asked, uti
 abbrev allowed-calls : ℕ → allowed-lts.Claims
 allowed-calls t = (consenters-reads.Asked, consenters-reads.Learnt, consenter-reads.Asked, consenter-reads.Learnt, fine-below t, fine.Post)
 
+abbrev extends-by-calls : ℕ → extends-by-lts.Claims
+extends-by-calls t = (next-promising-reads.Asked, next-promising-reads.Learnt, via-below t, via.Post)
+
 abbrev via-calls : ℕ → via-lts.Claims
-via-calls t = (wide-reads.Asked, wide-reads.Learnt, promising-reads.Asked, promising-reads.Learnt, allowed-below t, allowed.Post, known-step-reads.Asked, known-step-reads.Learnt, extends-below t, extends.Post)
+via-calls t = (wide-reads.Asked, wide-reads.Learnt, allowed-below t, allowed.Post, known-step-reads.Asked, known-step-reads.Learnt, extends-below t, extends.Post)
 
 abbrev allowed-Inv-loop : allowed-lts.InvT-loop
 allowed-Inv-loop pack places p work₀ t root slot who x e k at count i₀ work i = (length work ≡ length work₀) × Below work₀ work slot × Above work₀ work workRoom
@@ -530,87 +533,60 @@ extends-by-Inv-loop pack places p work₀ slot c e k left base x₀ work x = (le
 abbrev extends-by-μ-loop : extends-by-lts.MeasureT-loop
 extends-by-μ-loop pack places p work₀ slot c e k left base x₀ work x = p .actions - x
 
-extends-by-loop-holds :
-    (t : ℕ) →
-    extends-by-lts.Need-loop-holds
-    (via-below t, via.Post)
-    (extends-by-at t)
-    extends-by.Post
-    extends-by-Inv-loop
-    extends-by-μ-loop
-extends-by-loop-holds t c = (refl, λ q l. refl, λ q l. refl, λ th T y mem. (mem, λ j l. absurd (omega arith)))
+extends-by-add-next-promising : (t : ℕ) → extends-by-lts.Need-add-next-promising (extends-by-calls t) (extends-by-at t) extends-by.Post extends-by-Inv-loop extends-by-μ-loop
+extends-by-add-next-promising t c = let P = c .before .before .before .before .pre .1 in let (th, (T, (y, mem))) = P .0 in omega (arith, P .1, small (y .tabled))
 
-extends-by-via-requires :
-    (t : ℕ) →
-    extends-by-lts.Need-via-requires
-    (via-below t, via.Post)
-    (extends-by-at t)
-    extends-by.Post
-    extends-by-Inv-loop
-    extends-by-μ-loop
-extends-by-via-requires t c κs = let (m, P) = c .before .before .before .before .before .before .before .pre in
-    let a = c .before .before .before .before .before .before .before .args in
+extends-by-next-promising-requires : (t : ℕ) → extends-by-lts.Need-next-promising-requires (extends-by-calls t) (extends-by-at t) extends-by.Post extends-by-Inv-loop extends-by-μ-loop
+extends-by-next-promising-requires t c κs = let P = c .before .before .before .before .pre .1 in
+    let (th, (T, (y, mem))) = P .0 in
+    (stage-trying y (omega (arith, P .4)) (omega (arith, P .1)), omega arith)
+
+extends-by-loop-holds : (t : ℕ) → extends-by-lts.Need-loop-holds (extends-by-calls t) (extends-by-at t) extends-by.Post extends-by-Inv-loop extends-by-μ-loop
+extends-by-loop-holds t c = let P = c .before .before .before .before .before .pre .1 in
+    let a = c .before .before .before .before .before .args in
+    (refl, λ q l. refl, λ q l. refl, λ th T y mem. (mem, λ j l. by-hopeless th (a .k .0) (a .e .0) (a .c) (a .base) (a .left) j (meaning (a .p .characters) T 0) (stage-skipped y (omega (arith, P .4)) (c .next-promising .ensures) j (omega arith) l)))
+
+extends-by-via-requires : (t : ℕ) → extends-by-lts.Need-via-requires (extends-by-calls t) (extends-by-at t) extends-by.Post extends-by-Inv-loop extends-by-μ-loop
+extends-by-via-requires t c κs = let (m, P) = c .before .before .before .before .before .before .before .before .before .pre in
+    let a = c .before .before .before .before .before .before .before .before .before .args in
     let (th, (T, (y, mem))) = P .0 in
     let (long, low, high, rest) = c .before .before .before .loop .inv in
     (omega (arith, m), ((th, (T, (slot-same (a .slot) y low long, rest th T y mem .0))), P .1, c .before .if1 .taken, P .2, P .3, omega (arith, P .4)))
 
-extends-by-same-length :
-    (t : ℕ) →
-    extends-by-lts.Need-same-length
-    (via-below t, via.Post)
-    (extends-by-at t)
-    extends-by.Post
-    extends-by-Inv-loop
-    extends-by-μ-loop
+extends-by-same-length : (t : ℕ) → extends-by-lts.Need-same-length (extends-by-calls t) (extends-by-at t) extends-by.Post extends-by-Inv-loop extends-by-μ-loop
 extends-by-same-length t c = c .before .before .before .via .kept .1 .1 .1 .0 ∙ c .before .before .before .before .before .before .before .loop .inv .0
 
-extends-by-returns :
-    (t : ℕ) →
-    extends-by-lts.Need-returns
-    (via-below t, via.Post)
-    (extends-by-at t)
-    extends-by.Post
-    extends-by-Inv-loop
-    extends-by-μ-loop
-extends-by-returns t c = let a = c .before .before .before .before .before .before .before .before .before .before .before .args in
+extends-by-returns : (t : ℕ) → extends-by-lts.Need-returns (extends-by-calls t) (extends-by-at t) extends-by.Post extends-by-Inv-loop extends-by-μ-loop
+extends-by-returns t c = let a = c .before .before .before .before .before .before .before .before .before .before .before .before .before .args in
     let (long, low, high, rest) = c .before .before .before .before .before .before .before .loop .inv in
     let v = c .before .before .before .via in
     λ th T y mem.
     let told = v .ensures th T (slot-same (a .slot) y low long) (rest th T y mem .0) in
     told-yes (λ q l. told .low q l ∙ low q l) (λ q l. told .high q l ∙ high q l) (told .memory) (c .before .before .before .before .before .before .before .loop .x, told .sound (c .if2 .taken))
 
-extends-by-add-x :
-    (t : ℕ) →
-    extends-by-lts.Need-add-x
-    (via-below t, via.Post)
-    (extends-by-at t)
-    extends-by.Post
-    extends-by-Inv-loop
-    extends-by-μ-loop
-extends-by-add-x t c = search needs
+extends-by-add-next-promising-2 : (t : ℕ) → extends-by-lts.Need-add-next-promising-2 (extends-by-calls t) (extends-by-at t) extends-by.Post extends-by-Inv-loop extends-by-μ-loop
+extends-by-add-next-promising-2 t c = let (th, (T, (y, mem))) = c .before .before .before .before .before .before .before .before .before .before .before .before .before .before .pre .1 .0 in omega (arith, c .before .before .before .before .before .before .if1 .taken, y .theorized .found .mostActions)
 
-extends-by-loop-less :
-    (t : ℕ) →
-    extends-by-lts.Need-loop-less
-    (via-below t, via.Post)
-    (extends-by-at t)
-    extends-by.Post
-    extends-by-Inv-loop
-    extends-by-μ-loop
-extends-by-loop-less t c = search needs
+extends-by-add-next-promising-3 : (t : ℕ) → extends-by-lts.Need-add-next-promising-3 (extends-by-calls t) (extends-by-at t) extends-by.Post extends-by-Inv-loop extends-by-μ-loop
+extends-by-add-next-promising-3 t c = let P = c .before .before .before .before .before .before .before .before .before .before .before .before .before .before .pre .1 in let (th, (T, (y, mem))) = P .0 in omega (arith, P .1, small (y .tabled))
 
-extends-by-loop-again :
-    (t : ℕ) →
-    extends-by-lts.Need-loop-again
-    (via-below t, via.Post)
-    (extends-by-at t)
-    extends-by.Post
-    extends-by-Inv-loop
-    extends-by-μ-loop
-extends-by-loop-again t c = let P = c .before .before .before .before .before .before .before .before .before .before .before .pre .1 in
-    let a = c .before .before .before .before .before .before .before .before .before .before .before .args in
-    let (long, low, high, rest) = c .before .before .before .before .before .before .before .loop .inv in
-    let v = c .before .before .before .via in
+extends-by-next-promising-requires-2 : (t : ℕ) → extends-by-lts.Need-next-promising-requires-2 (extends-by-calls t) (extends-by-at t) extends-by.Post extends-by-Inv-loop extends-by-μ-loop
+extends-by-next-promising-requires-2 t c κs = let P = c .before .before .before .before .before .before .before .before .before .before .before .before .before .before .pre .1 in
+    let a = c .before .before .before .before .before .before .before .before .before .before .before .before .before .before .args in
+    let (long, low, high, rest) = c .before .before .before .before .before .before .before .before .loop .inv in
+    let v = c .before .before .before .before .via in
+    let (th, (T, (y, mem))) = P .0 in
+    let told = v .ensures th T (slot-same (a .slot) y low long) (rest th T y mem .0) in
+    (stage-trying (slot-same (a .slot) y (λ q l. told .low q l ∙ low q l) (v .kept .1 .1 .1 .0 ∙ long)) (omega (arith, P .4)) (omega (arith, P .1)), omega (arith, c .before .before .before .before .before .before .if1 .taken))
+
+extends-by-loop-less : (t : ℕ) → extends-by-lts.Need-loop-less (extends-by-calls t) (extends-by-at t) extends-by.Post extends-by-Inv-loop extends-by-μ-loop
+extends-by-loop-less t c = omega (arith, c .next-promising2 .ensures .from, c .before .before .before .before .before .before .before .if1 .taken)
+
+extends-by-loop-again : (t : ℕ) → extends-by-lts.Need-loop-again (extends-by-calls t) (extends-by-at t) extends-by.Post extends-by-Inv-loop extends-by-μ-loop
+extends-by-loop-again t c = let P = c .before .before .before .before .before .before .before .before .before .before .before .before .before .before .before .pre .1 in
+    let a = c .before .before .before .before .before .before .before .before .before .before .before .before .before .before .before .args in
+    let (long, low, high, rest) = c .before .before .before .before .before .before .before .before .before .loop .inv in
+    let v = c .before .before .before .before .before .via in
     let (th, (T, (y, mem))) = P .0 in
     let told = v .ensures th T (slot-same (a .slot) y low long) (rest th T y mem .0) in (
       v .kept .1 .1 .1 .0 ∙ long,
@@ -618,27 +594,18 @@ extends-by-loop-again t c = let P = c .before .before .before .before .before .b
       λ q l. told .high q l ∙ high q l,
       λ th T y mem.
           let told = v .ensures th T (slot-same (a .slot) y low long) (rest th T y mem .0) in
-          (told .memory, below-more (λ x. AboveBy th (a .k .0) (a .e .0) (a .c) (a .base) (suc (a .left)) x (meaning (a .p .characters) T 0) → ⊥) (c .before .before .before .before .before .before .before .loop .x) (rest th T y mem .1) (told .complete (c .if2 .left))),
+          let z = slot-same (a .slot) y (λ q l. told .low q l ∙ low q l) (v .kept .1 .1 .1 .0 ∙ long) in (
+            told .memory,
+            below-far (λ x. AboveBy th (a .k .0) (a .e .0) (a .c) (a .base) (suc (a .left)) x (meaning (a .p .characters) T 0) → ⊥)
+                (below-more (λ x. AboveBy th (a .k .0) (a .e .0) (a .c) (a .base) (suc (a .left)) x (meaning (a .p .characters) T 0) → ⊥) (c .before .before .before .before .before .before .before .before .before .loop .x) (rest th T y mem .1) (told .complete (c .before .before .if2 .left)))
+                (λ j f l. by-hopeless th (a .k .0) (a .e .0) (a .c) (a .base) (a .left) j (meaning (a .p .characters) T 0) (stage-skipped z (omega (arith, P .4)) (c .next-promising2 .ensures) j f l)),
+          ),
     )
 
-extends-by-same-length-2 :
-    (t : ℕ) →
-    extends-by-lts.Need-same-length-2
-    (via-below t, via.Post)
-    (extends-by-at t)
-    extends-by.Post
-    extends-by-Inv-loop
-    extends-by-μ-loop
+extends-by-same-length-2 : (t : ℕ) → extends-by-lts.Need-same-length-2 (extends-by-calls t) (extends-by-at t) extends-by.Post extends-by-Inv-loop extends-by-μ-loop
 extends-by-same-length-2 t c = c .before .before .loop .inv .0
 
-extends-by-returns-2 :
-    (t : ℕ) →
-    extends-by-lts.Need-returns-2
-    (via-below t, via.Post)
-    (extends-by-at t)
-    extends-by.Post
-    extends-by-Inv-loop
-    extends-by-μ-loop
+extends-by-returns-2 : (t : ℕ) → extends-by-lts.Need-returns-2 (extends-by-calls t) (extends-by-at t) extends-by.Post extends-by-Inv-loop extends-by-μ-loop
 extends-by-returns-2 t c = let (long, low, high, rest) = c .before .before .loop .inv in
     λ th T y mem. told-no low high (rest th T y mem .0) (λ z. rest th T y mem .1 (z .0) (omega (arith, z .1 .1 .there, y .theorized .found .actions, c .if1 .left)) (z .1))
 
@@ -660,8 +627,8 @@ fine-returns-2 :
     (t : ℕ) → fine-lts.Need-returns-2 (explained-below t, explained.Post) (fine-at t) fine.Post
 fine-returns-2 t c = λ th T y mem. told-by (omega arith) (λ m. m) (λ q l. refl) (λ q l. refl) (c .before .before .explained .ensures th T y mem) (λ z o. z) (λ f. f (c .before .before .before .before .if1 .left))
 
-via-add-promising : (t : ℕ) → via-lts.Need-add-promising (via-calls t) (via-at t) via.Post
-via-add-promising t c = omega (arith, c .before .before .before .pre .1 .5)
+via-add-allowed : (t : ℕ) → via-lts.Need-add-allowed (via-calls t) (via-at t) via.Post
+via-add-allowed t c = omega (arith, c .before .before .before .pre .1 .5)
 
 via-slice-read-wide : (t : ℕ) → via-lts.Need-slice-read-wide (via-calls t) (via-at t) via.Post
 via-slice-read-wide t c = let (th, (T, (y, mem))) = c .before .before .before .before .pre .1 .0 in omega (arith, c .before .before .before .before .pre .1 .5, y .room)
@@ -669,115 +636,93 @@ via-slice-read-wide t c = let (th, (T, (y, mem))) = c .before .before .before .b
 via-wide-requires : (t : ℕ) → via-lts.Need-wide-requires (via-calls t) (via-at t) via.Post
 via-wide-requires t c κs = search needs
 
-via-add-allowed : (t : ℕ) → via-lts.Need-add-allowed (via-calls t) (via-at t) via.Post
-via-add-allowed t c = let (th, (T, (y, mem))) = c .before .before .before .before .before .before .pre .1 .0 in omega (arith, small (y .tabled))
+via-add-known-step : (t : ℕ) → via-lts.Need-add-known-step (via-calls t) (via-at t) via.Post
+via-add-known-step t c = let (th, (T, (y, mem))) = c .before .before .before .before .before .before .pre .1 .0 in omega (arith, small (y .tabled))
 
-via-add-promising-2 : (t : ℕ) → via-lts.Need-add-promising-2 (via-calls t) (via-at t) via.Post
-via-add-promising-2 t c = let (th, (T, (y, mem))) = c .before .before .before .before .before .before .before .pre .1 .0 in omega (arith, c .before .before .before .before .before .before .before .pre .1 .1, small (y .tabled))
+via-add-allowed-2 : (t : ℕ) → via-lts.Need-add-allowed-2 (via-calls t) (via-at t) via.Post
+via-add-allowed-2 t c = omega (arith, c .before .before .before .before .before .before .before .pre .1 .5)
 
-via-promising-requires : (t : ℕ) → via-lts.Need-promising-requires (via-calls t) (via-at t) via.Post
-via-promising-requires t c κs =
-    let P = c .before .before .before .before .before .before .before .pre .1 in
+via-allowed-requires : (t : ℕ) → via-lts.Need-allowed-requires (via-calls t) (via-at t) via.Post
+via-allowed-requires t c κs =
+    let (m, P) = c .before .before .before .before .before .before .before .pre in
     let a = c .before .before .before .before .before .before .before .args in
     let (th, (T, (y, mem))) = P .0 in
-    stage-tryable (slot-stage (a .p) (a .work .now) (a .slot) (c .before .before .wide .ensures) y) (P .2) (omega (arith, P .1))
+    let z = slot-stage (a .p) (a .work .now) (a .slot) (c .before .before .wide .ensures) y in
+    (omega (arith, m), ((th, (T, (z, mem))), z .tabled .some, P .2, P .3, P .4, omega (arith, P .5)))
 
 via-same-length : (t : ℕ) → via-lts.Need-same-length (via-calls t) (via-at t) via.Post
 via-same-length t c = search needs
 
 via-returns : (t : ℕ) → via-lts.Need-returns (via-calls t) (via-at t) via.Post
 via-returns t c =
-    let P = c .before .before .before .before .before .before .before .before .before .pre .1 in
-    let a = c .before .before .before .before .before .before .before .before .before .args in
-    let w = c .before .promising in
-    λ th T y mem.
-    let z = slot-stage (a .p) (a .work .now) (a .slot) (c .before .before .before .before .wide .ensures) y in
-    told-none _ mem (by-hopeless th (a .k .0) (a .e .0) (a .c) (a .base) (a .left) (a .x) (meaning (a .p .characters) T 0) (stage-hopeless z (P .2) (a .c + 1) (w .ensures (not-true (w .result) (c .if1 .taken)))))
-
-via-add-allowed-2 : (t : ℕ) → via-lts.Need-add-allowed-2 (via-calls t) (via-at t) via.Post
-via-add-allowed-2 t c = omega (arith, c .before .before .before .before .before .before .before .before .before .before .pre .1 .5)
-
-via-allowed-requires : (t : ℕ) → via-lts.Need-allowed-requires (via-calls t) (via-at t) via.Post
-via-allowed-requires t c κs =
-    let (m, P) = c .before .before .before .before .before .before .before .before .before .before .pre in
-    let a = c .before .before .before .before .before .before .before .before .before .before .args in
-    let (th, (T, (y, mem))) = P .0 in
-    let z = slot-stage (a .p) (a .work .now) (a .slot) (c .before .before .before .before .before .wide .ensures) y in
-    (omega (arith, m), ((th, (T, (z, mem))), z .tabled .some, P .2, P .3, P .4, omega (arith, P .5)))
-
-via-same-length-2 : (t : ℕ) → via-lts.Need-same-length-2 (via-calls t) (via-at t) via.Post
-via-same-length-2 t c = search needs
-
-via-returns-2 : (t : ℕ) → via-lts.Need-returns-2 (via-calls t) (via-at t) via.Post
-via-returns-2 t c =
-    let a = c .before .before .before .before .before .before .before .before .before .before .before .before .before .before .args in
+    let a = c .before .before .before .before .before .before .before .before .before .before .before .args in
     let w = c .before .before .before .allowed in
     λ th T y mem.
-    let told = w .ensures th T (slot-stage (a .p) (a .work .now) (a .slot) (c .before .before .before .before .before .before .before .before .before .wide .ensures) y) mem in
-    told-no (told .low) (told .high) (told .memory) (λ z. told .complete (not-true (w .result) (c .if2 .taken)) (z .2))
+    let told = w .ensures th T (slot-stage (a .p) (a .work .now) (a .slot) (c .before .before .before .before .before .before .wide .ensures) y) mem in
+    told-no (told .low) (told .high) (told .memory) (λ z. told .complete (not-true (w .result) (c .if1 .taken)) (z .2))
 
-via-add-known-step : (t : ℕ) → via-lts.Need-add-known-step (via-calls t) (via-at t) via.Post
-via-add-known-step t c = let (th, (T, (y, mem))) = c .before .before .before .before .before .before .before .before .before .before .before .before .before .before .before .pre .1 .0 in omega (arith, small (y .tabled))
+via-add-known-step-2 : (t : ℕ) → via-lts.Need-add-known-step-2 (via-calls t) (via-at t) via.Post
+via-add-known-step-2 t c = let (th, (T, (y, mem))) = c .before .before .before .before .before .before .before .before .before .before .before .before .pre .1 .0 in omega (arith, small (y .tabled))
 
 via-known-step-requires : (t : ℕ) → via-lts.Need-known-step-requires (via-calls t) (via-at t) via.Post
-via-known-step-requires t c κs = let P = c .before .before .before .before .before .before .before .before .before .before .before .before .before .before .before .pre .1 in
-    let a = c .before .before .before .before .before .before .before .before .before .before .before .before .before .before .before .args in
+via-known-step-requires t c κs = let P = c .before .before .before .before .before .before .before .before .before .before .before .before .pre .1 in
+    let a = c .before .before .before .before .before .before .before .before .before .before .before .before .args in
     let (th, (T, (y, mem))) = P .0 in
-    let z = slot-stage (a .p) (a .work .now) (a .slot) (c .before .before .before .before .before .before .before .before .before .before .wide .ensures) y in
+    let z = slot-stage (a .p) (a .work .now) (a .slot) (c .before .before .before .before .before .before .before .wide .ensures) y in
     let w = c .before .before .before .before .allowed in
     let told = w .ensures th T z mem in
     (a .k .0, ((th, (T, (stage-same z (told .low) (w .kept .1 .1 .1 .0), told .memory))), P .2, z .tabled .some, omega (arith, P .5)))
 
-via-same-length-3 : (t : ℕ) → via-lts.Need-same-length-3 (via-calls t) (via-at t) via.Post
-via-same-length-3 t c = c .before .before .before .known-step .kept .1 .1 .1 .1 .0 ∙ c .before .before .before .before .before .before .before .before .allowed .kept .1 .1 .1 .0
+via-same-length-2 : (t : ℕ) → via-lts.Need-same-length-2 (via-calls t) (via-at t) via.Post
+via-same-length-2 t c = c .before .before .before .known-step .kept .1 .1 .1 .1 .0 ∙ c .before .before .before .before .before .before .before .before .allowed .kept .1 .1 .1 .0
 
-via-returns-3 : (t : ℕ) → via-lts.Need-returns-3 (via-calls t) (via-at t) via.Post
-via-returns-3 t c = let a = c .before .before .before .before .before .before .before .before .before .before .before .before .before .before .before .before .before .before .before .args in
+via-returns-2 : (t : ℕ) → via-lts.Need-returns-2 (via-calls t) (via-at t) via.Post
+via-returns-2 t c = let a = c .before .before .before .before .before .before .before .before .before .before .before .before .before .before .before .before .args in
     let w = c .before .before .before .before .before .before .before .before .allowed in
     let s = c .before .before .before .known-step in
     λ th T y mem.
-    let z = slot-stage (a .p) (a .work .now) (a .slot) (c .before .before .before .before .before .before .before .before .before .before .before .before .before .before .wide .ensures) y in
+    let z = slot-stage (a .p) (a .work .now) (a .slot) (c .before .before .before .before .before .before .before .before .before .before .before .wide .ensures) y in
     let told = w .ensures th T z mem in
     let played = s .ensures th T (a .k .0) (stage-same z (told .low) (w .kept .1 .1 .1 .0)) (told .memory) in
-    told-no (λ q l. played .low q l ∙ told .low q l) (λ q l. played .high q l ∙ told .high q l) (played .memory) (λ g. played .none (c .if3 .taken) (g .0) (g .1))
+    told-no (λ q l. played .low q l ∙ told .low q l) (λ q l. played .high q l ∙ told .high q l) (played .memory) (λ g. played .none (c .if2 .taken) (g .0) (g .1))
 
 via-add-extends : (t : ℕ) → via-lts.Need-add-extends (via-calls t) (via-at t) via.Post
-via-add-extends t c = omega (arith, c .before .before .before .before .before .before .before .before .before .before .before .before .before .before .before .before .before .before .before .before .pre .1 .5)
+via-add-extends t c = omega (arith, c .before .before .before .before .before .before .before .before .before .before .before .before .before .before .before .before .before .pre .1 .5)
 
 via-extends-requires : (t : ℕ) → via-lts.Need-extends-requires (via-calls t) (via-at t) via.Post
-via-extends-requires t c κs = let (m, P) = c .before .before .before .before .before .before .before .before .before .before .before .before .before .before .before .before .before .before .before .before .pre in
-    let a = c .before .before .before .before .before .before .before .before .before .before .before .before .before .before .before .before .before .before .before .before .args in
+via-extends-requires t c κs = let (m, P) = c .before .before .before .before .before .before .before .before .before .before .before .before .before .before .before .before .before .pre in
+    let a = c .before .before .before .before .before .before .before .before .before .before .before .before .before .before .before .before .before .args in
     let (th, (T, (y, mem))) = P .0 in
     let w = c .before .before .before .before .before .before .before .before .before .allowed in
     let s = c .before .before .before .before .known-step in
-    let z = slot-stage (a .p) (a .work .now) (a .slot) (c .before .before .before .before .before .before .before .before .before .before .before .before .before .before .before .wide .ensures) y in
+    let z = slot-stage (a .p) (a .work .now) (a .slot) (c .before .before .before .before .before .before .before .before .before .before .before .before .wide .ensures) y in
     let told = w .ensures th T z mem in
     let z′ = stage-same z (told .low) (w .kept .1 .1 .1 .0) in
     let f : Free (a .slot + 961) 1 = omega (arith, P .5) in
     let long = s .kept .1 .1 .1 .1 .0 in
     let played = s .ensures th T (a .k .0) z′ (told .memory) in
-    let zero : s .result ≡ 0 = omega (arith, c .before .if3 .left) in
+    let zero : s .result ≡ 0 = omega (arith, c .before .if2 .left) in
     (omega (arith, m), ((th, (nextTable z′ 0 played f long zero, (next-stage z′ 0 played f long zero, played .further zero))), P .1, P .3, P .4, omega (arith, P .5)))
 
-via-same-length-4 : (t : ℕ) → via-lts.Need-same-length-4 (via-calls t) (via-at t) via.Post
-via-same-length-4 t c = c .before .before .extends .kept .1 .1 .1 .0 ∙ c .before .before .before .before .before .before .before .known-step .kept .1 .1 .1 .1 .0 ∙ c .before .before .before .before .before .before .before .before .before .before .before .before .allowed .kept .1 .1 .1 .0
+via-same-length-3 : (t : ℕ) → via-lts.Need-same-length-3 (via-calls t) (via-at t) via.Post
+via-same-length-3 t c = c .before .before .extends .kept .1 .1 .1 .0 ∙ c .before .before .before .before .before .before .before .known-step .kept .1 .1 .1 .1 .0 ∙ c .before .before .before .before .before .before .before .before .before .before .before .before .allowed .kept .1 .1 .1 .0
 
-via-returns-4 : (t : ℕ) → via-lts.Need-returns-4 (via-calls t) (via-at t) via.Post
-via-returns-4 t c = let P = c .before .before .before .before .before .before .before .before .before .before .before .before .before .before .before .before .before .before .before .before .before .before .before .pre .1 in
-    let a = c .before .before .before .before .before .before .before .before .before .before .before .before .before .before .before .before .before .before .before .before .before .before .before .args in
+via-returns-3 : (t : ℕ) → via-lts.Need-returns-3 (via-calls t) (via-at t) via.Post
+via-returns-3 t c = let P = c .before .before .before .before .before .before .before .before .before .before .before .before .before .before .before .before .before .before .before .before .pre .1 in
+    let a = c .before .before .before .before .before .before .before .before .before .before .before .before .before .before .before .before .before .before .before .before .args in
     let w = c .before .before .before .before .before .before .before .before .before .before .before .before .allowed in
     let s = c .before .before .before .before .before .before .before .known-step in
-    let zero : s .result ≡ 0 = omega (arith, c .before .before .before .before .if3 .left) in
+    let zero : s .result ≡ 0 = omega (arith, c .before .before .before .before .if2 .left) in
     let f : Free (a .slot + 961) 1 = omega (arith, P .5) in
     let long = s .kept .1 .1 .1 .1 .0 in
     λ th T y mem.
-    let z = slot-stage (a .p) (a .work .now) (a .slot) (c .before .before .before .before .before .before .before .before .before .before .before .before .before .before .before .before .before .before .wide .ensures) y in
+    let z = slot-stage (a .p) (a .work .now) (a .slot) (c .before .before .before .before .before .before .before .before .before .before .before .before .before .before .before .wide .ensures) y in
     let told = w .ensures th T z mem in
     let z′ = stage-same z (told .low) (w .kept .1 .1 .1 .0) in
     let played = s .ensures th T (a .k .0) z′ (told .memory) in
     let plays = next-plays z′ 0 played f long zero in
     told-by (omega arith) (memory-fewer (a .p) (omega arith)) (λ q l. played .low q l ∙ told .low q l) (λ q l. played .high q l ∙ told .high q l) (c .before .before .extends .ensures th (nextTable z′ 0 played f long zero) (next-stage z′ 0 played f long zero) (played .further zero))
-    (λ g. by-from th (a .k .0) (a .e .0) (a .c) (a .base) (suc (a .left)) (a .x) (meaning (a .p .characters) T 0) _ plays (told .sound (not-false (w .result) (c .before .before .before .before .before .before .before .before .before .if2 .left))) g)
+    (λ g. by-from th (a .k .0) (a .e .0) (a .c) (a .base) (suc (a .left)) (a .x) (meaning (a .p .characters) T 0) _ plays (told .sound (not-false (w .result) (c .before .before .before .before .before .before .before .before .before .if1 .left))) g)
     (λ g. by-to th (a .k .0) (a .e .0) (a .c) (a .base) (suc (a .left)) (a .x) (meaning (a .p .characters) T 0) _ plays g)
 
 pub +allowed+explained+explains+extends+extends-by+fine+via-spec : {M : Type 1} → statement M
@@ -864,17 +809,20 @@ pub +allowed+explained+explains+extends+extends-by+fine+via-spec : {M : Type 1} 
     (extends-remember-requires t)
     (extends-same-length-5 t)
     (extends-returns-5 t))
-    (λ t. extends-by-lts.spec
-    (via-below t, via.Post)
+    (λ t. extends-by-lts.spec (extends-by-calls t)
     (extends-by-at t)
     extends-by.Post
     extends-by-Inv-loop
     extends-by-μ-loop
+    (extends-by-add-next-promising t)
+    (extends-by-next-promising-requires t)
     (extends-by-loop-holds t)
     (extends-by-via-requires t)
     (extends-by-same-length t)
     (extends-by-returns t)
-    (extends-by-add-x t)
+    (extends-by-add-next-promising-2 t)
+    (extends-by-add-next-promising-3 t)
+    (extends-by-next-promising-requires-2 t)
     (extends-by-loop-less t)
     (extends-by-loop-again t)
     (extends-by-same-length-2 t)
@@ -890,23 +838,19 @@ pub +allowed+explained+explains+extends+extends-by+fine+via-spec : {M : Type 1} 
     λ t. via-lts.spec (via-calls t)
     (via-at t)
     via.Post
-    (via-add-promising t)
+    (via-add-allowed t)
     (via-slice-read-wide t)
     (via-wide-requires t)
-    (via-add-allowed t)
-    (via-add-promising-2 t)
-    (via-promising-requires t)
-    (via-same-length t)
-    (via-returns t)
+    (via-add-known-step t)
     (via-add-allowed-2 t)
     (via-allowed-requires t)
+    (via-same-length t)
+    (via-returns t)
+    (via-add-known-step-2 t)
+    (via-known-step-requires t)
     (via-same-length-2 t)
     (via-returns-2 t)
-    (via-add-known-step t)
-    (via-known-step-requires t)
-    (via-same-length-3 t)
-    (via-returns-3 t)
     (via-add-extends t)
     (via-extends-requires t)
-    (via-same-length-4 t)
-    (via-returns-4 t)
+    (via-same-length-3 t)
+    (via-returns-3 t)
