@@ -53,6 +53,9 @@ module _ (was : List ℕ) (m q count x y from d : ℕ) (hx : x < 64) (hy : y < 6
       let e5 = length-set l4 (entry + 3) (from % 256) in
       (e1, e2 ∙ e1, e3 ∙ e2 ∙ e1, e4 ∙ e3 ∙ e2 ∙ e1, e5 ∙ e4 ∙ e3 ∙ e2 ∙ e1)
 
+  pub stored-long : length stored ≡ length was
+  stored-long = length-set l5 (entry + 4) d ∙ long .4
+
   -- each byte lies within what is stored before it
   pub puts : (entry < length l1) × (entry + 1 < length l2) × (entry + 2 < length l3) × (entry + 3 < length l4) × (entry + 4 < length l5)
   puts = (omega (arith, long), omega (arith, long), omega (arith, long), omega (arith, long), omega (arith, long))
