@@ -16,7 +16,7 @@ use Rattle.partition.specs.Inner.Put.{Cleared}
 use Rattle.partition.specs.Inner.Numbers.{Sound}
 use Rattle.partition.proofs.Cells.{row-in}
 use Rattle.partition.proofs.Parting.{target-at}
-use Rattle.difference.specs.Inner.Pairs.{leftAt, rightAt, fromAt, charAt, markAt, Paired, Pairs, EntryPut, PairMet, FirstMet}
+use Rattle.difference.specs.Inner.Pairs.{leftAt, rightAt, fromAt, charAt, markAt, Paired, Pairs, PairsIn, EntryPut, PairMet, FirstMet, Followed}
 
 -- What `meet` stores
 module _ (was : List ℕ) (m q count x y from d : ℕ) (hx : x < 64) (hy : y < 64) (order : m + 4096 ≤ q) (room : q + count * 5 + 5 ≤ length was) where
@@ -52,6 +52,9 @@ module _ (was : List ℕ) (m q count x y from d : ℕ) (hx : x < 64) (hy : y < 6
       let e4 = length-set l3 (entry + 2) (from / 256) in
       let e5 = length-set l4 (entry + 3) (from % 256) in
       (e1, e2 ∙ e1, e3 ∙ e2 ∙ e1, e4 ∙ e3 ∙ e2 ∙ e1, e5 ∙ e4 ∙ e3 ∙ e2 ∙ e1)
+
+  pub stored-long : length stored ≡ length was
+  stored-long = length-set l5 (entry + 4) d ∙ long .4
 
   -- each byte lies within what is stored before it
   pub puts : (entry < length l1) × (entry + 1 < length l2) × (entry + 2 < length l3) × (entry + 3 < length l4) × (entry + 4 < length l5)
@@ -206,7 +209,7 @@ module _ {T : List Node} {r s : ℕ} {bytes : List ℕ} {n c m q count done d : 
         (λ z. let (e, o) = p .again z in (subst (λ (k : ℕ). Pairs T r s now n c m q k done (d + 1)) (sym e) (subst (λ (b : List ℕ). Pairs T r s b n c m q count done (d + 1)) (sym o) (pairs-known z)), omega arith, λ i h. (ap (λ (b : List ℕ). leftAt b q i) o, ap (λ (b : List ℕ). rightAt b q i) o)))
 
 -- all characters are followed
-pub pairs-all : {T : List Node} {r s : ℕ} {bytes : List ℕ} {n c m q count done d : ℕ} → Pairs T r s bytes n c m q count done d → d ≡ c → Pairs T r s bytes n c m q count done c
+pairs-all : {T : List Node} {r s : ℕ} {bytes : List ℕ} {n c m q count done d : ℕ} → Pairs T r s bytes n c m q count done d → d ≡ c → Pairs T r s bytes n c m q count done c
 pairs-all {T} {r} {s} {bytes} {n} {c} {m} {q} {count} {done} g e = subst (λ (d : ℕ). Pairs T r s bytes n c m q count done d) e g
 
 -- bytes but marks and entries are as they were
@@ -245,25 +248,88 @@ pairs-first {was} {now} {n} {c} {m} {q} {x} {y} T few hx hy p = record {
 }
 
 -- The beliefs of a row that is as it was
-pub row-place : {was : List ℕ} {n w f c t m q : ℕ} → Paired was n w f c t m q → (i a : ℕ) → i < n → a ≡ t + i * w + f → a + c ≤ m
+row-place : {was : List ℕ} {n w f c t m q : ℕ} → Paired was n w f c t m q → (i a : ℕ) → i < n → a ≡ t + i * w + f → a + c ≤ m
 row-place {n = n} {w = w} l i a h e = omega (arith, row-in n w i h, l .wide, l .source)
 
-module _ {was : List ℕ} {n w f c t m q : ℕ} (l : Paired was n w f c t m q) (sound : Sound was n w f c t) (now : List ℕ) (low : Below was now m) where
-  -- the row that its belief for d names
-  pub follow-row : (i d a x : ℕ) → i < n → d < c → a ≡ t + i * w + f → x ≡ getD now (a + d) 0 → (x < n) × (x ≡ target (rowsAt was w f c t n) i d)
-  follow-row i d a x hi hd e g =
-      let z : x ≡ getD was (t + i * w + f + d) 0 = g ∙ ap (λ (a : ℕ). getD now (a + d) 0) e ∙ low (t + i * w + f + d) (omega (arith, row-in n w i hi, l .wide, l .source)) in
-      (omega (arith, sound .beliefs i d hi hd), z ∙ sym (target-at was n w f c t i d hi hd))
+-- The characters below d of entry `done` are followed: a and b are where its rows' beliefs start
+pub record Follows (was now : List ℕ) (n w f c t m q done count a b met d : ℕ) : Type 0 where
+  pub long : length now ≡ length was
+  pub most : d ≤ c
+  pub there : done < met
+  pub more : count ≤ met
+  pub kept : (e : ℕ) → e < count → (leftAt now q e ≡ leftAt was q e) × (rightAt now q e ≡ rightAt was q e)
+  pub left : a ≡ t + leftAt now q done * w + f
+  pub right : b ≡ t + rightAt now q done * w + f
+  pub pairs : Pairs (rowsAt was w f c t n) (leftAt was q 0) (rightAt was q 0) now n c m q met done d
+  pub low : Below was now m
+  pub high : Above was now (q + 20480)
 
-  -- an entry for the next pair
-  pub follow-meet : {T : List Node} {r s count done d : ℕ} → length now ≡ length was → Pairs T r s now n c m q count done d → done < count → d < c → {x y : ℕ} → x < n → y < n
-      → ((x < 64) × (y < 64) × (done < 65536) × (d < 256) × (m + 4096 ≤ q) × (q ≤ length now)) × (markAt now m x y ≡ 0 → q + count * 5 + 5 ≤ length now)
-  follow-meet long g there hd {x} {y} hx hy =
-      let hx′ : x < 64 = omega (arith, l .few) in
-      let hy′ : y < 64 = omega (arith, l .few) in
-      ((hx′, hy′, omega (arith, entries-most (l .few) g), omega (arith, l .narrow), l .marks, omega (arith, l .room, long)), λ z. omega (arith, entries-few (l .few) g x y hx′ hy′ z, l .room, long))
+pub follows-start : {was : List ℕ} {n w f c t m q done count x y : ℕ} → done < count → PairsIn was n w f c t m q count done 0 → leftAt was q done ≡ x → rightAt was q done ≡ y → Follows was was n w f c t m q done count (t + x * w + f) (t + y * w + f) count 0
+follows-start {w = w} {f} {t = t} h g ex ey = record {
+  long = refl;
+  most = omega arith;
+  there = h;
+  more = omega arith;
+  kept = λ e l. (refl, refl);
+  left = ap (λ (i : ℕ). t + i * w + f) (sym ex);
+  right = ap (λ (i : ℕ). t + i * w + f) (sym ey);
+  pairs = g;
+  low = λ j l. refl;
+  high = λ j l. refl;
+}
 
-  pub follow-frame : {T : List Node} {r s count done d x y : ℕ} → Pairs T r s now n c m q count done d → x < n → y < n → Above was now (q + 20480) → {now′ : List ℕ} {k : ℕ} → PairMet now now′ m q count x y done d k → Below was now′ m × Above was now′ (q + 20480)
-  follow-frame {count = count} {x = x} {y = y} g hx hy high p =
-      let (a, b) = meet-frame p (l .marks) (omega (arith, l .few)) (omega (arith, l .few)) (λ z. entries-few (l .few) g x y (omega (arith, l .few)) (omega (arith, l .few)) z) in
-      (λ j h. a j h ∙ low j h, λ j h. b j h ∙ high j h)
+module _ {was : List ℕ} {n w f c t m q : ℕ} (l : Paired was n w f c t m q) {now : List ℕ} {done count a b met d : ℕ} (o : Follows was now n w f c t m q done count a b met d) where
+  -- both rows' beliefs lie within the buffer
+  pub follows-left : a + c ≤ length now
+  follows-left = omega (arith, row-place l (leftAt now q done) a (o .pairs .inside done (o .there) .0) (o .left), l .marks, l .room, o .long)
+
+  pub follows-right : b + c ≤ length now
+  follows-right = omega (arith, row-place l (rightAt now q done) b (o .pairs .inside done (o .there) .1) (o .right), l .marks, l .room, o .long)
+
+  module _ (sound : Sound was n w f c t) (hd : d < c) where
+    -- the row that a belief for d names
+    follow-row : (i a x : ℕ) → i < n → a ≡ t + i * w + f → getD now (a + d) 0 ≡ x → (x < n) × (x ≡ target (rowsAt was w f c t n) i d)
+    follow-row i a x hi e g =
+        let z : x ≡ getD was (t + i * w + f + d) 0 = sym g ∙ ap (λ (a : ℕ). getD now (a + d) 0) e ∙ o .low (t + i * w + f + d) (omega (arith, row-in n w i hi, l .wide, l .source)) in
+        (omega (arith, sound .beliefs i d hi hd), z ∙ sym (target-at was n w f c t i d hi hd))
+
+    module _ {x y : ℕ} (ex : getD now (a + d) 0 ≡ x) (ey : getD now (b + d) 0 ≡ y) where
+      fx : (x < n) × (x ≡ target (rowsAt was w f c t n) (leftAt now q done) d)
+      fx = follow-row (leftAt now q done) a x (o .pairs .inside done (o .there) .0) (o .left) ex
+
+      fy : (y < n) × (y ≡ target (rowsAt was w f c t n) (rightAt now q done) d)
+      fy = follow-row (rightAt now q done) b y (o .pairs .inside done (o .there) .1) (o .right) ey
+
+      hx : x < 64
+      hx = omega (arith, fx .0, l .few)
+
+      hy : y < 64
+      hy = omega (arith, fy .0, l .few)
+
+      -- an entry for the next pair
+      pub follows-meet : ((x < 64) × (y < 64) × (done < 65536) × (d < 256) × (m + 4096 ≤ q) × (q ≤ length now)) × (markAt now m x y ≡ 0 → q + met * 5 + 5 ≤ length now)
+      follows-meet =
+          ((hx, hy, omega (arith, entries-most (l .few) (o .pairs), o .there), omega (arith, l .narrow), l .marks, omega (arith, l .room, o .long)), λ z. omega (arith, entries-few (l .few) (o .pairs) x y hx hy z, l .room, o .long))
+
+      -- one character more is followed
+      pub follows-more : {now′ : List ℕ} {k : ℕ} → length now′ ≡ length now → PairMet now now′ m q met x y done d k → Follows was now′ n w f c t m q done count a b k (d + 1)
+      follows-more {now′} {k} e p =
+          let (g, up, same) = pairs-more (l .few) (o .pairs) (l .marks) (o .there) hd (fx .0) (fy .0) (fx .1) (fy .1) p in
+          let (below, above) = meet-frame p (l .marks) hx hy (λ z. entries-few (l .few) (o .pairs) x y hx hy z) in
+          let (el, er) = same done (o .there) in
+          record {
+            long = e ∙ o .long;
+            most = omega arith;
+            there = omega (arith, o .there);
+            more = omega (arith, o .more);
+            kept = λ i h. let (a, b) = same i (omega (arith, o .more)) in let (a′, b′) = o .kept i h in (a ∙ a′, b ∙ b′);
+            left = o .left ∙ ap (λ (i : ℕ). t + i * w + f) (sym el);
+            right = o .right ∙ ap (λ (i : ℕ). t + i * w + f) (sym er);
+            pairs = g;
+            low = λ j h. below j h ∙ o .low j h;
+            high = λ j h. above j h ∙ o .high j h;
+          }
+
+  -- all are
+  pub follows-all : c ≤ d → Followed was now n w f c t m q done count met
+  follows-all h = record { pairs = pairs-all (o .pairs) (omega (arith, o .most)); more = o .more; kept = o .kept; low = o .low; high = o .high }
