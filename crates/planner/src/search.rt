@@ -281,17 +281,19 @@ pub fn limits(story: usize, foresight: usize, nesting: usize) -> bool
     }
 }
 
-// Lays the nodes that are read from `first` on out in the first slot, merged, and empties the memory.
+// Lays the nodes that are read from `first` on out in the first slot, merged, and empties the memory: what is known of lists first and the rest last, since each by itself is short
+// enough to be cleared by plain stores.
 pub fn lay_start(pack: &[u8], first: usize, nodes: usize, p: Shape, work: &mut [u8])
     requires { ⌜ Layable (now pack) first nodes p (now work) ⌝ }
     ensures { λ _. ⌜ ((T : List Node) → Laying T (now (pack .entry)) first nodes p (now (work .entry)) → LaidStart T p (now (work .entry)) (now (work .exit))) ⌝ }
 {
+    clear(work, 44160, 1792);
     copy_table(pack, first, nodes, work, 0, p.fluents, p.characters);
     let width = p.fluents + p.characters;
     let rows = merge_table(work, nodes, width, p.fluents, p.characters);
     work[0] = rows as u8;
     copy_part(work, 2400, 1, rows * width);
-    clear(work, 43470, 2482);
+    clear(work, 43470, 690);
 }
 
 // The search from what node 0 means of the nodes that are read from `first` on. The work buffer is cleared.

@@ -29,6 +29,7 @@ use Rattle.transition.specs.Inner.Stage.{StageRoom, SlotOnly, InSlot, St
 use Rattle.transition.specs.Inner.Play.{Theorized, Setting, Slotted, Left, SettledIn}
 use Rattle.change.proofs.Changing.{small}
 use Rattle.transition.proofs.Acting.{clash}
+use Rattle.transition.proofs.Firing.{fires-none}
 
 -- a state with a written chart of at most 32 rows
 module _ (p : Theory) (z : State) (U : List Node) (w : Starts (p .characters) z U) (few : length U ≤ 32) where
@@ -123,19 +124,28 @@ module _ {p : Theory} {T : List Node} {pack places : List ℕ} {actions triggers
     most : AtMost 32 (p .characters) (g .state)
     most = at-most p (g .state) U starts-p (omega (arith, size, g .few))
 
+    -- nothing fires in any row
+    pub round-still : ((m : ℕ) → m < nodes → firing (p .triggers) (meaning (t .characters) U m) ≡ Option.none) → SettledIn p s₀ t was now slot 0
+    round-still idle = record {
+      settles = λ z. (g .state, g .going .settles (g .state) (Settles.still most (is-quiet p (g .state) U starts-p (omega (arith, size, g .few)) (λ i l. ap (λ (c : ℕ). firing (p .triggers) (meaning c U i)) (sym same-characters) ∙ idle i (omega (arith, size))))), left-now);
+      stops = λ z. absurd (z refl);
+      only = g .only;
+    }
+      where
+        left-now : Left (g .state) t now slot
+        left-now = record {
+          few = omega (arith, g .holds .count (g .few), g .few);
+          starts = subst (λ (n : ℕ). Starts (t .characters) (g .state) (rowsAt now (t .width) (t .fluents) (t .characters) (slot + 1) n)) (sym (g .holds .count (g .few))) (g .holds .starts (g .few));
+        }
+
+    -- since there are no triggers
+    pub round-idle : triggers ≡ 0 → SettledIn p s₀ t was now slot 0
+    round-idle e = round-still (λ m l. fires-none _ (p .triggers) (λ j k. absurd (omega (arith, k, theory-triggers (x .theorized) .long, e))))
+
     module _ {effects : List ℕ} {any : Bool} (f : FiredBelow (dims (p .characters) (p .domains)) pack (p .triggers) (t .characters) U nodes effects any) where
+      -- or since none holds
       pub round-quiet : any ≡ false → SettledIn p s₀ t was now slot 0
-      round-quiet e = record {
-        settles = λ z. (g .state, g .going .settles (g .state) (Settles.still most (is-quiet p (g .state) U starts-p (omega (arith, size, g .few)) (λ i l. ap (λ (c : ℕ). firing (p .triggers) (meaning c U i)) (sym same-characters) ∙ f .none e i (omega (arith, size))))), left-now);
-        stops = λ z. absurd (z refl);
-        only = g .only;
-      }
-        where
-          left-now : Left (g .state) t now slot
-          left-now = record {
-            few = omega (arith, g .holds .count (g .few), g .few);
-            starts = subst (λ (n : ℕ). Starts (t .characters) (g .state) (rowsAt now (t .width) (t .fluents) (t .characters) (slot + 1) n)) (sym (g .holds .count (g .few))) (g .holds .starts (g .few));
-          }
+      round-quiet e = round-still (f .none e)
 
       module _ (e : any ≡ true) where
         loud : ¬ Quiet p (g .state)

@@ -21,6 +21,9 @@ pub fn settle(
     requires { ⌜ Settleable (now pack) (now places) triggers (now work) t slot ⌝ }
     ensures { λ r. ⌜ ((p : Theory) (T : List Node) (actions : ℕ) → Setting p T (now (pack .entry)) (now (places .entry)) actions triggers (now (work .entry)) t slot → Slotted T (now (work .entry)) t slot → SettledIn p (meaning (t .characters) T 0) t (now (work .entry)) (now (work .exit)) slot r) ⌝ }
 {
+    if triggers == 0 {
+        return 0;
+    }
     let mut effects = [8192usize; 32];
     let mut nodes = t.nodes;
     let mut rounds: usize = 0;

@@ -9,7 +9,7 @@ use borrow.Author.Tests.{not-true, not-false}
 use Rattle.state.specs.Syntax.{Node, Theory}
 use Rattle.state.specs.State.{meaning}
 use Rattle.transition.specs.Inner.Play.{Setting, Slotted}
-use Rattle.transition.proofs.Settling.{InRound, round-start, round-table, round-firable, theory-triggers, round-quiet, round-last, roundScene, round-slotted, round-stands, round-room, round-many, round-next}
+use Rattle.transition.proofs.Settling.{InRound, round-start, round-table, round-firable, theory-triggers, round-idle, round-quiet, round-last, roundScene, round-slotted, round-stands, round-room, round-many, round-next}
 use Rattle.transition.proofs.settle.settle.Statement.{statement}
 use Rattle.transition.proofs.settle.settle.Tie as tie
 
@@ -21,70 +21,71 @@ abbrev μ-loop : tie.MeasureT-loop
 μ-loop pack places triggers work₀ t slot effects₀ nodes₀ rounds₀ work effects nodes rounds = 16 - rounds
 
 -- the round at hand, for the theory and the table that are there
-here : (c : tie.At-loop Inv-loop μ-loop) → let (p, (T, (n, (x, y)))) = c .before .before .before .before .pre in let a = c .before .before .before .before .args in InRound p (meaning (a .t .characters) T 0) (a .t) (a .work .now) (c .loop .work) (a .slot) (c .loop .nodes) (c .loop .rounds)
-here c = let (p, (T, (n, (x, y)))) = c .before .before .before .before .pre in c .loop .inv .3 p T n x y
+here : (c : tie.At-loop Inv-loop μ-loop) → let (p, (T, (n, (x, y)))) = c .before .before .before .before .before .pre in let a = c .before .before .before .before .before .args in InRound p (meaning (a .t .characters) T 0) (a .t) (a .work .now) (c .loop .work) (a .slot) (c .loop .nodes) (c .loop .rounds)
+here c = let (p, (T, (n, (x, y)))) = c .before .before .before .before .before .pre in c .loop .inv .3 p T n x y
 
 fire-all-requires : tie.Need-fire-all-requires Inv-loop μ-loop
-fire-all-requires c κs = let (p, (T, (n, (x, y)))) = c .before .before .before .before .before .before .pre in (round-firable x (here (c .before .before)) (c .before .before .loop .inv .1), omega (arith, here (c .before .before) .few, c .before .before .loop .inv .0))
-
-returns : tie.Need-returns Inv-loop μ-loop
-returns c = let (size, long, few, going) = c .before .before .before .before .before .loop .inv in let f = c .before .before .fire-all in
-    λ p T n x y. let g = going p T n x y in round-quiet x g long (f .ensures _ _ _ (round-table x g long) (theory-triggers (x .theorized))) (not-true (f .result) (c .if1 .taken))
+fire-all-requires c κs = let (p, (T, (n, (x, y)))) = c .before .before .before .before .before .before .before .pre in (round-firable x (here (c .before .before)) (c .before .before .loop .inv .1), omega (arith, here (c .before .before) .few, c .before .before .loop .inv .0))
 
 returns-2 : tie.Need-returns-2 Inv-loop μ-loop
-returns-2 c = let (size, long, few, going) = c .before .before .before .before .before .before .loop .inv in let f = c .before .before .before .fire-all in
-    λ p T n x y. let g = going p T n x y in round-last x g long (f .ensures _ _ _ (round-table x g long) (theory-triggers (x .theorized))) (not-false (f .result) (c .before .if1 .left)) (c .if2 .taken)
+returns-2 c = let (size, long, few, going) = c .before .before .before .before .before .loop .inv in let f = c .before .before .fire-all in
+    λ p T n x y. let g = going p T n x y in round-quiet x g long (f .ensures _ _ _ (round-table x g long) (theory-triggers (x .theorized))) (not-true (f .result) (c .if2 .taken))
+
+returns-3 : tie.Need-returns-3 Inv-loop μ-loop
+returns-3 c = let (size, long, few, going) = c .before .before .before .before .before .before .loop .inv in let f = c .before .before .before .fire-all in
+    λ p T n x y. let g = going p T n x y in round-last x g long (f .ensures _ _ _ (round-table x g long) (theory-triggers (x .theorized))) (not-false (f .result) (c .before .if2 .left)) (c .if3 .taken)
 
 round-requires : tie.Need-round-requires Inv-loop μ-loop
 round-requires c κs =
-    let (p, (T, (n, (x, y)))) = c .before .before .before .before .before .before .before .before .before .before .before .before .pre in
+    let (p, (T, (n, (x, y)))) = c .before .before .before .before .before .before .before .before .before .before .before .before .before .pre in
     let (size, long, few, going) = c .before .before .before .before .before .before .before .before .loop .inv in
     let g = here (c .before .before .before .before .before .before .before .before) in
     let f = c .before .before .before .before .before .fire-all in
     let fired = f .ensures _ _ _ (round-table x g long) (theory-triggers (x .theorized)) in
-    let e = not-false (f .result) (c .before .before .before .if1 .left) in
+    let e = not-false (f .result) (c .before .before .before .if2 .left) in
     ((roundScene x g long fired e, round-stands x g long fired e (f .kept .1 .1 .1 .1 .1 .0 ∙ size)), round-room x g long fired e, record { all = refl; root = refl }, round-slotted x g long)
 
-returns-3 : tie.Need-returns-3 Inv-loop μ-loop
-returns-3 c =
+returns-4 : tie.Need-returns-4 Inv-loop μ-loop
+returns-4 c =
     let (size, long, few, going) = c .before .before .before .before .before .before .before .before .before .before .before .before .loop .inv in
     let f = c .before .before .before .before .before .before .before .before .before .fire-all in
-    let e = not-false (f .result) (c .before .before .before .before .before .before .before .if1 .left) in
+    let e = not-false (f .result) (c .before .before .before .before .before .before .before .if2 .left) in
     λ p T n x y.
     let g = going p T n x y in
     let fired = f .ensures _ _ _ (round-table x g long) (theory-triggers (x .theorized)) in
-    round-many x g long fired e (c .before .before .before .round .ensures (roundScene x g long fired e) (round-stands x g long fired e (f .kept .1 .1 .1 .1 .1 .0 ∙ size))) (c .before .before .before .before .before .before .if2 .left) few (c .if3 .taken)
+    round-many x g long fired e (c .before .before .before .round .ensures (roundScene x g long fired e) (round-stands x g long fired e (f .kept .1 .1 .1 .1 .1 .0 ∙ size))) (c .before .before .before .before .before .before .if3 .left) few (c .if4 .taken)
 
 loop-again : tie.Need-loop-again Inv-loop μ-loop
 loop-again c =
     let (size, long, few, going) = c .before .before .before .before .before .before .before .before .before .before .before .before .loop .inv in
     let f = c .before .before .before .before .before .before .before .before .before .fire-all in
-    let e = not-false (f .result) (c .before .before .before .before .before .before .before .if1 .left) in (
+    let e = not-false (f .result) (c .before .before .before .before .before .before .before .if2 .left) in (
       f .kept .1 .1 .1 .1 .1 .0 ∙ size,
       c .before .before .before .round .kept .1 .1 .1 .1 .0 ∙ long,
-      omega (arith, few, c .before .before .before .before .before .before .if2 .left),
+      omega (arith, few, c .before .before .before .before .before .before .if3 .left),
       λ p T n x y.
           let g = going p T n x y in
           let fired = f .ensures _ _ _ (round-table x g long) (theory-triggers (x .theorized)) in
-          round-next x g long fired e (c .before .before .before .round .ensures (roundScene x g long fired e) (round-stands x g long fired e (f .kept .1 .1 .1 .1 .1 .0 ∙ size))) (c .before .before .before .before .before .before .if2 .left) few (omega (arith, c .if3 .left)),
+          round-next x g long fired e (c .before .before .before .round .ensures (roundScene x g long fired e) (round-stands x g long fired e (f .kept .1 .1 .1 .1 .1 .0 ∙ size))) (c .before .before .before .before .before .before .if3 .left) few (omega (arith, c .if4 .left)),
     )
 
 pub settle-spec : {M : Type 1} → statement M
 settle-spec =
     tie.close
     (tie.spec Inv-loop μ-loop
+    (λ c. λ p T n x y. round-idle x (round-start x y) refl (c .if1 .taken))
     (λ c. (refl, refl, omega arith, λ p T n x y. round-start x y))
-    (λ c. let (p, (T, (n, (x, y)))) = c .before .before .before .before .pre in omega (arith, x .room .slot-room))
+    (λ c. let (p, (T, (n, (x, y)))) = c .before .before .before .before .before .pre in omega (arith, x .room .slot-room))
     (λ c. search needs)
     fire-all-requires
     (λ c. c .before .before .before .before .before .loop .inv .1)
-    returns
-    (λ c. c .before .before .before .before .before .before .loop .inv .1)
     returns-2
+    (λ c. c .before .before .before .before .before .before .loop .inv .1)
+    returns-3
     (λ c. search needs)
     round-requires
     (λ c. c .before .before .before .round .kept .1 .1 .1 .1 .0 ∙ c .before .before .before .before .before .before .before .before .before .before .before .before .loop .inv .1)
-    returns-3
+    returns-4
     (λ c. omega (arith, c .before .before .before .before .before .before .before .before .before .before .before .before .loop .inv .2))
-    (λ c. omega (arith, c .before .before .before .before .before .before .before .before .before .before .before .before .loop .inv .2, c .before .before .before .before .before .before .if2 .left))
+    (λ c. omega (arith, c .before .before .before .before .before .before .before .before .before .before .before .before .loop .inv .2, c .before .before .before .before .before .before .if3 .left))
     loop-again)
