@@ -146,8 +146,9 @@ pub fn completes_after(
     requires { ⌜ Underway (k .0) (e .0) base (now pack) (now places) p (now work) slot done (suc left) × (0 < k .0) × (k .0 ≤ 6) × Free slot (2 + left + k .0 * e .0) × (done + suc left ≤ length (now list)) × (slot ≡ done * 961) ⌝ }
     ensures { λ r. ⌜ ((th : Theory) (T : List Node) → Stage th T (now (pack .entry)) (now (places .entry)) p (now (work .entry)) (slotTable p (now (work .entry)) slot) (slot + 961) → Memory th (k .0) p (slot + 961) (now (work .entry)) → Trail th (k .0) (e .0) base p (now (work .entry)) done (suc left) (meaning (p .characters) T 0) → Best (Memory th (k .0) p (slot + 961)) (Ends th (k .0) (e .0) base (meaning (p .characters) T 0)) (suc left) (now (list .entry)) (now (list .exit)) done (slot + 961) (now (work .entry)) (now (work .exit)) r) ⌝ }
 {
+    let actions = p.actions;
     let mut x = next_promising(pack, places, p, work, slot, 0, 0, left, base);
-    while x < p.actions {
+    while x < actions {
         let after = completes_by(pack, places, p, work, slot, list, done, x, e, k, left, base);
         if after != 0 {
             return after;

@@ -211,11 +211,11 @@ completes-returns-5 t c = let P = c .before .before .before .before .before .bef
     best-from (λ q l. r .ensures .only .low q (omega (arith, l, P .3))) (r .ensures .only .high) (best-same (sym up) (d .ensures th T (slot-same (a .slot) y (λ q l. r .ensures .only .low q (omega (arith, l, P .3))) (r .kept .0)) (r .ensures .told th (a .k .0) (a .slot + 961) (omega (arith, P .3)) (z .slotted) mem .0) (trail-same th (a .k .0) (a .e .0) (a .base) (meaning (a .p .characters) T 0) (λ q l. r .ensures .only .low q (omega (arith, l, P .3, P .5))) (subst (λ (n : ℕ). Trail th (a .k .0) (a .e .0) (a .base) (a .p) (a .work .now) (a .done) n (meaning (a .p .characters) T 0)) up trail))))
 
 abbrev completes-after-Inv-loop : completes-after-lts.InvT-loop
-completes-after-Inv-loop pack places p work₀ slot list₀ done e k left base x₀ work list x = (length work ≡ length work₀) × (list ≡ list₀) × Below work₀ work (slot + 961) × Above work₀ work workRoom
+completes-after-Inv-loop pack places p work₀ slot list₀ done e k left base actions x₀ work list x = (length work ≡ length work₀) × (list ≡ list₀) × Below work₀ work (slot + 961) × Above work₀ work workRoom
     × ((th : Theory) (T : List Node) → Stage th T pack places p work₀ (slotTable p work₀ slot) (slot + 961) → Memory th (k .0) p (slot + 961) work₀ → Trail th (k .0) (e .0) base p work₀ done (suc left) (meaning (p .characters) T 0) → Memory th (k .0) p (slot + 961) work × ((y : ℕ) → y < x → (l : List ℕ) (v : ℕ) → length l ≡ suc left → ¬ EndsBy th (k .0) (e .0) base y (meaning (p .characters) T 0) l v))
 
 abbrev completes-after-μ-loop : completes-after-lts.MeasureT-loop
-completes-after-μ-loop pack places p work₀ slot list₀ done e k left base x₀ work list x = p .actions - x
+completes-after-μ-loop pack places p work₀ slot list₀ done e k left base actions x₀ work list x = p .actions - x
 
 completes-after-next-promising-requires : (t : ℕ) → completes-after-lts.Need-next-promising-requires (completes-after-calls t) (completes-after-at t) completes-after.Post completes-after-Inv-loop completes-after-μ-loop
 completes-after-next-promising-requires t c κs = let P = c .before .before .before .before .before .pre .1 in
@@ -228,49 +228,49 @@ completes-after-loop-holds t c = let P = c .before .before .before .before .befo
     (refl, refl, λ q l. refl, λ q l. refl, λ th T y mem trail. (mem, λ j l. best-hopeless th (a .k .0) (a .e .0) (a .base) (meaning (a .p .characters) T 0) j (stage-skipped y (omega (arith, P .3)) (c .next-promising .ensures) j (omega arith) l)))
 
 completes-after-completes-by-requires : (t : ℕ) → completes-after-lts.Need-completes-by-requires (completes-after-calls t) (completes-after-at t) completes-after.Post completes-after-Inv-loop completes-after-μ-loop
-completes-after-completes-by-requires t c κs = let (m, P) = c .before .before .before .before .before .before .before .before .before .before .before .pre in
-    let a = c .before .before .before .before .before .before .before .before .before .before .before .args in
+completes-after-completes-by-requires t c κs = let (m, P) = c .before .before .before .before .before .before .before .before .before .before .pre in
+    let a = c .before .before .before .before .before .before .before .before .before .before .args in
     let (th, (T, (y, mem, trail))) = P .0 in
-    let (long, same, low, high, rest) = c .before .before .before .before .loop .inv in
-    (omega (arith, m), ((th, (T, (slot-same (a .slot) y low long, rest th T y mem trail .0, trail-same th (a .k .0) (a .e .0) (a .base) (meaning (a .p .characters) T 0) (λ q l. low q (omega (arith, l, P .5))) trail))), c .before .before .if1 .taken, P .1, P .2, omega (arith, P .3), omega (arith, P .4, ap length same), P .5))
+    let (long, same, low, high, rest) = c .before .before .before .loop .inv in
+    (omega (arith, m), ((th, (T, (slot-same (a .slot) y low long, rest th T y mem trail .0, trail-same th (a .k .0) (a .e .0) (a .base) (meaning (a .p .characters) T 0) (λ q l. low q (omega (arith, l, P .5))) trail))), c .before .before .loop-test .taken, P .1, P .2, omega (arith, P .3), omega (arith, P .4, ap length same), P .5))
 
 completes-after-same-length : (t : ℕ) → completes-after-lts.Need-same-length (completes-after-calls t) (completes-after-at t) completes-after.Post completes-after-Inv-loop completes-after-μ-loop
-completes-after-same-length t c = c .before .before .before .before .before .completes-by .kept .1 .1 .1 .0 ∙ c .before .before .before .before .before .before .before .before .before .before .loop .inv .0
+completes-after-same-length t c = c .before .before .before .before .before .completes-by .kept .1 .1 .1 .0 ∙ c .before .before .before .before .before .before .before .before .before .loop .inv .0
 
 completes-after-same-length-2 : (t : ℕ) → completes-after-lts.Need-same-length-2 (completes-after-calls t) (completes-after-at t) completes-after.Post completes-after-Inv-loop completes-after-μ-loop
-completes-after-same-length-2 t c = c .before .before .before .before .before .completes-by .kept .1 .1 .1 .1 .1 .0 ∙ ap length (c .before .before .before .before .before .before .before .before .before .before .loop .inv .1)
+completes-after-same-length-2 t c = c .before .before .before .before .before .completes-by .kept .1 .1 .1 .1 .1 .0 ∙ ap length (c .before .before .before .before .before .before .before .before .before .loop .inv .1)
 
 completes-after-returns : (t : ℕ) → completes-after-lts.Need-returns (completes-after-calls t) (completes-after-at t) completes-after.Post completes-after-Inv-loop completes-after-μ-loop
-completes-after-returns t c = let P = c .before .before .before .before .before .before .before .before .before .before .before .before .before .before .before .before .before .pre .1 in
-    let a = c .before .before .before .before .before .before .before .before .before .before .before .before .before .before .before .before .before .args in
+completes-after-returns t c = let P = c .before .before .before .before .before .before .before .before .before .before .before .before .before .before .before .before .pre .1 in
+    let a = c .before .before .before .before .before .before .before .before .before .before .before .before .before .before .before .before .args in
     let v = c .before .before .before .before .before .completes-by in
-    let (long, same, low, high, rest) = c .before .before .before .before .before .before .before .before .before .before .loop .inv in
+    let (long, same, low, high, rest) = c .before .before .before .before .before .before .before .before .before .loop .inv in
     λ th T y mem trail.
     let s = meaning (a .p .characters) T 0 in
-    let b = best-first th (a .k .0) (a .e .0) (a .base) s low high (rest th T y mem trail .1) (omega (arith, c .if2 .taken)) (v .ensures th T (slot-same (a .slot) y low long) (rest th T y mem trail .0) (trail-same th (a .k .0) (a .e .0) (a .base) s (λ q l. low q (omega (arith, l, P .5))) trail)) in
+    let b = best-first th (a .k .0) (a .e .0) (a .base) s low high (rest th T y mem trail .1) (omega (arith, c .if1 .taken)) (v .ensures th T (slot-same (a .slot) y low long) (rest th T y mem trail .0) (trail-same th (a .k .0) (a .e .0) (a .base) s (λ q l. low q (omega (arith, l, P .5))) trail)) in
     subst (λ (was : List ℕ). Best (Memory th (a .k .0) (a .p) (a .slot + 961)) (Ends th (a .k .0) (a .e .0) (a .base) s) (suc (a .left)) was (v .last .1 .1 .1 .1 .1 .0) (a .done) (a .slot + 961) (a .work .now) (v .last .1 .1 .1 .0) (v .result)) same b
 
 completes-after-add-next-promising : (t : ℕ) → completes-after-lts.Need-add-next-promising (completes-after-calls t) (completes-after-at t) completes-after.Post completes-after-Inv-loop completes-after-μ-loop
-completes-after-add-next-promising t c = let (th, (T, (y, mem, trail))) = c .before .before .before .before .before .before .before .before .before .before .before .before .before .before .before .before .before .before .pre .1 .0 in omega (arith, c .before .before .before .before .before .before .before .before .before .if1 .taken, y .theorized .found .mostActions)
+completes-after-add-next-promising t c = let (th, (T, (y, mem, trail))) = c .before .before .before .before .before .before .before .before .before .before .before .before .before .before .before .before .before .pre .1 .0 in omega (arith, c .before .before .before .before .before .before .before .before .before .loop-test .taken, y .theorized .found .mostActions)
 
 completes-after-next-promising-requires-2 : (t : ℕ) → completes-after-lts.Need-next-promising-requires-2 (completes-after-calls t) (completes-after-at t) completes-after.Post completes-after-Inv-loop completes-after-μ-loop
-completes-after-next-promising-requires-2 t c κs = let P = c .before .before .before .before .before .before .before .before .before .before .before .before .before .before .before .before .before .before .pre .1 in
-    let a = c .before .before .before .before .before .before .before .before .before .before .before .before .before .before .before .before .before .before .args in
+completes-after-next-promising-requires-2 t c κs = let P = c .before .before .before .before .before .before .before .before .before .before .before .before .before .before .before .before .before .pre .1 in
+    let a = c .before .before .before .before .before .before .before .before .before .before .before .before .before .before .before .before .before .args in
     let v = c .before .before .before .before .before .before .completes-by in
-    let (long, same, low, high, rest) = c .before .before .before .before .before .before .before .before .before .before .before .loop .inv in
+    let (long, same, low, high, rest) = c .before .before .before .before .before .before .before .before .before .before .loop .inv in
     let (th, (T, (y, mem, trail))) = P .0 in
     let b = v .ensures th T (slot-same (a .slot) y low long) (rest th T y mem trail .0) (trail-same th (a .k .0) (a .e .0) (a .base) (meaning (a .p .characters) T 0) (λ q l. low q (omega (arith, l, P .5))) trail) in
-    (stage-trying (slot-same (a .slot) y (λ q l. b .low q l ∙ low q l) (v .kept .1 .1 .1 .0 ∙ long)) (omega (arith, P .3)) (omega arith), omega (arith, c .before .before .before .before .before .before .before .before .before .if1 .taken))
+    (stage-trying (slot-same (a .slot) y (λ q l. b .low q l ∙ low q l) (v .kept .1 .1 .1 .0 ∙ long)) (omega (arith, P .3)) (omega arith), omega (arith, c .before .before .before .before .before .before .before .before .before .loop-test .taken))
 
 completes-after-loop-less : (t : ℕ) → completes-after-lts.Need-loop-less (completes-after-calls t) (completes-after-at t) completes-after.Post completes-after-Inv-loop completes-after-μ-loop
-completes-after-loop-less t c = omega (arith, c .next-promising2 .ensures .from, c .before .before .before .before .before .before .before .before .before .before .if1 .taken)
+completes-after-loop-less t c = omega (arith, c .next-promising2 .ensures .from, c .before .before .before .before .before .before .before .before .before .before .loop-test .taken)
 
 completes-after-loop-again : (t : ℕ) → completes-after-lts.Need-loop-again (completes-after-calls t) (completes-after-at t) completes-after.Post completes-after-Inv-loop completes-after-μ-loop
-completes-after-loop-again t c = let P = c .before .before .before .before .before .before .before .before .before .before .before .before .before .before .before .before .before .before .before .pre .1 in
-    let a = c .before .before .before .before .before .before .before .before .before .before .before .before .before .before .before .before .before .before .before .args in
+completes-after-loop-again t c = let P = c .before .before .before .before .before .before .before .before .before .before .before .before .before .before .before .before .before .before .pre .1 in
+    let a = c .before .before .before .before .before .before .before .before .before .before .before .before .before .before .before .before .before .before .args in
     let v = c .before .before .before .before .before .before .before .completes-by in
-    let (long, same, low, high, rest) = c .before .before .before .before .before .before .before .before .before .before .before .before .loop .inv in
-    let zero : v .result ≡ 0 = omega (arith, c .before .before .if2 .left) in
+    let (long, same, low, high, rest) = c .before .before .before .before .before .before .before .before .before .before .before .loop .inv in
+    let zero : v .result ≡ 0 = omega (arith, c .before .before .if1 .left) in
     let (th, (T, (y, mem, trail))) = P .0 in
     let b = v .ensures th T (slot-same (a .slot) y low long) (rest th T y mem trail .0) (trail-same th (a .k .0) (a .e .0) (a .base) (meaning (a .p .characters) T 0) (λ q l. low q (omega (arith, l, P .5))) trail) in (
       v .kept .1 .1 .1 .0 ∙ long,
@@ -282,24 +282,24 @@ completes-after-loop-again t c = let P = c .before .before .before .before .befo
           let z = slot-same (a .slot) y (λ q l. b .low q l ∙ low q l) (v .kept .1 .1 .1 .0 ∙ long) in (
             b .memory,
             below-far (λ x. (l : List ℕ) (w : ℕ) → length l ≡ suc (a .left) → ¬ EndsBy th (a .k .0) (a .e .0) (a .base) x (meaning (a .p .characters) T 0) l w)
-                (below-more (λ x. (l : List ℕ) (w : ℕ) → length l ≡ suc (a .left) → ¬ EndsBy th (a .k .0) (a .e .0) (a .base) x (meaning (a .p .characters) T 0) l w) (c .before .before .before .before .before .before .before .before .before .before .before .before .loop .x) (rest th T y mem trail .1) (b .none zero .1))
+                (below-more (λ x. (l : List ℕ) (w : ℕ) → length l ≡ suc (a .left) → ¬ EndsBy th (a .k .0) (a .e .0) (a .base) x (meaning (a .p .characters) T 0) l w) (c .before .before .before .before .before .before .before .before .before .before .before .loop .x) (rest th T y mem trail .1) (b .none zero .1))
                 (λ j f l. best-hopeless th (a .k .0) (a .e .0) (a .base) (meaning (a .p .characters) T 0) j (stage-skipped z (omega (arith, P .3)) (c .next-promising2 .ensures) j f l)),
           ),
     )
 
 completes-after-same-length-3 : (t : ℕ) → completes-after-lts.Need-same-length-3 (completes-after-calls t) (completes-after-at t) completes-after.Post completes-after-Inv-loop completes-after-μ-loop
-completes-after-same-length-3 t c = c .before .before .loop .inv .0
+completes-after-same-length-3 t c = c .before .loop .inv .0
 
 completes-after-same-length-4 : (t : ℕ) → completes-after-lts.Need-same-length-4 (completes-after-calls t) (completes-after-at t) completes-after.Post completes-after-Inv-loop completes-after-μ-loop
-completes-after-same-length-4 t c = ap length (c .before .before .loop .inv .1)
+completes-after-same-length-4 t c = ap length (c .before .loop .inv .1)
 
 completes-after-returns-2 : (t : ℕ) → completes-after-lts.Need-returns-2 (completes-after-calls t) (completes-after-at t) completes-after.Post completes-after-Inv-loop completes-after-μ-loop
-completes-after-returns-2 t c = let a = c .before .before .before .before .before .before .before .before .before .args in
-    let (long, same, low, high, rest) = c .before .before .loop .inv in
+completes-after-returns-2 t c = let a = c .before .before .before .before .before .before .before .before .args in
+    let (long, same, low, high, rest) = c .before .loop .inv in
     λ th T y mem trail.
     let s = meaning (a .p .characters) T 0 in
-    subst (λ (now : List ℕ). Best (Memory th (a .k .0) (a .p) (a .slot + 961)) (Ends th (a .k .0) (a .e .0) (a .base) s) (suc (a .left)) (a .list .now) now (a .done) (a .slot + 961) (a .work .now) (c .before .before .loop .work) 0) (sym same)
-    (best-none (a .list .now) low high (rest th T y mem trail .0) (best-no th (a .k .0) (a .e .0) (a .base) s (λ x g. rest th T y mem trail .1 x (omega (arith, g, y .theorized .found .actions, c .if1 .left)))))
+    subst (λ (now : List ℕ). Best (Memory th (a .k .0) (a .p) (a .slot + 961)) (Ends th (a .k .0) (a .e .0) (a .base) s) (suc (a .left)) (a .list .now) now (a .done) (a .slot + 961) (a .work .now) (c .before .loop .work) 0) (sym same)
+    (best-none (a .list .now) low high (rest th T y mem trail .0) (best-no th (a .k .0) (a .e .0) (a .base) s (λ x g. rest th T y mem trail .1 x (omega (arith, g, y .theorized .found .actions, c .loop-test .left)))))
 
 completes-by-add-allowed : (t : ℕ) → completes-by-lts.Need-add-allowed (completes-by-calls t) (completes-by-at t) completes-by.Post
 completes-by-add-allowed t c = let (th, (T, (y, mem, trail))) = c .before .before .before .before .pre .1 .0 in omega (arith, small (y .tabled))
