@@ -43,7 +43,7 @@ pub fn write_told(pack: &[u8], at: usize, whom: usize, work: &mut [u8], row: usi
 // Whether what character c believes in row m takes part: every belief does where `observed` is 327, else those whose observation condition holds there.
 pub fn takes(
     pack: &[u8],
-    places: &[usize],
+    places: &[u16],
     observed: usize,
     work: &[u8],
     t: Table,
@@ -56,5 +56,5 @@ pub fn takes(
     if observed == 327 {
         return true;
     }
-    holds(pack, places[observed + c], work, t, m)
+    holds(pack, places[observed + c] as usize, work, t, m)
 }

@@ -30,7 +30,7 @@ pub struct Change {
 // The slot of what character d believes in row m, which took part.
 pub fn slot_of(
     pack: &[u8],
-    places: &[usize],
+    places: &[u16],
     effects: &[usize],
     h: Change,
     work: &[u8],
@@ -55,7 +55,7 @@ pub fn slot_of(
 // Writes the slots of what the characters believe in row m, which took part.
 pub fn put_slots(
     pack: &[u8],
-    places: &[usize],
+    places: &[u16],
     effects: &[usize],
     h: Change,
     work: &mut [u8],
@@ -77,7 +77,7 @@ pub fn put_slots(
 // Writes row m as it is after taking part, its beliefs by slots.
 pub fn put_acted(
     pack: &[u8],
-    places: &[usize],
+    places: &[u16],
     effects: &[usize],
     h: Change,
     work: &mut [u8],
@@ -112,7 +112,7 @@ pub fn put_old(h: Change, work: &mut [u8], t: Table, m: usize, to: usize)
 // Writes what character c believes in row m, having taken part or as it was.
 pub fn put_believed(
     pack: &[u8],
-    places: &[usize],
+    places: &[u16],
     effects: &[usize],
     h: Change,
     work: &mut [u8],
@@ -135,7 +135,7 @@ pub fn put_believed(
 // Writes what character c believes in row m, which took part and told it something.
 pub fn put_edge(
     pack: &[u8],
-    places: &[usize],
+    places: &[u16],
     effects: &[usize],
     h: Change,
     work: &mut [u8],
@@ -154,7 +154,7 @@ pub fn put_edge(
 // Writes the row of a slot. The last slot is that of the root having taken part, where no other is.
 pub fn put_member(
     pack: &[u8],
-    places: &[usize],
+    places: &[u16],
     effects: &[usize],
     h: Change,
     work: &mut [u8],
@@ -181,7 +181,7 @@ pub fn put_member(
 // Fills row i from u on: what slot number i was given to. The numbers stand from b on.
 pub fn change_row(
     pack: &[u8],
-    places: &[usize],
+    places: &[u16],
     effects: &[usize],
     h: Change,
     work: &mut [u8],
@@ -217,7 +217,7 @@ pub fn first_slot(h: Change, nodes: usize) -> usize
 // Makes the table of what happens, from u on; how many rows that is.
 pub fn change_table(
     pack: &[u8],
-    places: &[usize],
+    places: &[u16],
     effects: &[usize],
     h: Change,
     work: &mut [u8],

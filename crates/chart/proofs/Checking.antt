@@ -18,7 +18,7 @@ use Rattle.reading.specs.Laws.Reading.{never-gives, same-gift, both}
 use Rattle.pack.specs.declared.contents.Contents.{Contents}
 use Rattle.pack.specs.Laws.Exact.{Bytes}
 use Rattle.pack.specs.Laws.PackExact.{pack-exactly}
-use Rattle.pack.proofs.Low.{pack-refusal, chart-refusal}
+use Rattle.pack.proofs.Bounded.{pack-refusal, chart-refusal}
 use Rattle.reading.specs.Laws.Number.{between-within}
 use Rattle.pack.proofs.Found.{many-length}
 use Rattle.pack.proofs.Ready.{nodes-first, chart-nodes, pack-shaped}

@@ -101,7 +101,7 @@ pub fn note_left(work: &mut [u8], p: Shape, t: Table, root: usize, action: usize
 // As `step_slot`, of what a row of the table in a slot means, into the next slot.
 pub fn known_step(
     pack: &[u8],
-    places: &[usize],
+    places: &[u16],
     p: Shape,
     action: usize,
     work: &mut [u8],

@@ -1,7 +1,7 @@
 pub mod Laws
 pub mod Marks
 pub mod Found
-pub mod Low
+pub mod Bounded
 pub mod InRange
 pub mod Ready
 pub mod Opening

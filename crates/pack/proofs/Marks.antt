@@ -11,11 +11,12 @@ use lib.Seq.{getD-set-same, getD-set-other}
 use Rattle.reading.specs.Reading.{Reading, done, refused, Reader, bind, mapped, runs, many}
 use Rattle.state.specs.Grammar.{Dimensions, conditionAt, effectsAt, consentersAt}
 use Rattle.reading.specs.Said.{forget, whenPassed}
-use Rattle.pack.specs.Places.{Ends, Marked, KeptBelow, ActionParts, TriggerParts}
+use Rattle.pack.specs.Places.{Within, Ends, Marked, KeptBelow, ActionParts, TriggerParts}
 use Rattle.reading.specs.declared.number.Checked.{Checked}
 use Rattle.reading.specs.declared.number.Checked.the-variants.{Passed, Refused}
 use Rattle.reading.specs.Laws.Reading.{mapped-mapped, mapped-bind, bind-mapped, both, same-place}
 use Rattle.pack.proofs.Laws.{runs-none, many-forget}
+use Rattle.pack.proofs.Bounded.{Bounds, many-bounded, ends-within}
 
 pub many-suc : {A : Type 0} (p : Reader A) (k : ℕ) (s : List ℕ) (at : ℕ) → mapped forget (many p (suc k) s at) ≡ bind (mapped forget (p s at)) (λ u n. mapped forget (many p k s n))
 unfolding runs
@@ -70,6 +71,10 @@ module _ {A : Type 0} (p : Reader A) (s : List ℕ) (first : ℕ) (slot : ℕ �
   marking-set was now k i n left g h inside rises from m e =
       marking-more was now k i n left g h (set now (slot i) n) (getD-set-same now (slot i) n 0 inside)
       (λ j l. getD-set-other now (slot i) (slot j) n 0 (omega (arith, rises j l))) (λ j l. getD-set-other now (slot i) j n 0 (omega arith)) m e
+
+  -- the next begins within the bytes
+  pub marking-within : Bounds p → (was now : List ℕ) (k i n left : ℕ) → Marking p s first slot low was now k i n left → Within s first → Within s n
+  marking-within h was now k i n left g w = ends-within s first w n (many p i) (many-bounded p h i) (g .read)
 
   pub marking-refused : (was now : List ℕ) (k i n left : ℕ) → Marking p s first slot low was now k i n left → 0 < left
       → (number place : ℕ) → mapped forget (p s n) ≡ refused number place → mapped forget (many p k s first) ≡ refused number place

@@ -1,5 +1,5 @@
 -- Where the parts of a pack stand: what the places that the reader marks say.
-use Prim.Native.Nat.{ℕ, _+_, _*_, _<_}
+use Prim.Native.Nat.{ℕ, _+_, _*_, _<_, _≤_}
 use mathlib.Core.Path.{_≡_}
 use mathlib.Core.List.{List}
 use lib.ListN.{length, getD}
@@ -9,6 +9,10 @@ use Rattle.state.specs.Grammar.{Dimensions, conditionAt, effectsAt, consentersA
 use Rattle.reading.specs.Said.{said, shown, forget, whenPassed, whenIs}
 use Rattle.reading.specs.declared.number.Number.{Number}
 use Rattle.reading.specs.declared.number.Checked.{Checked}
+
+-- a place in bytes that are few enough for a pack, so that the place fits 16 bits
+abbrev pub Within : List ℕ → ℕ → Type 0
+Within s at = (at ≤ length s) × (length s ≤ 8192)
 
 -- what p reads from a place on ends at n
 abbrev pub Ends : {A : Type 0} → Reader A → List ℕ → ℕ → ℕ → Type 0

@@ -9,7 +9,7 @@ use reading::number::read_between;
 ghost use Prim.Native.Nat.{_+_, _≤_};
 ghost use lib.ListN.{length};
 ghost use Rattle.pack.specs.Answer.{dims};
-ghost use Rattle.pack.specs.Places.{ObservedRead, ActionRead, ActionsRead};
+ghost use Rattle.pack.specs.Places.{Within, ObservedRead, ActionRead, ActionsRead};
 
 // The observation conditions, one for each character.
 pub fn read_observed(
@@ -17,17 +17,17 @@ pub fn read_observed(
     at: usize,
     characters: usize,
     domains: &[u8],
-    places: &mut [usize],
+    places: &mut [u16],
     base: usize,
 ) -> Checked
-    requires { ⌜ base + characters ≤ length (now places) ⌝ }
+    requires { ⌜ (base + characters ≤ length (now places)) × Within (now s) at ⌝ }
     ensures { λ r. ⌜ ObservedRead (dims characters (now (domains .entry))) (now (s .entry)) at base (now (places .entry)) (now (places .exit)) r ⌝ }
 {
     let mut i: usize = 0;
     let mut n = at;
     let mut left = characters;
     while 0 < left {
-        places[base + i] = n;
+        places[base + i] = n as u16;
         match check_condition(s, n, characters, domains) {
             Checked::Refused(k, p) => {
                 return Checked::Refused(k, p);
@@ -48,21 +48,21 @@ pub fn read_action(
     at: usize,
     characters: usize,
     domains: &[u8],
-    places: &mut [usize],
+    places: &mut [u16],
     base: usize,
 ) -> Checked
-    requires { ⌜ (characters ≤ 6) × (base + 9 ≤ length (now places)) ⌝ }
+    requires { ⌜ (characters ≤ 6) × (base + 9 ≤ length (now places)) × Within (now s) at ⌝ }
     ensures { λ r. ⌜ ActionRead (dims characters (now (domains .entry))) (now (s .entry)) at base (now (places .entry)) (now (places .exit)) r ⌝ }
 {
-    places[base] = at;
+    places[base] = at as u16;
     match check_condition(s, at, characters, domains) {
         Checked::Refused(k, p) => Checked::Refused(k, p),
         Checked::Passed(effects) => {
-            places[base + 1] = effects;
+            places[base + 1] = effects as u16;
             match check_effects(s, effects, characters, domains) {
                 Checked::Refused(k, p) => Checked::Refused(k, p),
                 Checked::Passed(consenters) => {
-                    places[base + 2] = consenters;
+                    places[base + 2] = consenters as u16;
                     match check_consenters(s, consenters, characters, domains) {
                         Checked::Refused(k, p) => Checked::Refused(k, p),
                         Checked::Passed(n) => {
@@ -81,9 +81,9 @@ pub fn read_actions(
     at: usize,
     characters: usize,
     domains: &[u8],
-    places: &mut [usize],
+    places: &mut [u16],
 ) -> Number
-    requires { ⌜ (characters ≤ 6) × (327 ≤ length (now places)) ⌝ }
+    requires { ⌜ (characters ≤ 6) × (327 ≤ length (now places)) × Within (now s) at ⌝ }
     ensures { λ r. ⌜ ActionsRead (dims characters (now (domains .entry))) (now (s .entry)) at (now (places .exit)) r ⌝ }
 {
     match read_between(s, at, 0, 33, 3) {

@@ -11,6 +11,7 @@ ghost use Prim.Native.Nat.{_≤_};
 ghost use lib.ListN.{length, take};
 ghost use mathlib.Core.Path.{_≡_};
 ghost use Rattle.pack.specs.Answer.{dims};
+ghost use Rattle.pack.specs.Places.{Within};
 ghost use Rattle.pack.specs.Contents.{TheoryRead, BodyRead, PartsRead, PackRead, ContentsRead, Refusal};
 
 // How many actions and triggers there are.
@@ -26,9 +27,9 @@ pub fn read_theory(
     at: usize,
     characters: usize,
     domains: &[u8],
-    places: &mut [usize],
+    places: &mut [u16],
 ) -> Counts
-    requires { ⌜ (characters ≤ 6) × (327 ≤ length (now places)) ⌝ }
+    requires { ⌜ (characters ≤ 6) × (327 ≤ length (now places)) × Within (now s) at ⌝ }
     ensures { λ r. ⌜ TheoryRead (dims characters (now (domains .entry))) (now (s .entry)) at (now (places .exit)) r ⌝ }
 {
     match read_actions(s, at, characters, domains, places) {
@@ -89,9 +90,9 @@ pub fn read_body(
     characters: usize,
     fluents: usize,
     sizes: [u8; 24],
-    places: &mut [usize],
+    places: &mut [u16],
 ) -> Contents
-    requires { ⌜ (characters ≤ 6) × (fluents ≤ 24) × (length sizes ≡ 24) × (327 ≤ length (now places)) ⌝ }
+    requires { ⌜ (characters ≤ 6) × (fluents ≤ 24) × (length sizes ≡ 24) × (327 ≤ length (now places)) × Within (now s) at ⌝ }
     ensures { λ r. ⌜ BodyRead (dims characters (take fluents sizes)) (now (s .entry)) at (now (places .exit)) r ⌝ }
 {
     let domains = &sizes[..fluents];
@@ -118,8 +119,8 @@ pub fn read_body(
 }
 
 // The head and what comes after it.
-pub fn read_parts(s: &[u8], places: &mut [usize]) -> Contents
-    requires { ⌜ 327 ≤ length (now places) ⌝ }
+pub fn read_parts(s: &[u8], places: &mut [u16]) -> Contents
+    requires { ⌜ (327 ≤ length (now places)) × (length (now s) ≤ 8192) ⌝ }
     ensures { λ r. ⌜ PartsRead (now (s .entry)) (now (places .exit)) r ⌝ }
 {
     let h = read_head(s, 0);
@@ -134,7 +135,7 @@ pub fn read_parts(s: &[u8], places: &mut [usize]) -> Contents
 }
 
 // A pack: accepted, with what it holds and the places of its parts, or refused.
-pub fn read_pack(s: &[u8], places: &mut [usize]) -> Contents
+pub fn read_pack(s: &[u8], places: &mut [u16]) -> Contents
     requires { ⌜ 327 ≤ length (now places) ⌝ }
     ensures { λ r. ⌜ PackRead (now (s .entry)) (now (places .exit)) r ⌝ }
 {
@@ -153,6 +154,6 @@ pub fn read_pack(s: &[u8], places: &mut [usize]) -> Contents
 pub fn read_contents(s: &[u8]) -> Contents
     ensures { λ r. ⌜ ContentsRead (now (s .entry)) r ⌝ }
 {
-    let mut places = [0usize; 327];
+    let mut places = [0u16; 327];
     read_pack(s, &mut places)
 }

@@ -7,7 +7,7 @@ use reading::number::read_between;
 ghost use Prim.Native.Nat.{_+_, _≤_};
 ghost use lib.ListN.{length};
 ghost use Rattle.pack.specs.Answer.{dims};
-ghost use Rattle.pack.specs.Places.{TriggerRead, TriggersRead};
+ghost use Rattle.pack.specs.Places.{Within, TriggerRead, TriggersRead};
 
 // A trigger: a condition and effects. Its places are marked from base on.
 pub fn read_trigger(
@@ -15,17 +15,17 @@ pub fn read_trigger(
     at: usize,
     characters: usize,
     domains: &[u8],
-    places: &mut [usize],
+    places: &mut [u16],
     base: usize,
 ) -> Checked
-    requires { ⌜ (characters ≤ 6) × (base + 2 ≤ length (now places)) ⌝ }
+    requires { ⌜ (characters ≤ 6) × (base + 2 ≤ length (now places)) × Within (now s) at ⌝ }
     ensures { λ r. ⌜ TriggerRead (dims characters (now (domains .entry))) (now (s .entry)) at base (now (places .entry)) (now (places .exit)) r ⌝ }
 {
-    places[base] = at;
+    places[base] = at as u16;
     match check_condition(s, at, characters, domains) {
         Checked::Refused(k, p) => Checked::Refused(k, p),
         Checked::Passed(effects) => {
-            places[base + 1] = effects;
+            places[base + 1] = effects as u16;
             check_effects(s, effects, characters, domains)
         }
     }
@@ -37,9 +37,9 @@ pub fn read_triggers(
     at: usize,
     characters: usize,
     domains: &[u8],
-    places: &mut [usize],
+    places: &mut [u16],
 ) -> Number
-    requires { ⌜ (characters ≤ 6) × (327 ≤ length (now places)) ⌝ }
+    requires { ⌜ (characters ≤ 6) × (327 ≤ length (now places)) × Within (now s) at ⌝ }
     ensures { λ r. ⌜ TriggersRead (dims characters (now (domains .entry))) (now (s .entry)) at (now (places .entry)) (now (places .exit)) r ⌝ }
 {
     match read_between(s, at, 0, 17, 3) {

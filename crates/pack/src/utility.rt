@@ -11,7 +11,7 @@ ghost use Rattle.reading.specs.Reading.{mapped};
 ghost use Rattle.state.specs.Grammar.{ruleAt, rulesAt};
 ghost use Rattle.reading.specs.Said.{shown, forget};
 ghost use Rattle.pack.specs.Answer.{dims};
-ghost use Rattle.pack.specs.Places.{UtilitiesRead};
+ghost use Rattle.pack.specs.Places.{Within, UtilitiesRead};
 
 // A condition and a number.
 pub fn check_rule(s: &[u8], at: usize, characters: usize, domains: &[u8]) -> Checked
@@ -57,16 +57,16 @@ pub fn read_utilities(
     at: usize,
     characters: usize,
     domains: &[u8],
-    places: &mut [usize],
+    places: &mut [u16],
 ) -> Checked
-    requires { ⌜ (characters ≤ 6) × (327 ≤ length (now places)) ⌝ }
+    requires { ⌜ (characters ≤ 6) × (327 ≤ length (now places)) × Within (now s) at ⌝ }
     ensures { λ r. ⌜ UtilitiesRead (dims characters (now (domains .entry))) (now (s .entry)) at (now (places .entry)) (now (places .exit)) r ⌝ }
 {
     let mut i: usize = 0;
     let mut n = at;
     let mut left = characters + 1;
     while 0 < left {
-        places[320 + i] = n;
+        places[320 + i] = n as u16;
         match check_rules(s, n, characters, domains) {
             Checked::Refused(k, p) => {
                 return Checked::Refused(k, p);

@@ -53,7 +53,7 @@ pub fn in_range(
 // The verdict in a chart of so many nodes. The work buffer is cleared.
 pub fn judge_chart(
     pack: &[u8],
-    places: &[usize],
+    places: &[u16],
     p: Shape,
     chart: &[u8],
     nodes: usize,
@@ -104,7 +104,7 @@ pub fn judge(
 ) -> Judged
     ensures { λ r. ⌜ Judgement (now (pack .entry)) (now (chart .entry)) character action foresight nesting (now (work .entry)) (now (work .exit)) r ⌝ }
 {
-    let mut places = [0usize; 327];
+    let mut places = [0u16; 327];
     let p = read_pack(pack, &mut places);
     let sizes = p.sizes;
     let answer = p.answer;

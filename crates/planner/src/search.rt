@@ -49,7 +49,7 @@ pub struct Ended {
 // The author's utility at the end of the earliest list of exactly `left` actions from the state in a slot that ends above base, which is put down from `done` on; or 0.
 pub fn completes(
     pack: &[u8],
-    places: &[usize],
+    places: &[u16],
     p: Shape,
     work: &mut [u8],
     slot: usize,
@@ -132,7 +132,7 @@ pub fn repeats(work: &[u8], p: Shape, slot: usize, done: usize) -> bool
 // As `completes`, of the lists of one action more.
 pub fn completes_after(
     pack: &[u8],
-    places: &[usize],
+    places: &[u16],
     p: Shape,
     work: &mut [u8],
     slot: usize,
@@ -159,7 +159,7 @@ pub fn completes_after(
 }
 
 // The author's utility in the state in a slot where it is above base, or 0.
-pub fn ends(pack: &[u8], places: &[usize], p: Shape, work: &[u8], slot: usize, base: usize) -> usize
+pub fn ends(pack: &[u8], places: &[u16], p: Shape, work: &[u8], slot: usize, base: usize) -> usize
     requires { ⌜ Staged (now pack) (now places) p (now work) (slotTable p (now work) slot) (slot + 961) × Free slot 1 ⌝ }
     ensures { λ r. ⌜ ((th : Theory) (T : List Node) → Stage th T (now (pack .entry)) (now (places .entry)) p (now (work .entry)) (slotTable p (now (work .entry)) slot) (slot + 961) → (base < authorUtility th (meaning (p .characters) T 0) → r ≡ authorUtility th (meaning (p .characters) T 0)) × (authorUtility th (meaning (p .characters) T 0) ≤ base → r ≡ 0)) ⌝ }
 {
@@ -170,14 +170,14 @@ pub fn ends(pack: &[u8], places: &[usize], p: Shape, work: &[u8], slot: usize, b
         characters: p.characters,
         width: p.fluents + p.characters,
     };
-    let worth = utility(pack, places[320], work, t, 0);
+    let worth = utility(pack, places[320] as usize, work, t, 0);
     if base < worth { worth } else { 0 }
 }
 
 // As `completes`, of the lists of one action more that begin with x.
 pub fn completes_by(
     pack: &[u8],
-    places: &[usize],
+    places: &[u16],
     p: Shape,
     work: &mut [u8],
     slot: usize,
@@ -241,7 +241,7 @@ pub fn completes_by(
 // The shortest list of 1 to T actions from the state in the first slot, and of those the earliest.
 pub fn shortest(
     pack: &[u8],
-    places: &[usize],
+    places: &[u16],
     p: Shape,
     work: &mut [u8],
     list: &mut [u8],
@@ -300,7 +300,7 @@ pub fn lay_start(pack: &[u8], first: usize, nodes: usize, p: Shape, work: &mut [
 // The search from what node 0 means of the nodes that are read from `first` on. The work buffer is cleared.
 pub fn search_nodes(
     pack: &[u8],
-    places: &[usize],
+    places: &[u16],
     p: Shape,
     first: usize,
     nodes: usize,
@@ -321,7 +321,7 @@ pub fn search_nodes(
         characters: p.characters,
         width: p.fluents + p.characters,
     };
-    let base = utility(pack, places[320], work, t, 0);
+    let base = utility(pack, places[320] as usize, work, t, 0);
     let found = shortest(pack, places, p, work, list, s, e, k, base);
     clear(work, 0, 49152);
     if found.length == 0 {
@@ -341,7 +341,7 @@ pub fn search(
 ) -> Found
     ensures { λ r. ⌜ Searching (now (pack .entry)) story foresight nesting (now (list .entry)) (now (work .entry)) (now (list .exit)) (now (work .exit)) r ⌝ }
 {
-    let mut places = [0usize; 327];
+    let mut places = [0u16; 327];
     let p = read_pack(pack, &mut places);
     let answer = p.answer;
     let nodes = unless_refused(answer, p.nodes, 0);

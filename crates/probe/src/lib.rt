@@ -43,7 +43,7 @@ pub extern "C" fn pirwodd_probe_pack(pack: &[u8], report: &mut [u64]) -> u32
     if report.len() < 5 {
         return 8;
     }
-    let mut places = [0usize; 327];
+    let mut places = [0u16; 327];
     let c = read_pack(pack, &mut places);
     let answer = c.answer;
     match answer {
@@ -62,7 +62,7 @@ pub extern "C" fn pirwodd_probe_pack(pack: &[u8], report: &mut [u64]) -> u32
 fn count_nodes(pack: &[u8], chart: &[u8]) -> Number
     ensures { λ r. ⌜ chartCount (now (pack .entry)) (now (chart .entry)) ≡ repliedCount r ⌝ }
 {
-    let mut places = [0usize; 327];
+    let mut places = [0u16; 327];
     let c = read_pack(pack, &mut places);
     let answer = c.answer;
     match answer {

@@ -29,7 +29,7 @@ pub struct Nesting(pub usize);
 // Whether character c's action a is explained: as is known, or as is found out.
 pub fn explained(
     pack: &[u8],
-    places: &[usize],
+    places: &[u16],
     p: Shape,
     work: &mut [u8],
     t: Table,
@@ -67,7 +67,7 @@ pub fn explained(
 // As `explained`, by what c believes and the lists that begin with a there.
 pub fn explains(
     pack: &[u8],
-    places: &[usize],
+    places: &[u16],
     p: Shape,
     work: &mut [u8],
     t: Table,
@@ -86,7 +86,7 @@ pub fn explains(
     if number != 0 {
         return false;
     }
-    let base = utility(pack, places[321 + c], work, t, q);
+    let base = utility(pack, places[321 + c] as usize, work, t, q);
     extends(
         pack,
         places,
@@ -104,7 +104,7 @@ pub fn explains(
 // Whether some list of at most `left` actions from the state in a slot ends with c's utility above base.
 pub fn extends(
     pack: &[u8],
-    places: &[usize],
+    places: &[u16],
     p: Shape,
     work: &mut [u8],
     slot: usize,
@@ -124,7 +124,7 @@ pub fn extends(
         characters: p.characters,
         width: p.fluents + p.characters,
     };
-    if base < utility(pack, places[321 + c], work, t, 0) {
+    if base < utility(pack, places[321 + c] as usize, work, t, 0) {
         return true;
     }
     if left == 0 {
@@ -158,7 +158,7 @@ pub fn mark(found: bool) -> u8
 // Whether some action, and then some list of at most `left` actions, leads from the state in a slot to c's utility above base.
 pub fn extends_by(
     pack: &[u8],
-    places: &[usize],
+    places: &[u16],
     p: Shape,
     work: &mut [u8],
     slot: usize,
@@ -185,7 +185,7 @@ pub fn extends_by(
 // Whether action x, and then some list of at most `left` actions, leads from the state in a slot to c's utility above base.
 pub fn via(
     pack: &[u8],
-    places: &[usize],
+    places: &[u16],
     p: Shape,
     work: &mut [u8],
     slot: usize,
@@ -220,7 +220,7 @@ pub fn via(
 // Whether action x is explained to each of its consenters other than `who`.
 pub fn allowed(
     pack: &[u8],
-    places: &[usize],
+    places: &[u16],
     p: Shape,
     work: &mut [u8],
     t: Table,
@@ -234,7 +234,7 @@ pub fn allowed(
     requires { ⌜ Prepared (k .0) (now pack) (now places) p (now work) t slot × (root < t .nodes) × (x < p .actions) × (0 < k .0) × (k .0 ≤ 6) × Free slot (k .0 * e .0) ⌝ }
     ensures { λ r. ⌜ ((th : Theory) (T : List Node) → Stage th T (now (pack .entry)) (now (places .entry)) p (now (work .entry)) t slot → Memory th (k .0) p slot (now (work .entry)) → Told (Memory th (k .0) p slot) slot (now (work .entry)) (now (work .exit)) r (Agreed th (k .0) (e .0) who x (meaning (t .characters) T root))) ⌝ }
 {
-    let at = places[9 * x + 2];
+    let at = places[9 * x + 2] as usize;
     let count = consenters(pack, at);
     let mut i = 0;
     while i < count {
@@ -251,7 +251,7 @@ pub fn allowed(
 // Whether d, if it is another than `who`, has action x explained to it.
 pub fn fine(
     pack: &[u8],
-    places: &[usize],
+    places: &[u16],
     p: Shape,
     work: &mut [u8],
     t: Table,

@@ -51,16 +51,16 @@ pub fn writes(pack: &[u8], at: usize, fluent: usize) -> bool
 }
 
 // Whether some effect of action x, or of a trigger, does.
-pub fn moves(pack: &[u8], places: &[usize], triggers: usize, x: usize, fluent: usize) -> bool
+pub fn moves(pack: &[u8], places: &[u16], triggers: usize, x: usize, fluent: usize) -> bool
     requires { ⌜ Acted (now pack) (now places) triggers x ⌝ }
     ensures { λ r. ⌜ Moved (now (pack .entry)) (now (places .entry)) triggers x fluent r ⌝ }
 {
-    if writes(pack, places[9 * x + 1], fluent) {
+    if writes(pack, places[9 * x + 1] as usize, fluent) {
         return true;
     }
     let mut i = 0;
     while i < triggers {
-        if writes(pack, places[289 + 2 * i], fluent) {
+        if writes(pack, places[289 + 2 * i] as usize, fluent) {
             return true;
         }
         i += 1;
@@ -71,7 +71,7 @@ pub fn moves(pack: &[u8], places: &[usize], triggers: usize, x: usize, fluent: u
 // Whether the test at a place could pass in row 0 after action x and any triggers.
 pub fn could_pass(
     pack: &[u8],
-    places: &[usize],
+    places: &[u16],
     triggers: usize,
     x: usize,
     at: usize,
@@ -93,7 +93,7 @@ pub fn could_pass(
 // Whether all tests of the alternative at a place could.
 pub fn could_all(
     pack: &[u8],
-    places: &[usize],
+    places: &[u16],
     triggers: usize,
     x: usize,
     at: usize,
@@ -118,7 +118,7 @@ pub fn could_all(
 // Whether the condition at a place could hold.
 pub fn could_hold(
     pack: &[u8],
-    places: &[usize],
+    places: &[u16],
     triggers: usize,
     x: usize,
     at: usize,
@@ -143,7 +143,7 @@ pub fn could_hold(
 // Whether some rule above base, of those at a place, could.
 pub fn could_exceed(
     pack: &[u8],
-    places: &[usize],
+    places: &[u16],
     triggers: usize,
     x: usize,
     at: usize,
@@ -184,7 +184,7 @@ pub fn could_exceed(
 // Whether action x, with `left` actions behind it, is worth a try in row 0: its condition holds, and where it is the last one it could leave a utility above base. `whose` is 0 for the author and c + 1 for character c.
 pub fn promising(
     pack: &[u8],
-    places: &[usize],
+    places: &[u16],
     p: Shape,
     work: &[u8],
     t: Table,
@@ -196,7 +196,7 @@ pub fn promising(
     requires { ⌜ Tryable (now pack) (now places) (p .triggers) x (now work) t whose ⌝ }
     ensures { λ r. ⌜ (r ≡ false → Hopeless (now (pack .entry)) (now (places .entry)) (p .triggers) x (now (work .entry)) t whose left base) ⌝ }
 {
-    let may = holds(pack, places[9 * x], work, t, 0);
+    let may = holds(pack, places[9 * x] as usize, work, t, 0);
     if !may {
         return false;
     }
@@ -208,7 +208,7 @@ pub fn promising(
         places,
         p.triggers,
         x,
-        places[320 + whose],
+        places[320 + whose] as usize,
         work,
         t,
         base,
@@ -218,7 +218,7 @@ pub fn promising(
 // The first action from x on that is worth a try in the state in a slot, or how many actions there are.
 pub fn next_promising(
     pack: &[u8],
-    places: &[usize],
+    places: &[u16],
     p: Shape,
     work: &[u8],
     slot: usize,

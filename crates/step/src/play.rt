@@ -17,7 +17,7 @@ ghost use Rattle.step.specs.Inner.Play.{Steppable, StepPut};
 // Plays an action in a chart of so many nodes and writes the chart of what it leaves. The work buffer is cleared.
 pub fn play(
     pack: &[u8],
-    places: &[usize],
+    places: &[u16],
     triggers: usize,
     action: usize,
     chart: &[u8],
@@ -61,7 +61,7 @@ pub fn play(
 pub fn step(pack: &[u8], chart: &[u8], action: usize, out: &mut [u8], work: &mut [u8]) -> Charted
     ensures { λ r. ⌜ Stepped (now (pack .entry)) (now (chart .entry)) action (now (out .entry)) (now (work .entry)) (now (out .exit)) (now (work .exit)) r ⌝ }
 {
-    let mut places = [0usize; 327];
+    let mut places = [0u16; 327];
     let p = read_pack(pack, &mut places);
     let sizes = p.sizes;
     let answer = p.answer;

@@ -31,7 +31,7 @@ pub fn lowest_untold(pack: &[u8], at: usize, characters: usize) -> usize
 // Part 1 of an action in what a row of a table means, into a slot; how many states that leaves, or more than 32.
 pub fn act(
     pack: &[u8],
-    places: &[usize],
+    places: &[u16],
     action: usize,
     work: &mut [u8],
     t: Table,
@@ -41,7 +41,7 @@ pub fn act(
     requires { ⌜ Actable (now pack) (now places) action (now work) t root slot ⌝ }
     ensures { λ r. ⌜ ((p : Theory) (T : List Node) (actions triggers : ℕ) → Setting p T (now (pack .entry)) (now (places .entry)) actions triggers (now (work .entry)) t slot → action < actions → root < t .nodes → Acted (Rattle.change.specs.Happening.act (actionOf p action) (meaning (t .characters) T root)) t (now (work .entry)) (now (work .exit)) slot r) ⌝ }
 {
-    let at = places[9 * action + 1];
+    let at = places[9 * action + 1] as usize;
     let effects = [at; 32];
     let observers = Change {
         acted: lowest_untold(pack, at, t.characters),

@@ -14,7 +14,7 @@ ghost use Rattle.transition.specs.Inner.Fire.{Triggered, Firable, Fires,
 // The place of the effects of the lowest trigger that holds in row m, or 8192, which is behind every pack.
 pub fn firing(
     pack: &[u8],
-    places: &[usize],
+    places: &[u16],
     triggers: usize,
     work: &[u8],
     t: Table,
@@ -25,8 +25,8 @@ pub fn firing(
 {
     let mut i = 0;
     while i < triggers {
-        if holds(pack, places[288 + 2 * i], work, t, m) {
-            return places[289 + 2 * i];
+        if holds(pack, places[288 + 2 * i] as usize, work, t, m) {
+            return places[289 + 2 * i] as usize;
         }
         i += 1;
     }
@@ -42,7 +42,7 @@ fn either(a: bool, b: bool) -> bool
 // The places of the effects in each row; whether a trigger holds in any.
 pub fn fire_all(
     pack: &[u8],
-    places: &[usize],
+    places: &[u16],
     triggers: usize,
     work: &[u8],
     t: Table,

@@ -106,7 +106,7 @@ pub fn merge_slot(work: &mut [u8], t: Table, slot: usize) -> usize
 // The round in which these effects take place in the rows of the table in a slot, everyone taking part; how many rows it leaves, or more than 32.
 pub fn round(
     pack: &[u8],
-    places: &[usize],
+    places: &[u16],
     effects: &[usize],
     h: Change,
     work: &mut [u8],

@@ -12,7 +12,7 @@ ghost use Rattle.transition.specs.Inner.Play.{Setting, Slotted, SettledI
 // Settles the state in a slot, of which t is the table: 0 where it does, 12 where there are more than 32 states, 11 where a trigger holds after round 16.
 pub fn settle(
     pack: &[u8],
-    places: &[usize],
+    places: &[u16],
     triggers: usize,
     work: &mut [u8],
     t: Table,

@@ -23,7 +23,7 @@ pub fn put_down(work: &mut [u8], from: usize, n: usize, w: usize, slot: usize)
 // Puts the table of what happens, merged, into the slot at `slot`. How many rows that is, or more than 32, and then the slot is as it was.
 pub fn stage(
     pack: &[u8],
-    places: &[usize],
+    places: &[u16],
     effects: &[usize],
     h: Change,
     work: &mut [u8],

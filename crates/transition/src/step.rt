@@ -12,7 +12,7 @@ ghost use Rattle.transition.specs.Inner.Play.{Setting, Playable, PlayedI
 // Plays an action in what a row of a table means, into a slot: 0, or 10, 11 or 12.
 pub fn step_slot(
     pack: &[u8],
-    places: &[usize],
+    places: &[u16],
     triggers: usize,
     action: usize,
     work: &mut [u8],
@@ -23,7 +23,7 @@ pub fn step_slot(
     requires { ⌜ Playable (now pack) (now places) triggers action (now work) t root slot ⌝ }
     ensures { λ r. ⌜ ((p : Theory) (T : List Node) (actions : ℕ) → Setting p T (now (pack .entry)) (now (places .entry)) actions triggers (now (work .entry)) t slot → action < actions → root < t .nodes → PlayedIn p (meaning (t .characters) T root) action t (now (work .entry)) (now (work .exit)) slot r) ⌝ }
 {
-    let may = holds(pack, places[9 * action], work, t, root);
+    let may = holds(pack, places[9 * action] as usize, work, t, root);
     if !may {
         return 10;
     }

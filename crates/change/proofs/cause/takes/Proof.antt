@@ -1,5 +1,6 @@
 -- Everyone, or those whose condition holds. Assumes nothing.
 use native.Mathlib.Omega.{arith}
+use Prim.Native.Nat.{_+_}
 use Rattle.change.proofs.Causing.{took-all, watched-judged, took-judged}
 use Rattle.change.proofs.cause.takes.Statement.{statement}
 use Rattle.change.proofs.cause.takes.Tie as tie
@@ -13,7 +14,11 @@ mul-holds c = let w = c .before .before .before .before .pre in omega (arith, w 
 shared-slice-read-holds : tie.Need-shared-slice-read-holds
 shared-slice-read-holds c = let w = c .before .before .before .before .before .pre in omega (arith, w .observes .inside (c .before .if1 .left), w .character)
 
+-- a place that was read fits a number
+cast-holds : tie.Need-cast-holds
+cast-holds c = let a = c .before .before .before .before .before .args in omega (arith, c .shared-slice-known4 .given (a .observed + a .c))
+
 pub takes-spec : {M : Type 1} → statement M
 takes-spec =
     tie.close
-    (tie.spec (λ c. took-all _ _ _ _ _ _ _ (c .if1 .taken)) add-holds mul-holds shared-slice-read-holds (λ c κs. watched-judged _ _ _ _ _ _ _ (c .before .before .before .before .before .pre) (c .before .if1 .left)) (λ c. took-judged _ _ _ _ _ _ _ (c .before .before .before .before .before .before .pre) (c .before .before .if1 .left) (c .holds .ensures)))
+    (tie.spec (λ c. took-all _ _ _ _ _ _ _ (c .if1 .taken)) add-holds mul-holds shared-slice-read-holds cast-holds (λ c κs. watched-judged _ _ _ _ _ _ _ (c .before .before .before .before .before .pre) (c .before .if1 .left)) (λ c. took-judged _ _ _ _ _ _ _ (c .before .before .before .before .before .before .pre) (c .before .before .if1 .left) (c .holds .ensures)))

@@ -10,6 +10,7 @@ use Rattle.reading.specs.Said.{shown}
 use Rattle.pack.specs.Answer.{dims}
 use Rattle.pack.proofs.Marks.{first-one, first-two, first-three, kept-one, kept-two, kept-three, action-first, action-kept, action-parts, when-passed}
 use Rattle.pack.proofs.Laws.{action-forget}
+use Rattle.pack.proofs.Bounded.{condition-within, effects-within, consenters-within}
 use Rattle.pack.proofs.action.read_action.Statement.{statement}
 use Rattle.pack.proofs.action.read_action.Tie as tie
 
@@ -19,15 +20,23 @@ read-action-spec =
     (tie.spec
     (λ c. search needs)
     (λ c. search needs)
+    (λ c. search needs)
     (λ c κs. search needs)
     (λ c. search needs)
     (λ c. search needs)
+    (λ c.
+    let start = c .before .before .before .before .before .before .before in
+    omega (arith, condition-within (start .args .s .now) (start .args .at) (start .pre .2) _ (dims (start .args .characters) (start .args .domains .now)) (c .before .before .before .check-condition .ensures ∙ ap shown (c .before .effects .given .1))))
     (λ c. search needs)
     (λ c. search needs)
     (λ c. simp length-set (omega (arith, c .before .before .before .before .before .before .before .pre)))
     (λ c κs. search needs)
     (λ c. search needs)
     (λ c. search needs)
+    (λ c.
+    let start = c .before .before .before .before .before .before .before .before .before .before .before in
+    let effects = condition-within (start .args .s .now) (start .args .at) (start .pre .2) _ (dims (start .args .characters) (start .args .domains .now)) (c .before .before .before .before .before .before .before .check-condition .ensures ∙ ap shown (c .before .before .before .before .before .effects .given .1)) in
+    omega (arith, effects-within (start .args .s .now) _ effects _ (dims (start .args .characters) (start .args .domains .now)) (c .before .before .before .check-effects .ensures ∙ ap shown (c .before .consenters .given .1))))
     (λ c. search needs)
     (λ c. search needs)
     (λ c. simp length-set (omega (arith, c .before .before .before .before .before .before .before .before .before .before .before .pre)))
@@ -35,7 +44,11 @@ read-action-spec =
     (λ c. search needs)
     (λ c. search needs)
     (λ c. search needs)
-    (λ c κs. simp length-set (omega (arith, c .before .before .before .before .before .before .before .before .before .before .before .before .before .before .before .before .pre)))
+    (λ c κs.
+    let start = c .before .before .before .before .before .before .before .before .before .before .before .before .before .before .before .before in
+    let effects = condition-within (start .args .s .now) (start .args .at) (start .pre .2) _ (dims (start .args .characters) (start .args .domains .now)) (c .before .before .before .before .before .before .before .before .before .before .before .before .check-condition .ensures ∙ ap shown (c .before .before .before .before .before .before .before .before .before .before .effects .given .1)) in
+    let consenters = effects-within (start .args .s .now) _ effects _ (dims (start .args .characters) (start .args .domains .now)) (c .before .before .before .before .before .before .before .before .check-effects .ensures ∙ ap shown (c .before .before .before .before .before .before .consenters .given .1)) in
+    (simp length-set (omega (arith, start .pre)), consenters-within (start .args .s .now) _ consenters _ (dims (start .args .characters) (start .args .domains .now)) (c .before .before .before .before .check-consenters .ensures ∙ ap shown (c .before .before .n .given .1))))
     (λ c. search needs)
     (λ c.
     let start = c .before .before .before .before .before .before .before in

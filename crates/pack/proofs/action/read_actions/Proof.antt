@@ -8,9 +8,10 @@ use Rattle.pack.specs.Places.{ActionParts}
 use Rattle.state.specs.Grammar.{actionAt}
 use Rattle.reading.specs.Said.{said, shown}
 use Rattle.pack.specs.Answer.{dims}
-use Rattle.pack.proofs.Marks.{Marking, marking-start, marking-more, marking-refused, marking-whole, marking-all, when-given, actions-more, all-of}
+use Rattle.pack.proofs.Marks.{Marking, marking-start, marking-more, marking-within, marking-refused, marking-whole, marking-all, when-given, actions-more, all-of}
 use Rattle.reading.specs.Laws.Number.{between-within}
 use Rattle.pack.proofs.Laws.{counted-length}
+use Rattle.pack.proofs.Bounded.{action-bounded, count-within}
 use Rattle.pack.proofs.action.read_actions.Statement.{statement}
 use Rattle.pack.proofs.action.read_actions.Tie as tie
 
@@ -37,7 +38,7 @@ read-actions-spec =
     (λ c κs.
     let start = c .before .before .before .before .before .before .before .before .before .before in
     let turn = c .before .before in
-    (start .pre .0, omega (arith, turn .loop .inv .0 .counts, turn .loop .inv .2, turn .loop .inv .3, start .pre .1)))
+    (start .pre .0, omega (arith, turn .loop .inv .0 .counts, turn .loop .inv .2, turn .loop .inv .3, start .pre .1), marking-within _ _ _ _ _ (action-bounded (dims (start .args .characters) (start .args .domains .now))) _ _ _ _ _ _ (turn .loop .inv .0) (count-within (start .args .s .now) (start .args .at) (start .pre .2) _ 0 33 _ (c .before .before .before .before .before .before .read-between .ensures ∙ ap said (c .before .before .before .before .count .given .1)))))
     (λ c. search needs)
     (λ c. c .before .before .before .before .before .read-action .kept .1 .1 .1 .1 .0 ∙ c .before .before .before .before .before .before .before .before .loop .inv .2)
     (λ c. record { answer = rw (counted-length, c .before .before .before .before .before .before .before .before .before .before .before .before .read-between .ensures, c .before .before .before .before .before .before .before .before .before .before .count .given .1, marking-refused _ _ _ _ _ _ _ _ _ _ _ (c .before .before .before .before .before .before .before .before .loop .inv .0) (c .before .before .before .before .before .before .before .loop-test .taken) _ _ (c .before .before .before .before .before .read-action .ensures .answer ∙ ap shown (c .before .k2 .given .1))); found = tt })

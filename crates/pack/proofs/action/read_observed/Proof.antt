@@ -7,7 +7,8 @@ use lib.ListN.{length, length-set}
 use Rattle.state.specs.Grammar.{conditionAt}
 use Rattle.reading.specs.Said.{shown}
 use Rattle.pack.specs.Answer.{dims}
-use Rattle.pack.proofs.Marks.{Marking, marking-start, marking-set, marking-refused, marking-whole, marking-all, set-below}
+use Rattle.pack.proofs.Marks.{Marking, marking-start, marking-set, marking-within, marking-refused, marking-whole, marking-all, set-below}
+use Rattle.pack.proofs.Bounded.{condition-bounded}
 use Rattle.pack.proofs.action.read_observed.Statement.{statement}
 use Rattle.pack.proofs.action.read_observed.Tie as tie
 
@@ -25,6 +26,7 @@ read-observed-spec =
     Inv-loop
     μ-loop
     (λ c. (marking-start _ _ _ _ _ _ _, refl))
+    (λ c. omega (arith, marking-within _ _ _ _ _ (condition-bounded _) _ _ _ _ _ _ (c .before .loop .inv .0) (c .before .before .before .before .before .pre .1)))
     (λ c. search needs)
     (λ c. search needs)
     (λ c. search needs)

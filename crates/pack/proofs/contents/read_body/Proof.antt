@@ -9,6 +9,7 @@ use Rattle.reading.specs.Reading.{refused, mapped}
 use Rattle.reading.specs.Said.{said, shown, forget}
 use Rattle.pack.specs.Answer.{dims}
 use Rattle.pack.proofs.Found.{no-value, body-forget, body-found}
+use Rattle.pack.proofs.Bounded.{count-within, rows-within}
 use Rattle.pack.proofs.contents.read_body.Statement.{statement}
 use Rattle.pack.proofs.contents.read_body.Tie as tie
 
@@ -30,7 +31,8 @@ read-body-spec =
     (λ c. search needs)
     (λ c κs.
     let start = c .before .before .before .before .before .before .before .before .before .before .before .before in
-    (start .pre .0, start .pre .3))
+    let rows = count-within (start .args .s .now) (start .args .at) (start .pre .4) _ 1 33 _ (c .before .before .before .before .before .before .before .before .read-between .ensures ∙ ap said (c .before .before .before .before .before .before .nodes .given .1)) in
+    (start .pre .0, start .pre .3, rows-within (start .args .s .now) _ rows _ (dims (start .args .characters) (take (start .args .fluents) (start .args .t5))) _ (c .before .before .before .before .check-rows .ensures ∙ ap shown (c .before .before .n .given .1))))
     (λ c.
     let start = c .before .before .before .before .before .before .before .before in
     let a : mapped forget (bodyAt (dims (start .args .characters) (take (start .args .fluents) (start .args .t5))) (start .args .s .now) (start .args .at)) ≡ refused (c .before .before .k .given .0 .0) (c .before .before .k .given .0 .1 .0) = rw (body-forget, c .before .before .before .before .read-between .ensures, c .before .before .k .given .1) in

@@ -1,5 +1,6 @@
 -- The body is read with what the head says. Assumes nothing.
 use borrow.Author.Needs.{needs}
+use native.Mathlib.Omega.{arith}
 use mathlib.Core.Path.{_≡_, sym, ap, _∙_}
 use lib.ListN.{take}
 use Rattle.pack.specs.Contents.{bodyAt}
@@ -8,6 +9,7 @@ use Rattle.reading.specs.Reading.{refused, bind, mapped}
 use Rattle.reading.specs.Said.{shown, answered, forget}
 use Rattle.pack.specs.Answer.{dims}
 use Rattle.pack.proofs.Found.{no-value, parts-forget, parts-body}
+use Rattle.pack.proofs.Bounded.{head-within}
 use Rattle.pack.proofs.contents.read_parts.Statement.{statement}
 use Rattle.pack.proofs.contents.read_parts.Tie as tie
 
@@ -19,7 +21,7 @@ read-parts-spec =
     (λ c. search needs)
     (λ c κs. search needs)
     (λ c. search needs)
-    (λ c κs. (c .before .before .before .before .before .read-head .ensures .small, c .before .before .before .before .before .read-head .ensures .few, c .before .before .before .before .before .read-head .ensures .long, c .before .before .before .before .before .before .before .before .pre))
+    (λ c κs. (c .before .before .before .before .before .read-head .ensures .small, c .before .before .before .before .before .read-head .ensures .few, c .before .before .before .before .before .read-head .ensures .long, c .before .before .before .before .before .before .before .before .pre .0, head-within (c .before .before .before .before .before .before .before .before .args .s .now) 0 (omega arith, c .before .before .before .before .before .before .before .before .pre .1) _ _ (c .before .before .before .before .before .read-head .ensures .reads ∙ ap (λ a. answered a (dims (c .before .before .before .before .before .read-head .result .characters) (take (c .before .before .before .before .before .read-head .result .fluents) (c .before .before .before .before .before .read-head .result .sizes)))) (c .before .before .before .answer2 .given .1))))
     (λ c.
     let start = c .before .before .before .before .before .before .before in
     let a : mapped forget (packAt (start .args .s .now) 0) ≡ refused (c .before .before .answer .given .0 .0) (c .before .before .answer .given .0 .1 .0) = rw (parts-forget, c .before .before .before .before .read-head .ensures .reads, c .before .before .answer .given .1) in

@@ -1,13 +1,14 @@
 -- Each walk begins where the one before it ends, and leaves the places that it marked. Assumes nothing.
 use borrow.Author.Needs.{needs}
 use native.Mathlib.Omega.{arith}
-use mathlib.Core.Path.{_≡_, _∙_}
+use mathlib.Core.Path.{_≡_, ap, _∙_}
 use Rattle.reading.specs.Reading.{refused, mapped}
 use Rattle.state.specs.Grammar.{theoryAt}
-use Rattle.reading.specs.Said.{shown, forget}
+use Rattle.reading.specs.Said.{said, shown, forget}
 use Rattle.pack.specs.Answer.{dims}
 use Rattle.pack.proofs.Found.{no-value, theory-marked}
 use Rattle.pack.proofs.Laws.{theory-forget}
+use Rattle.pack.proofs.Bounded.{actions-within, triggers-within}
 use Rattle.pack.proofs.contents.read_theory.Statement.{statement}
 use Rattle.pack.proofs.contents.read_theory.Tie as tie
 
@@ -20,12 +21,13 @@ read-theory-spec =
     (λ c. search needs)
     (λ c κs.
     let start = c .before .before .before .before .before .before .before .before .before .before .before in
-    (start .pre .0, omega (arith, start .pre .1, c .before .before .before .before .before .before .read-actions .kept .1 .1 .1 .1 .0)))
+    (start .pre .0, omega (arith, start .pre .1, c .before .before .before .before .before .before .read-actions .kept .1 .1 .1 .1 .0), actions-within (start .args .s .now) (start .args .at) (start .pre .2) _ (dims (start .args .characters) (start .args .domains .now)) _ (c .before .before .before .before .before .before .read-actions .ensures .answer ∙ ap said (c .before .before .actions .given .1))))
     (λ c. search needs)
     (λ c. search needs)
     (λ c κs.
     let start = c .before .before .before .before .before .before .before .before .before .before .before .before .before .before .before .before .before .before in
-    (start .pre .0, omega (arith, start .pre .1, c .before .before .before .before .before .before .before .before .before .before .before .before .before .read-actions .kept .1 .1 .1 .1 .0, c .before .before .before .before .before .before .read-triggers .kept .1 .1 .1 .1 .0)))
+    let actions = actions-within (start .args .s .now) (start .args .at) (start .pre .2) _ (dims (start .args .characters) (start .args .domains .now)) _ (c .before .before .before .before .before .before .before .before .before .before .before .before .before .read-actions .ensures .answer ∙ ap said (c .before .before .before .before .before .before .before .before .before .actions .given .1)) in
+    (start .pre .0, omega (arith, start .pre .1, c .before .before .before .before .before .before .before .before .before .before .before .before .before .read-actions .kept .1 .1 .1 .1 .0, c .before .before .before .before .before .before .read-triggers .kept .1 .1 .1 .1 .0), triggers-within (start .args .s .now) _ actions _ (dims (start .args .characters) (start .args .domains .now)) _ (c .before .before .before .before .before .before .read-triggers .ensures .answer ∙ ap said (c .before .before .triggers .given .1))))
     (λ c. c .before .before .before .before .before .read-actions .kept .1 .1 .1 .1 .0)
     (λ c.
     let start = c .before .before .before .before .before .before .before .before .before .before in

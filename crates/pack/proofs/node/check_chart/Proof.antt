@@ -7,7 +7,7 @@ use lib.ListN.{length}
 use Rattle.state.specs.Grammar.{nodesAt}
 use Rattle.reading.specs.Said.{said}
 use Rattle.pack.specs.Answer.{dims}
-use Rattle.pack.proofs.Low.{nodes-low, low-told}
+use Rattle.pack.proofs.Bounded.{nodes-bounded, refusal-bounded}
 use Rattle.pack.proofs.Found.{chart-refused, chart-read}
 use Rattle.pack.proofs.node.check_chart.Statement.{statement}
 use Rattle.pack.proofs.node.check_chart.Tie as tie
@@ -20,7 +20,7 @@ check-chart-spec =
     (λ c. search needs)
     (λ c.
     let start = c .before .before .before .before .before .before in
-    omega (arith, low-told length (nodesAt (dims (start .args .characters) (start .args .domains .now)) (start .args .s .now) 0) _ _ (nodes-low _ _ _) (c .before .before .before .check-nodes .ensures ∙ ap said (c .before .k .given .1))))
+    omega (arith, refusal-bounded (start .args .s .now) length (nodesAt (dims (start .args .characters) (start .args .domains .now)) (start .args .s .now) 0) _ _ (nodes-bounded _ _ _ (omega arith)) (c .before .before .before .check-nodes .ensures ∙ ap said (c .before .k .given .1))))
     (λ c. search needs)
     (λ c.
     let start = c .before .before .before .before .before .before in

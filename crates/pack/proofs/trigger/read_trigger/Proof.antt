@@ -7,6 +7,7 @@ use Rattle.reading.specs.Said.{shown}
 use Rattle.pack.specs.Answer.{dims}
 use Rattle.pack.proofs.Marks.{first-one, first-two, kept-one, kept-two, trigger-parts, when-always}
 use Rattle.pack.proofs.Laws.{trigger-forget}
+use Rattle.pack.proofs.Bounded.{condition-within}
 use Rattle.pack.proofs.trigger.read_trigger.Statement.{statement}
 use Rattle.pack.proofs.trigger.read_trigger.Tie as tie
 
@@ -16,9 +17,13 @@ read-trigger-spec =
     (tie.spec
     (λ c. search needs)
     (λ c. search needs)
+    (λ c. search needs)
     (λ c κs. search needs)
     (λ c. search needs)
     (λ c. search needs)
+    (λ c.
+    let start = c .before .before .before .before .before .before .before in
+    omega (arith, condition-within (start .args .s .now) (start .args .at) (start .pre .2) _ (dims (start .args .characters) (start .args .domains .now)) (c .before .before .before .check-condition .ensures ∙ ap shown (c .before .effects .given .1))))
     (λ c. search needs)
     (λ c. search needs)
     (λ c. simp length-set (omega (arith, c .before .before .before .before .before .before .before .pre)))

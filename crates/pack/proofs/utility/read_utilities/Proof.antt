@@ -7,7 +7,8 @@ use lib.ListN.{length, length-set}
 use Rattle.state.specs.Grammar.{rulesAt}
 use Rattle.reading.specs.Said.{shown}
 use Rattle.pack.specs.Answer.{dims}
-use Rattle.pack.proofs.Marks.{Marking, marking-start, marking-set, marking-refused, marking-whole, marking-all, set-below}
+use Rattle.pack.proofs.Marks.{Marking, marking-start, marking-set, marking-within, marking-refused, marking-whole, marking-all, set-below}
+use Rattle.pack.proofs.Bounded.{rules-bounded}
 use Rattle.pack.proofs.utility.read_utilities.Statement.{statement}
 use Rattle.pack.proofs.utility.read_utilities.Tie as tie
 
@@ -26,6 +27,7 @@ read-utilities-spec =
     μ-loop
     (λ c. search needs)
     (λ c. (marking-start _ _ _ _ _ _ _, refl))
+    (λ c. omega (arith, marking-within _ _ _ _ _ (rules-bounded _) _ _ _ _ _ _ (c .before .loop .inv .0) (c .before .before .before .before .before .pre .2)))
     (λ c. omega (arith, c .before .loop .inv .0 .counts, c .before .before .before .before .before .pre))
     (λ c. omega (arith, c .before .loop .inv .0 .counts, c .before .before .before .before .before .pre))
     (λ c.

@@ -20,6 +20,9 @@ add-t13 c = let (th, (T, y)) = c .before .before .before .before .before .before
 shared-slice-read-utility : tie.Need-shared-slice-read-utility
 shared-slice-read-utility c = let (th, (T, y)) = c .before .before .before .before .before .before .before .pre .0 in omega (arith, y .theorized .marked)
 
+cast-utility : tie.Need-cast-utility
+cast-utility c = omega (arith, c .shared-slice-known5 .given 320)
+
 utility-requires : tie.Need-utility-requires
 utility-requires c κs =
     let a = c .before .before .before .before .before .before .before .args in
@@ -42,4 +45,4 @@ returns-2 c =
     (λ l. absurd (omega (arith, is, l, c .if1 .left)), λ l. refl)
 
 pub ends-spec : {M : Type 1} → statement M
-ends-spec = tie.close (tie.spec add-utility shared-slice-read-wide (λ c κs. search needs) add-t13 shared-slice-read-utility utility-requires returns returns-2)
+ends-spec = tie.close (tie.spec add-utility shared-slice-read-wide (λ c κs. search needs) add-t13 shared-slice-read-utility cast-utility utility-requires returns returns-2)

@@ -18,6 +18,9 @@ add-t20 c = let (th, (T, x)) = c .before .before .before .before .before .before
 shared-slice-read-utility : tie.Need-shared-slice-read-utility
 shared-slice-read-utility c = let (th, (T, x)) = c .before .before .before .before .before .before .before .before .before .before .before .before .pre in omega (arith, x .theorized .marked)
 
+cast-utility : tie.Need-cast-utility
+cast-utility c = omega (arith, c .shared-slice-known3 .given 320)
+
 utility-requires : tie.Need-utility-requires
 utility-requires c κs =
     let (th, (T, x)) = c .before .before .before .before .before .before .before .before .before .before .before .before .before .pre in
@@ -61,4 +64,4 @@ returns-2 c =
 pub search-nodes-spec : {M : Type 1} → statement M
 search-nodes-spec =
     tie.close
-    (tie.spec lay-start-requires slice-read-wide (λ c κs. search needs) add-t20 shared-slice-read-utility utility-requires shortest-requires clear-requires (λ c. search needs) (λ c. search needs) returns (λ c. search needs) (λ c. search needs) returns-2)
+    (tie.spec lay-start-requires slice-read-wide (λ c κs. search needs) add-t20 shared-slice-read-utility cast-utility utility-requires shortest-requires clear-requires (λ c. search needs) (λ c. search needs) returns (λ c. search needs) (λ c. search needs) returns-2)

@@ -164,6 +164,9 @@ allowed-mul-at-2 t c = let (th, (T, (y, mem))) = c .before .before .before .pre 
 allowed-shared-slice-read-at : (t : ℕ) → allowed-lts.Need-shared-slice-read-at (allowed-calls t) (allowed-at t) allowed.Post allowed-Inv-loop allowed-μ-loop
 allowed-shared-slice-read-at t c = let (th, (T, (y, mem))) = c .before .before .before .before .pre .1 .0 in omega (arith, consent-place y _ (c .before .before .before .before .pre .1 .2))
 
+allowed-cast-at : (t : ℕ) → allowed-lts.Need-cast-at (allowed-calls t) (allowed-at t) allowed.Post allowed-Inv-loop allowed-μ-loop
+allowed-cast-at t c = omega (arith, c .shared-slice-known3 .given (9 * c .before .before .before .before .args .x + 2))
+
 allowed-consenters-requires : (t : ℕ) → allowed-lts.Need-consenters-requires (allowed-calls t) (allowed-at t) allowed.Post allowed-Inv-loop allowed-μ-loop
 allowed-consenters-requires t c κs = let (th, (T, (y, mem))) = c .before .before .before .before .pre .1 .0 in consent-readable y _ (c .before .before .before .before .pre .1 .2)
 
@@ -349,6 +352,9 @@ explains-mul-utility t c = let (th, (T, (y, mem))) = c .before .before .before .
 explains-shared-slice-read-utility : (t : ℕ) → explains-lts.Need-shared-slice-read-utility (explains-calls t) (explains-at t) explains.Post
 explains-shared-slice-read-utility t c = let (th, (T, (y, mem))) = c .before .before .before .before .before .before .before .before .before .before .before .before .before .before .pre .1 .0 in omega (arith, y .theorized .marked, small (y .tabled), c .before .before .before .before .before .before .before .before .before .before .before .before .before .before .pre .1 .2)
 
+explains-cast-utility : (t : ℕ) → explains-lts.Need-cast-utility (explains-calls t) (explains-at t) explains.Post
+explains-cast-utility t c = omega (arith, c .shared-slice-known3 .given (321 + c .before .before .before .before .before .before .before .before .before .before .before .before .before .before .args .c))
+
 explains-utility-requires : (t : ℕ) → explains-lts.Need-utility-requires (explains-calls t) (explains-at t) explains.Post
 explains-utility-requires t c κs = let P = c .before .before .before .before .before .before .before .before .before .before .before .before .before .before .before .pre .1 in
     let a = c .before .before .before .before .before .before .before .before .before .before .before .before .before .before .before .args in
@@ -420,6 +426,9 @@ extends-mul-utility t c = let (th, (T, (y, mem))) = c .before .before .before .b
 
 extends-shared-slice-read-utility : (t : ℕ) → extends-lts.Need-shared-slice-read-utility (extends-calls t) (extends-at t) extends.Post
 extends-shared-slice-read-utility t c = let (th, (T, (y, mem))) = c .before .before .before .before .before .before .before .pre .1 .0 in omega (arith, y .theorized .marked, small (y .tabled), c .before .before .before .before .before .before .before .pre .1 .1)
+
+extends-cast-utility : (t : ℕ) → extends-lts.Need-cast-utility (extends-calls t) (extends-at t) extends.Post
+extends-cast-utility t c = omega (arith, c .shared-slice-known3 .given (321 + c .before .before .before .before .before .before .before .args .c))
 
 extends-utility-requires : (t : ℕ) → extends-lts.Need-utility-requires (extends-calls t) (extends-at t) extends.Post
 extends-utility-requires t c κs = let P = c .before .before .before .before .before .before .before .before .pre .1 in
@@ -736,6 +745,7 @@ pub +allowed+explained+explains+extends+extends-by+fine+via-spec : {M : Type 1} 
     (allowed-add-at t)
     (allowed-mul-at-2 t)
     (allowed-shared-slice-read-at t)
+    (allowed-cast-at t)
     (allowed-consenters-requires t)
     (allowed-loop-holds t)
     (allowed-consenter-requires t)
@@ -777,6 +787,7 @@ pub +allowed+explained+explains+extends+extends-by+fine+via-spec : {M : Type 1} 
     (explains-add-utility t)
     (explains-mul-utility t)
     (explains-shared-slice-read-utility t)
+    (explains-cast-utility t)
     (explains-utility-requires t)
     (explains-sub-t18 t)
     (explains-sub-extends t)
@@ -793,6 +804,7 @@ pub +allowed+explained+explains+extends+extends-by+fine+via-spec : {M : Type 1} 
     (extends-add-utility-2 t)
     (extends-mul-utility t)
     (extends-shared-slice-read-utility t)
+    (extends-cast-utility t)
     (extends-utility-requires t)
     (extends-same-length t)
     (extends-returns t)

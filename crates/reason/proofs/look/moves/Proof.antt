@@ -1,5 +1,5 @@
 -- Neither the action nor a trigger below i writes the fluent. Assumes nothing.
-use Prim.Native.Nat.{_-_}
+use Prim.Native.Nat.{_+_, _*_, _-_}
 use native.Mathlib.Omega.{arith}
 use borrow.Author.Needs.{needs}
 use Rattle.reason.proofs.Looking.{Unmoved, acted-few, own-readable, own-moves, own-still, next-readable, next-moves, next-still, all-still}
@@ -22,6 +22,7 @@ moves-spec =
     (λ c. omega (arith, acted-few _ _ _ _ 0 (c .before .before .pre)))
     (λ c. omega (arith, acted-few _ _ _ _ 0 (c .before .before .pre)))
     (λ c. omega (arith, acted-few _ _ _ _ 0 (c .before .before .before .pre)))
+    (λ c. omega (arith, c .shared-slice-known3 .given (9 * c .before .before .before .args .x + 1)))
     (λ c κs. own-readable _ _ _ _ 0 (c .before .before .before .pre))
     (λ c. own-moves _ _ _ _ _ (c .before .writes .ensures) (c .if1 .taken))
     (λ c. own-still _ _ _ _ _ (c .before .writes .ensures) (c .if1 .left))
@@ -29,6 +30,7 @@ moves-spec =
     (λ c. omega (arith, acted-few _ _ _ _ 0 (c .before .before .before .before .before .before .before .pre), c .loop-test .taken))
     (λ c. omega (arith, acted-few _ _ _ _ 0 (c .before .before .before .before .before .before .before .pre), c .loop-test .taken))
     (λ c. omega (arith, acted-few _ _ _ _ 0 (c .before .before .before .before .before .before .before .before .pre), c .before .loop-test .taken))
+    (λ c. omega (arith, c .shared-slice-known4 .given (289 + 2 * c .before .before .loop .i)))
     (λ c κs. next-readable _ _ (c .before .before .before .before .before .before .before .before .args .triggers) _ 0 (c .before .before .loop .i) (omega (arith, c .before .loop-test .taken)) (c .before .before .before .before .before .before .before .before .pre))
     (λ c. next-moves _ _ (c .before .before .before .before .before .before .before .before .before .before .args .triggers) _ _ (c .before .before .before .before .loop .i) (omega (arith, c .before .before .before .loop-test .taken)) (c .before .writes2 .ensures) (c .if2 .taken) (c .before .before .before .before .loop .inv))
     (λ c. omega (arith, acted-few _ _ _ _ 0 (c .before .before .before .before .before .before .before .before .before .before .pre), c .before .before .before .loop-test .taken))

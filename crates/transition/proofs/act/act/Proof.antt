@@ -1,5 +1,6 @@
 -- The stage of the action's effects. Assumes nothing.
 use native.Mathlib.Omega.{arith}
+use Prim.Native.Nat.{_+_, _*_}
 use borrow.Author.Needs.{needs}
 use Rattle.transition.proofs.Acting.{act-places, act-telling, scene, act-stands, acted-in}
 use Rattle.transition.proofs.act.act.Statement.{statement}
@@ -13,6 +14,7 @@ act-spec =
     (λ c. let (p, (T, (n, (k, (x, l, i))))) = c .before .before .before .pre in omega (arith, act-places x l))
     (λ c. let (p, (T, (n, (k, (x, l, i))))) = c .before .before .before .pre in omega (arith, act-places x l))
     (λ c. let (p, (T, (n, (k, (x, l, i))))) = c .before .before .before .before .pre in omega (arith, act-places x l))
+    (λ c. omega (arith, c .shared-slice-known3 .given (9 * c .before .before .before .before .args .action + 1)))
     (λ c κs. let (p, (T, (n, (k, (x, l, i))))) = c .before .before .before .before .pre in (act-telling x l, omega (arith, act-places x l)))
     (λ c. let (p, (T, (n, (k, (x, l, i))))) = c .before .before .before .before .before .pre in omega (arith, act-places x l))
     (λ c. let (p, (T, (n, (k, (x, l, i))))) = c .before .before .before .before .before .pre in omega (arith, act-places x l))

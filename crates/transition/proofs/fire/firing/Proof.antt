@@ -1,6 +1,6 @@
 -- None of the triggers below i holds. Assumes nothing.
 use mathlib.Core.Path.{refl}
-use Prim.Native.Nat.{_-_, _<_, _≤_}
+use Prim.Native.Nat.{_+_, _*_, _-_, _<_, _≤_}
 use lib.ListN.{length}
 use native.Mathlib.Omega.{arith}
 use borrow.Author.Needs.{needs}
@@ -27,11 +27,13 @@ firing-spec =
     (λ c. omega (arith, few c))
     (λ c. omega (arith, few c))
     (λ c. omega (arith, few (c .before)))
+    (λ c. omega (arith, c .shared-slice-known4 .given (288 + 2 * c .before .before .loop .i)))
     (λ c κs. let a = c .before .before .before .before .before .before .args in fire-judged _ _ _ _ (a .m) _ (c .before .before .before .before .before .before .pre .0) (c .before .before .before .before .before .before .pre .1) _ (c .before .loop-test .taken))
     (λ c. omega (arith, few (c .before .before .before)))
     (λ c. omega (arith, few (c .before .before .before)))
     (λ c. omega (arith, few (c .before .before .before)))
     (λ c. omega (arith, few (c .before .before .before .before)))
+    (λ c. omega (arith, c .shared-slice-known5 .given (289 + 2 * c .before .before .before .before .before .loop .i)))
     (λ c. let a = c .before .before .before .before .before .before .before .before .before .args in fires-here (a .pack .now) (a .places .now) (a .work .now) (a .triggers) (a .m) (a .t) (c .before .before .before .before .before .loop .i) (c .before .before .before .before .loop-test .taken) (c .before .before .holds .ensures) (c .before .before .before .before .before .loop .inv) (c .before .if1 .taken) _ refl)
     (λ c. omega (arith, few (c .before .before .before)))
     (λ c. search needs)

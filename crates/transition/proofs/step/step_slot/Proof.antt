@@ -1,6 +1,7 @@
 -- The condition, part 1, the rounds. Assumes nothing.
 use mathlib.Core.Path.{_∙_}
 use native.Mathlib.Omega.{arith}
+use Prim.Native.Nat.{_*_}
 use borrow.Author.Needs.{needs}
 use borrow.Author.Tests.{not-true, not-false}
 use Rattle.transition.proofs.Acting.{act-places}
@@ -33,6 +34,7 @@ step-slot-spec =
     (λ c. let (p, (T, (n, (x, l, i)))) = c .before .before .before .pre in omega (arith, act-places x l))
     (λ c. let (p, (T, (n, (x, l, i)))) = c .before .before .before .pre in omega (arith, act-places x l))
     (λ c. let (p, (T, (n, (x, l, i)))) = c .before .before .before .before .pre in omega (arith, act-places x l))
+    (λ c. omega (arith, c .shared-slice-known3 .given (9 * c .before .before .before .before .args .action)))
     (λ c κs. let (p, (T, (n, (x, l, i)))) = c .before .before .before .before .before .pre in play-judged x l _ i)
     (λ c. search needs)
     (λ c. λ p T n x l i. play-forbidden x l _ i (c .before .holds .ensures) (not-true (c .before .holds .result) (c .if1 .taken)))
