@@ -22,7 +22,7 @@ use Rattle.partition.specs.Inner.Put.{PartCopied}
 use Rattle.change.specs.declared.change.Change.{Change}
 use Rattle.change.specs.Laws.Changed.{Member, acted, edge, old, There}
 use Rattle.change.specs.Inner.Cause.{told, EffectsAt, Telling, Tellable, ToldWritten, Tabled, Watched, Took}
-use Rattle.change.specs.Inner.Change.{Scene, Stands, at, tells, believed, took, next, valuesOf, memberOf, SlotIs, SlotsPut, RowRoom, Puts}
+use Rattle.change.specs.Inner.Change.{Scene, Stands, at, tells, believed, took, state, next, valuesOf, memberOf, SlotIs, SlotsPut, RowRoom, Puts}
 
 -- what a slot stands for
 module _ (h : Change) (n m : ℕ) (l : m < n) where
@@ -194,11 +194,9 @@ module _ {s : Scene} {pack places effects was : List ℕ} {h : Change} {t : Tabl
     is : (k : Member) → cond b (acted n) (old n) ≡ k → took s (t .characters) m c ≡ k
     is k g = ap (λ (b : Bool). cond b (acted n) (old n)) (took-is x m c f) ∙ g
 
-    pub believed-acted : {now : List ℕ} → b ≡ true → Puts s h t (acted q) was now to → Puts s h t (took s (t .characters) m c) was now to
-    believed-acted {now} g p = subst (λ (k : Member). Puts s h t k was now to) (ap acted e ∙ sym (is (acted n) (ap (λ (b : Bool). cond b (acted n) (old n)) g))) p
-
-    pub believed-old : {now : List ℕ} → b ≡ false → Puts s h t (old q) was now to → Puts s h t (took s (t .characters) m c) was now to
-    believed-old {now} g p = subst (λ (k : Member). Puts s h t k was now to) (ap old e ∙ sym (is (old n) (ap (λ (b : Bool). cond b (acted n) (old n)) g))) p
+    -- the row believed in, having taken part or as it was
+    pub believed-state : state q b ≡ took s (t .characters) m c
+    believed-state = ap (λ (q : ℕ). state q b) e ∙ sym (is (state n b) refl)
 
     -- a belief that does not take part leaves a slot for rows as they were
     pub believed-keeps : c < t .characters → b ≡ false → h .old < 7

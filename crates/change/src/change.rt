@@ -10,13 +10,16 @@ use partition::number::name_beliefs;
 use partition::number::number_of;
 use reading::number::wide;
 use state::table::Table;
+ghost use mathlib.Core.Path.{_≡_};
+ghost use mathlib.Core.Bool.{false};
+ghost use mathlib.Core.List.{List};
 ghost use mathlib.Core.Logic.{_≢_};
-ghost use Prim.Native.Nat.{_+_, _*_, _<_, _≤_};
+ghost use Prim.Native.Nat.{ℕ, _+_, _*_, _<_, _≤_};
 ghost use lib.ListN.{length};
 ghost use Rattle.partition.specs.Inner.Numbers.{Numbering, keyAt};
-ghost use Rattle.change.specs.Laws.Changed.{acted, edge, old, There};
+ghost use Rattle.change.specs.Laws.Changed.{acted, old, There};
 ghost use Rattle.change.specs.Inner.Cause.{Tabled};
-ghost use Rattle.change.specs.Inner.Change.{Scene, Stands, Scened, Seen, believed, took, memberOf, SlotIs, SlotsPut, RowRoom, Puts, Laid, RowMade, ChangeMade};
+ghost use Rattle.change.specs.Inner.Change.{Scene, Stands, Scened, Seen, believed, state, memberOf, Sourced, SlotIs, SlotsPut, RowRoom, Puts, Laid, RowMade, ChangeMade};
 
 // Which of a row's seven slots stand for the row having taken part and for the row as it was, the others being its characters'; where the observation conditions are; and the
 // row in which it happens.
@@ -31,7 +34,7 @@ pub struct Change {
 pub fn slot_of(
     pack: &[u8],
     places: &[u16],
-    effects: &[usize],
+    effects: &[u16],
     h: Change,
     work: &[u8],
     t: Table,
@@ -41,7 +44,7 @@ pub fn slot_of(
     requires { ⌜ Scened (now pack) (now places) (now effects) h (now work) t × (m < t .nodes) × (d < t .characters) ⌝ }
     ensures { λ r. ⌜ ((s : Scene) → Stands s (now (pack .entry)) (now (places .entry)) (now (effects .entry)) h (now (work .entry)) t → SlotIs h (t .nodes) (believed s (t .characters) m d) r) ⌝ }
 {
-    if tells(pack, effects[m], d + 1) {
+    if tells(pack, effects[m] as usize, d + 1) {
         return m * 7 + d;
     }
     let q = wide(work[t.rows + m * t.width + t.fluents + d]);
@@ -56,7 +59,7 @@ pub fn slot_of(
 pub fn put_slots(
     pack: &[u8],
     places: &[u16],
-    effects: &[usize],
+    effects: &[u16],
     h: Change,
     work: &mut [u8],
     t: Table,
@@ -78,7 +81,7 @@ pub fn put_slots(
 pub fn put_acted(
     pack: &[u8],
     places: &[u16],
-    effects: &[usize],
+    effects: &[u16],
     h: Change,
     work: &mut [u8],
     t: Table,
@@ -90,7 +93,7 @@ pub fn put_acted(
 {
     let from = t.rows + m * t.width;
     copy_part(work, from, to, t.fluents);
-    write_told(pack, effects[m], 0, work, to, t.fluents);
+    write_told(pack, effects[m] as usize, 0, work, to, t.fluents);
     put_slots(pack, places, effects, h, work, t, m, to + t.fluents)
 }
 
@@ -109,53 +112,76 @@ pub fn put_old(h: Change, work: &mut [u8], t: Table, m: usize, to: usize)
     }
 }
 
-// Writes what character c believes in row m, having taken part or as it was.
-pub fn put_believed(
-    pack: &[u8],
-    places: &[u16],
-    effects: &[usize],
-    h: Change,
-    work: &mut [u8],
-    t: Table,
-    m: usize,
-    c: usize,
-    to: usize,
-)
-    requires { ⌜ Scened (now pack) (now places) (now effects) h (now work) t × (m < t .nodes) × (c < t .characters) × RowRoom (now work) t to ⌝ }
-    ensures { λ _. ⌜ ((s : Scene) → Stands s (now (pack .entry)) (now (places .entry)) (now (effects .entry)) h (now (work .entry)) t → Puts s h t (took s (t .characters) m c) (now (work .entry)) (now (work .exit)) to) ⌝ }
+// Of which row a slot's row is made, and whether that one took part; and whether it is told something besides.
+pub struct Source {
+    pub row: usize,
+    pub took: bool,
+    pub told: bool,
+}
+
+// What a slot's row is made of. The last slot is that of the root having taken part, where no other is.
+pub fn made_of(pack: &[u8], places: &[u16], h: Change, work: &[u8], t: Table, slot: usize) -> Source
+    requires { ⌜ ((effects : List ℕ) × Scened (now pack) (now places) effects h (now work) t) × (slot < t .nodes * 7 + 1) × There (t .characters) (memberOf h (t .nodes) slot) ⌝ }
+    ensures { λ r. ⌜ ((s : Scene) (effects : List ℕ) → Stands s (now (pack .entry)) (now (places .entry)) effects h (now (work .entry)) t → Sourced s h t slot r) ⌝ }
 {
-    let q = wide(work[t.rows + m * t.width + t.fluents + c]);
-    if takes(pack, places, h.observed, work, t, m, c) {
-        put_acted(pack, places, effects, h, work, t, q, to)
+    let m = slot / 7;
+    let kind = slot % 7;
+    if m == t.nodes {
+        Source {
+            row: h.root,
+            took: true,
+            told: false,
+        }
+    } else if kind == h.old {
+        Source {
+            row: m,
+            took: false,
+            told: false,
+        }
+    } else if kind == h.acted {
+        Source {
+            row: m,
+            took: true,
+            told: false,
+        }
     } else {
-        put_old(h, work, t, q, to)
+        let row = wide(work[t.rows + m * t.width + t.fluents + kind]);
+        let took = takes(pack, places, h.observed, work, t, m, kind);
+        Source {
+            row,
+            took,
+            told: true,
+        }
     }
 }
 
-// Writes what character c believes in row m, which took part and told it something.
-pub fn put_edge(
+// Writes row m, having taken part or as it was.
+pub fn put_state(
     pack: &[u8],
     places: &[u16],
-    effects: &[usize],
+    effects: &[u16],
     h: Change,
     work: &mut [u8],
     t: Table,
     m: usize,
-    c: usize,
+    took: bool,
     to: usize,
 )
-    requires { ⌜ Scened (now pack) (now places) (now effects) h (now work) t × (m < t .nodes) × (c < t .characters) × RowRoom (now work) t to ⌝ }
-    ensures { λ _. ⌜ ((s : Scene) → Stands s (now (pack .entry)) (now (places .entry)) (now (effects .entry)) h (now (work .entry)) t → Puts s h t (edge m c) (now (work .entry)) (now (work .exit)) to) ⌝ }
+    requires { ⌜ Scened (now pack) (now places) (now effects) h (now work) t × (m < t .nodes) × (took ≡ false → h .old < 7) × RowRoom (now work) t to ⌝ }
+    ensures { λ _. ⌜ ((s : Scene) → Stands s (now (pack .entry)) (now (places .entry)) (now (effects .entry)) h (now (work .entry)) t → Puts s h t (state m took) (now (work .entry)) (now (work .exit)) to) ⌝ }
 {
-    put_believed(pack, places, effects, h, work, t, m, c, to);
-    write_told(pack, effects[m], c + 1, work, to, t.fluents)
+    if took {
+        put_acted(pack, places, effects, h, work, t, m, to)
+    } else {
+        put_old(h, work, t, m, to)
+    }
 }
 
-// Writes the row of a slot. The last slot is that of the root having taken part, where no other is.
+// Writes the row of a slot.
 pub fn put_member(
     pack: &[u8],
     places: &[u16],
-    effects: &[usize],
+    effects: &[u16],
     h: Change,
     work: &mut [u8],
     t: Table,
@@ -165,16 +191,11 @@ pub fn put_member(
     requires { ⌜ Scened (now pack) (now places) (now effects) h (now work) t × (slot < t .nodes * 7 + 1) × There (t .characters) (memberOf h (t .nodes) slot) × RowRoom (now work) t to ⌝ }
     ensures { λ _. ⌜ ((s : Scene) → Stands s (now (pack .entry)) (now (places .entry)) (now (effects .entry)) h (now (work .entry)) t → Puts s h t (memberOf h (t .nodes) slot) (now (work .entry)) (now (work .exit)) to) ⌝ }
 {
-    let m = slot / 7;
-    let kind = slot % 7;
-    if m == t.nodes {
-        put_acted(pack, places, effects, h, work, t, h.root, to)
-    } else if kind == h.old {
-        put_old(h, work, t, m, to)
-    } else if kind == h.acted {
-        put_acted(pack, places, effects, h, work, t, m, to)
-    } else {
-        put_edge(pack, places, effects, h, work, t, m, kind, to)
+    let from = made_of(pack, places, h, work, t, slot);
+    put_state(pack, places, effects, h, work, t, from.row, from.took, to);
+    if from.told {
+        let at = effects[slot / 7] as usize;
+        write_told(pack, at, slot % 7 + 1, work, to, t.fluents)
     }
 }
 
@@ -182,7 +203,7 @@ pub fn put_member(
 pub fn change_row(
     pack: &[u8],
     places: &[u16],
-    effects: &[usize],
+    effects: &[u16],
     h: Change,
     work: &mut [u8],
     t: Table,
@@ -218,7 +239,7 @@ pub fn first_slot(h: Change, nodes: usize) -> usize
 pub fn change_table(
     pack: &[u8],
     places: &[u16],
-    effects: &[usize],
+    effects: &[u16],
     h: Change,
     work: &mut [u8],
     t: Table,

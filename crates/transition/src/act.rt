@@ -41,8 +41,9 @@ pub fn act(
     requires { ⌜ Actable (now pack) (now places) action (now work) t root slot ⌝ }
     ensures { λ r. ⌜ ((p : Theory) (T : List Node) (actions triggers : ℕ) → Setting p T (now (pack .entry)) (now (places .entry)) actions triggers (now (work .entry)) t slot → action < actions → root < t .nodes → Acted (Rattle.change.specs.Happening.act (actionOf p action) (meaning (t .characters) T root)) t (now (work .entry)) (now (work .exit)) slot r) ⌝ }
 {
-    let at = places[9 * action + 1] as usize;
-    let effects = [at; 32];
+    let place = places[9 * action + 1];
+    let effects = [place; 32];
+    let at = place as usize;
     let observers = Change {
         acted: lowest_untold(pack, at, t.characters),
         old: 6,

@@ -12,21 +12,14 @@ ghost use Rattle.change.specs.Inner.Cause.{Tabled};
 ghost use Rattle.transition.specs.Inner.Fire.{Triggered, Firable, Fires, FiredBelow};
 
 // The place of the effects of the lowest trigger that holds in row m, or 8192, which is behind every pack.
-pub fn firing(
-    pack: &[u8],
-    places: &[u16],
-    triggers: usize,
-    work: &[u8],
-    t: Table,
-    m: usize,
-) -> usize
+pub fn firing(pack: &[u8], places: &[u16], triggers: usize, work: &[u8], t: Table, m: usize) -> u16
     requires { ⌜ Firable (now pack) (now places) triggers (now work) t × (m < t .nodes) ⌝ }
     ensures { λ r. ⌜ Fires (now (pack .entry)) (now (places .entry)) triggers (now (work .entry)) t m r ⌝ }
 {
     let mut i = 0;
     while i < triggers {
         if holds(pack, places[288 + 2 * i] as usize, work, t, m) {
-            return places[289 + 2 * i] as usize;
+            return places[289 + 2 * i];
         }
         i += 1;
     }
@@ -46,7 +39,7 @@ pub fn fire_all(
     triggers: usize,
     work: &[u8],
     t: Table,
-    effects: &mut [usize],
+    effects: &mut [u16],
 ) -> bool
     requires { ⌜ Firable (now pack) (now places) triggers (now work) t × (t .nodes ≤ length (now effects)) ⌝ }
     ensures { λ r. ⌜ ((d : Dimensions) (table : List Node) (ts : List Trigger) → Tabled d table (now (work .entry)) t → Triggered d (now (pack .entry)) (now (places .entry)) ts triggers → FiredBelow d (now (pack .entry)) ts (t .characters) table (t .nodes) (now (effects .exit)) r) ⌝ }
@@ -56,7 +49,7 @@ pub fn fire_all(
     while m < t.nodes {
         let at = firing(pack, places, triggers, work, t, m);
         effects[m] = at;
-        any = either(any, at < pack.len());
+        any = either(any, (at as usize) < pack.len());
         m += 1;
     }
     any

@@ -43,13 +43,13 @@ pub fn silent(pack: &[u8], at: usize) -> bool
 }
 
 // Whether the effects in the first n rows are.
-pub fn all_silent(pack: &[u8], effects: &[usize], n: usize) -> bool
+pub fn all_silent(pack: &[u8], effects: &[u16], n: usize) -> bool
     requires { ⌜ (n ≤ 32) × (n ≤ length (now effects)) × ((m : ℕ) → m < n → Telling (now pack) (getD (now effects) m 0)) ⌝ }
     ensures { λ r. ⌜ (r ≡ true → (m : ℕ) → m < n → (d : Dimensions) → Small d → (es : List Effect) → EffectsAt d (now (pack .entry)) (getD (now (effects .entry)) m 0) es → Silent es) ⌝ }
 {
     let mut m = 0;
     while m < n {
-        if !silent(pack, effects[m]) {
+        if !silent(pack, effects[m] as usize) {
             return false;
         }
         m += 1;
@@ -58,13 +58,20 @@ pub fn all_silent(pack: &[u8], effects: &[usize], n: usize) -> bool
 }
 
 // Writes the effects in each row of a table into its values.
-pub fn rewrite(pack: &[u8], effects: &[usize], work: &mut [u8], t: Table)
+pub fn rewrite(pack: &[u8], effects: &[u16], work: &mut [u8], t: Table)
     requires { ⌜ CausedSome (now pack) (now effects) (now work) t ⌝ }
     ensures { λ _. ⌜ ((s : Scene) → Caused s (now (pack .entry)) (now (effects .entry)) (now (work .entry)) t → Rewritten s t (now (work .entry)) (now (work .exit)) (t .nodes)) ⌝ }
 {
     let mut m = 0;
     while m < t.nodes {
-        write_told(pack, effects[m], 0, work, t.rows + m * t.width, t.fluents);
+        write_told(
+            pack,
+            effects[m] as usize,
+            0,
+            work,
+            t.rows + m * t.width,
+            t.fluents,
+        );
         m += 1;
     }
 }
@@ -107,7 +114,7 @@ pub fn merge_slot(work: &mut [u8], t: Table, slot: usize) -> usize
 pub fn round(
     pack: &[u8],
     places: &[u16],
-    effects: &[usize],
+    effects: &[u16],
     h: Change,
     work: &mut [u8],
     t: Table,

@@ -24,7 +24,7 @@ pub fn settle(
     if triggers == 0 {
         return 0;
     }
-    let mut effects = [8192usize; 32];
+    let mut effects = [8192u16; 32];
     let mut nodes = t.nodes;
     let mut rounds: usize = 0;
     loop {

@@ -15,6 +15,7 @@ use Rattle.state.specs.declared.table.Table.{Table}
 use Rattle.partition.specs.Chart.{Ordered}
 use Rattle.partition.specs.Inner.Numbers.{keyAt, RowFilled}
 use Rattle.change.specs.declared.change.Change.{Change}
+use Rattle.change.specs.declared.change.Source.{Source}
 use Rattle.change.specs.Happening.{change}
 use Rattle.change.specs.Laws.Changed as changed
 use Rattle.change.specs.Laws.Changed.{Member, acted, edge, old}
@@ -49,6 +50,10 @@ module _ (s : Scene) (C : ℕ) where
   abbrev pub valuesOf : Member → List ℕ
   valuesOf = changed.valuesOf (s .causes) (s .takes) C (s .table) tells
 
+-- row m, having taken part or as it was
+abbrev pub state : ℕ → Bool → Member
+state m b = cond b (acted m) (old m)
+
 -- which of a row's seven slots stand for what: one that a character is told something by is that character's
 pub record Kinds (s : Scene) (n C : ℕ) (h : Change) : Type 0 where
   pub edges : (m d : ℕ) → m < n → d < C → tells s C m d ≡ true → (d ≢ h .old) × (d ≢ h .acted)
@@ -76,6 +81,13 @@ Scened pack places effects h work t = (s : Scene) × Stands s pack places effect
 -- its table alone
 abbrev pub Seen : (work : List ℕ) (t : Table) → Type 0
 Seen work t = (s : Scene) × Tabled (s .dimensions) (s .table) work t
+
+-- what a slot's row is made of: a row, having taken part or as it was, which is what it stands for, or what the character believes that is told something besides
+pub record Sourced (s : Scene) (h : Change) (t : Table) (slot : ℕ) (r : Source) : Type 0 where
+  pub inside : r .row < t .nodes
+  pub keeps : r .took ≡ false → h .old < 7
+  pub plain : r .told ≡ false → state (r .row) (r .took) ≡ memberOf h (t .nodes) slot
+  pub told : r .told ≡ true → (slot / 7 < t .nodes) × (slot % 7 < t .characters) × (edge (slot / 7) (slot % 7) ≡ memberOf h (t .nodes) slot) × (state (r .row) (r .took) ≡ took s (t .characters) (slot / 7) (slot % 7))
 
 -- a slot stands for a member
 pub record SlotIs (h : Change) (n : ℕ) (k : Member) (slot : ℕ) : Type 0 where

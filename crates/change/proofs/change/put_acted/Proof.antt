@@ -33,5 +33,5 @@ returns c =
 pub put-acted-spec : {M : Type 1} → statement M
 put-acted-spec =
     tie.close
-    (tie.spec (λ c. omega (arith, place (c .before .before .before .before .before))) (λ c. omega (arith, place (c .before .before .before .before .before .before))) (λ c κs. (omega (arith, place (c .before .before .before .before .before .before .before)), omega (arith, place (c .before .before .before .before .before .before .before)), omega (arith, place (c .before .before .before .before .before .before .before)))) (λ c. omega (arith, c .before .before .before .before .before .before .before .before .before .before .pre .1, c .before .before .before .before .before .before .before .before .before .before .pre .0 .1 .tabled .few)) (λ c. omega (arith, c .before .before .before .before .before .before .before .before .before .before .before .pre .1, c .before .before .before .before .before .before .before .before .before .before .before .pre .0 .1 .long)) write-told-requires
+    (tie.spec (λ c. omega (arith, place (c .before .before .before .before .before))) (λ c. omega (arith, place (c .before .before .before .before .before .before))) (λ c κs. (omega (arith, place (c .before .before .before .before .before .before .before)), omega (arith, place (c .before .before .before .before .before .before .before)), omega (arith, place (c .before .before .before .before .before .before .before)))) (λ c. omega (arith, c .before .before .before .before .before .before .before .before .before .before .pre .1, c .before .before .before .before .before .before .before .before .before .before .pre .0 .1 .tabled .few)) (λ c. omega (arith, c .before .before .before .before .before .before .before .before .before .before .before .pre .1, c .before .before .before .before .before .before .before .before .before .before .before .pre .0 .1 .long)) (λ c. omega (arith, c .shared-slice-known4 .given (c .before .before .before .before .before .before .before .before .before .before .before .args .m))) write-told-requires
     (λ c. omega (arith, place (c .before .before .before .before .before .before .before .before .before .before .before .before .before .before .before .before .before), c .before .before .before .before .before .before .before .before .before .before .before .before .before .before .before .before .before .good .1 .1 .1 .1 .0 .0)) put-slots-requires (λ c. search needs) returns)

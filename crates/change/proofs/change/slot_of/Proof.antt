@@ -28,6 +28,7 @@ slot-of-spec =
     (tie.spec
     (λ c. omega (arith, c .before .before .before .before .pre .1, c .before .before .before .before .pre .0 .1 .tabled .few))
     (λ c. omega (arith, c .before .before .before .before .before .pre .1, c .before .before .before .before .before .pre .0 .1 .long))
+    (λ c. omega (arith, c .shared-slice-known5 .given (c .before .before .before .before .before .args .m)))
     (λ c. omega (arith, c .before .before .before .before .before .pre .2, small (c .before .before .before .before .before .pre .0 .1 .tabled)))
     (λ c κs. telling (c .before .before .before .before .before .pre .0 .1) _ (c .before .before .before .before .before .pre .1))
     (λ c. omega (arith, c .before .before .before .before .before .before .before .pre .1, c .before .before .before .before .before .before .before .pre .0 .1 .tabled .few))

@@ -41,6 +41,7 @@ fire-all-spec =
     (λ c κs. (c .before .before .before .before .before .before .before .pre .0, c .if1 .taken))
     (λ c. omega (arith, c .before .before .before .before .before .before .before .before .pre .0 .tabled .few, c .before .if1 .taken))
     (λ c. omega (arith, c .before .before .before .before .before .before .before .before .pre .1, c .before .if1 .taken, c .before .before .before .loop .inv .1))
+    (λ c. search needs)
     (λ c κs. search needs)
     (λ c. omega (arith, c .before .before .before .before .before .before .before .before .before .pre .0 .tabled .few, c .before .before .if1 .taken))
     (λ c. search needs)

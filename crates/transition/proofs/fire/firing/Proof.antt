@@ -33,7 +33,6 @@ firing-spec =
     (λ c. omega (arith, few (c .before .before .before)))
     (λ c. omega (arith, few (c .before .before .before)))
     (λ c. omega (arith, few (c .before .before .before .before)))
-    (λ c. omega (arith, c .shared-slice-known5 .given (289 + 2 * c .before .before .before .before .before .loop .i)))
     (λ c. let a = c .before .before .before .before .before .before .before .before .before .args in fires-here (a .pack .now) (a .places .now) (a .work .now) (a .triggers) (a .m) (a .t) (c .before .before .before .before .before .loop .i) (c .before .before .before .before .loop-test .taken) (c .before .before .holds .ensures) (c .before .before .before .before .before .loop .inv) (c .before .if1 .taken) _ refl)
     (λ c. omega (arith, few (c .before .before .before)))
     (λ c. search needs)

@@ -36,5 +36,5 @@ returns-2 c = λ e m h. c .before .loop .inv .1 m (omega (arith, c .loop-test .l
 pub all-silent-spec : {M : Type 1} → statement M
 all-silent-spec =
     tie.close
-    (tie.spec Inv-loop μ-loop (λ c. (omega arith, λ i h. absurd (omega arith))) (λ c. omega (arith, c .before .before .before .before .pre .0)) (λ c. omega (arith, c .before .before .before .before .before .pre .1, c .before .loop-test .taken)) silent-requires
+    (tie.spec Inv-loop μ-loop (λ c. (omega arith, λ i h. absurd (omega arith))) (λ c. omega (arith, c .before .before .before .before .pre .0)) (λ c. omega (arith, c .before .before .before .before .before .pre .1, c .before .loop-test .taken)) (λ c. omega (arith, c .shared-slice-known3 .given (c .before .before .loop .m))) silent-requires
     (λ c e. clash e refl) (λ c. omega (arith, c .before .before .before .before .before .before .before .pre .0, c .before .before .before .loop-test .taken)) (λ c. search needs) loop-again returns-2)

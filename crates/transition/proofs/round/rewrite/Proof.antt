@@ -44,6 +44,7 @@ rewrite-spec =
     (λ c. (omega arith, refl, λ s x. rewritten-none s _ _))
     (λ c. let (s, x) = c .before .before .before .before .before .before .pre in omega (arith, x .tabled .few, c .if1 .taken))
     (λ c. let (s, x) = c .before .before .before .before .before .before .before .pre in omega (arith, x .long, c .before .if1 .taken))
+    (λ c. omega (arith, c .shared-slice-known3 .given (c .before .before .before .loop .m)))
     mul-write-told-2 add-write-told write-told-requires
     (λ c. let (s, x) = c .before .before .before .before .before .before .before .before .before .before .before .before .before .pre in omega (arith, x .tabled .few, c .before .before .before .before .before .before .before .if1 .taken))
     (λ c. omega (arith, c .before .before .before .before .before .before .before .if1 .taken))
