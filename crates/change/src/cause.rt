@@ -1,4 +1,5 @@
 // What takes effect where: effects at a place of the pack, none at a place behind its end, and who takes part.
+use pack::places::PLACES;
 use reading::number::wide;
 use state::judge::holds;
 use state::table::Table;
@@ -53,7 +54,7 @@ pub fn takes(
     requires { ⌜ Watched (now pack) (now places) observed (now work) t m c ⌝ }
     ensures { λ r. ⌜ Took (now (pack .entry)) (now (places .entry)) observed (now (work .entry)) t m c r ⌝ }
 {
-    if observed == 327 {
+    if observed == PLACES {
         return true;
     }
     holds(pack, places[observed + c] as usize, work, t, m)

@@ -13,6 +13,12 @@ ghost use Rattle.pack.specs.Answer.{dims};
 ghost use Rattle.pack.specs.Contents.{replied, repliedCount};
 ghost use Rattle.chart.specs.Replies.{allBelow};
 
+// How long a work buffer must be, of which so many bytes are set to 0 in the end.
+pub const WORK_ROOM: usize = 49152;
+
+// How long a buffer for a chart must be.
+pub const CHART_ROOM: usize = 961;
+
 // How many nodes a chart has, where nothing was refused before it.
 pub fn check_under(said: Checked, characters: usize, domains: &[u8], chart: &[u8]) -> Number
     ensures { λ r. ⌜ repliedCount r ≡ with (replied said) (λ u. told length (inChart (whole (nodesAt (dims characters (now (domains .entry)))) (now (chart .entry))))) ⌝ }

@@ -1,5 +1,6 @@
 // Query: a fluent's value where a chain of beliefs leads.
 use crate::Queried;
+use crate::call::WORK_ROOM;
 use crate::call::chain_there;
 use crate::call::check_lent;
 use crate::call::check_under;
@@ -36,7 +37,7 @@ pub fn look(
     };
     let there = follow(chain, 0, chain.len(), work, t, 0);
     let value = work[1 + there * (fluents + characters) + fluent];
-    clear(work, 0, 49152);
+    clear(work, 0, WORK_ROOM);
     value
 }
 
@@ -49,7 +50,7 @@ pub fn query(pack: &[u8], chart: &[u8], chain: &[u8], fluent: usize, work: &mut 
     let answer = p.answer;
     let nodes = check_under(answer, p.characters, &sizes[..p.fluents], chart);
     let there = chain_there(chain, p.characters, fluent, p.fluents);
-    match check_lent(nodes, 49152 <= work.len(), there) {
+    match check_lent(nodes, WORK_ROOM <= work.len(), there) {
         Number::Refused(k, at) => Queried::Refused(k, at),
         Number::Is(n, _) => {
             let value = look(chart, n, p.fluents, p.characters, chain, fluent, work);

@@ -1,6 +1,7 @@
-// Start: the chart of node 0. In the work buffer stand, from place 0 on: a table's count and its rows, the scratch of the pass, the rows it reaches, the scratch of the
-// partition, and the merged rows.
+// Start: the chart of node 0. The nodes stand from the start of the work buffer on, count first.
 use crate::Charted;
+use crate::call::CHART_ROOM;
+use crate::call::WORK_ROOM;
 use crate::call::both_at_most;
 use crate::call::check_lent;
 use crate::call::unless_refused;
@@ -15,18 +16,33 @@ use state::copy::copy_table;
 ghost use Rattle.chart.specs.Promises.{Started};
 ghost use Rattle.chart.specs.Inner.Start.{Mergeable, Merged, Startable, StartPut};
 
-// Writes the written chart of what row 0 means of the n rows from 1 on, as a table from 2400 on; how many rows that is.
+// The numbers and keys of the pass, and the rows that it reaches.
+const NUMBERS: usize = 1024;
+
+const REACHED: usize = 1100;
+
+// The classes of a level of them, the classes so far, and the first row of each.
+const LEVEL: usize = 2100;
+
+const CLASSES: usize = 2200;
+
+const FIRSTS: usize = 2300;
+
+// The rows, one of each class.
+pub const MERGED: usize = 2400;
+
+// Writes the written chart of what row 0 means of the n rows from 1 on, as a table from `MERGED` on; how many rows that is.
 pub fn merge_table(work: &mut [u8], n: usize, w: usize, f: usize, c: usize) -> usize
     requires { ⌜ Mergeable (now work) n w f c ⌝ }
     ensures { λ r. ⌜ Merged (now (work .entry)) (now (work .exit)) n w f c r ⌝ }
 {
-    let reached = partition::copy::copy_table(work, n, w, f, c, 1, 1024, 1100);
-    let classes = partition(work, reached, w, f, c, 1100, 2100, 2200, 2300, 32);
+    let reached = partition::copy::copy_table(work, n, w, f, c, 1, NUMBERS, REACHED);
+    let classes = partition(work, reached, w, f, c, REACHED, LEVEL, CLASSES, FIRSTS, 32);
     if reached <= classes {
-        copy_part(work, 1100, 2400, reached * w);
+        copy_part(work, REACHED, MERGED, reached * w);
         return reached;
     }
-    write_merged(work, reached, w, f, c, 1100, 2200, 2400)
+    write_merged(work, reached, w, f, c, REACHED, CLASSES, MERGED)
 }
 
 // Writes the chart of what node 0 means of the nodes that are read from `first` on; its length. The work buffer is cleared.
@@ -50,10 +66,10 @@ pub fn put_start(
         fluents + characters,
         fluents,
         characters,
-        2400,
+        MERGED,
         chart,
     );
-    clear(work, 0, 49152);
+    clear(work, 0, WORK_ROOM);
     length
 }
 
@@ -64,7 +80,7 @@ pub fn start(pack: &[u8], chart: &mut [u8], work: &mut [u8]) -> Charted
     let p = read_contents(pack);
     let answer = p.answer;
     let nodes = unless_refused(answer, p.nodes, 0);
-    let enough = both_at_most(961, chart.len(), 49152, work.len());
+    let enough = both_at_most(CHART_ROOM, chart.len(), WORK_ROOM, work.len());
     match check_lent(nodes, enough, true) {
         Number::Refused(k, at) => Charted::Refused(k, at),
         Number::Is(_, _) => {

@@ -5,6 +5,7 @@ use crate::pairs::other_value;
 use crate::pairs::seek;
 use crate::pairs::write_chain;
 use chart::Matched;
+use chart::call::WORK_ROOM;
 use chart::call::both_at_most;
 use chart::call::check_lent;
 use chart::call::check_under;
@@ -29,6 +30,11 @@ pub fn join(first: &[u8], n: usize, second: &[u8], m: usize, f: usize, c: usize,
     put_rows(second, 1, m, w, f, c, work, 1 + n * w, n as u8, 1)
 }
 
+// The marks of the pairs of rows that were met, and the pairs in the order in which they were.
+const MARKS: usize = 2048;
+
+const MET: usize = 6144;
+
 // Compares rows 0 and n of the n + m rows from 1 on; the chain to where they differ is written.
 pub fn match_rows(
     work: &mut [u8],
@@ -42,13 +48,13 @@ pub fn match_rows(
     ensures { λ r. ⌜ RowsMatched (now (work .entry)) (now (work .exit)) n m f c (now (chain .entry)) (now (chain .exit)) r ⌝ }
 {
     let w = f + c;
-    meet_first(work, 2048, 6144, 0, n);
-    let k = seek(work, n + m, w, f, c, 1, 2048, 6144);
+    meet_first(work, MARKS, MET, 0, n);
+    let k = seek(work, n + m, w, f, c, 1, MARKS, MET);
     if 4096 <= k {
         return Matched::Same;
     }
-    let length = write_chain(work, 6144, k, chain);
-    let fluent = other_value(work, w, f, 1, 6144 + k * 5);
+    let length = write_chain(work, MET, k, chain);
+    let fluent = other_value(work, w, f, 1, MET + k * 5);
     Matched::Differ(length, fluent)
 }
 
@@ -68,7 +74,7 @@ pub fn match_charts(
 {
     join(first, n, second, m, f, c, work);
     let found = match_rows(work, n, m, f, c, chain);
-    clear(work, 0, 49152);
+    clear(work, 0, WORK_ROOM);
     found
 }
 
@@ -89,7 +95,7 @@ pub fn compare(
         Number::Refused(k, at) => Matched::Refused(k, at),
         Number::Is(n, _) => {
             let nodes = check_chart(second, p.characters, &sizes[..p.fluents]);
-            let enough = both_at_most(62, chain.len(), 49152, work.len());
+            let enough = both_at_most(62, chain.len(), WORK_ROOM, work.len());
             match check_lent(nodes, enough, true) {
                 Number::Refused(k, at) => Matched::Refused(k, at),
                 Number::Is(m, _) => {

@@ -256,9 +256,9 @@ module _ (h : Shape) where
     stored-none = record { small = omega arith; named = λ z. absurd (omega (arith, z)); only = record { low = λ q l. refl; high = λ q l. refl }; memory = λ p K limit few m. m }
 
     -- a table that is put behind those that are kept
-    module _ {was mid : List ℕ} {taken v : ℕ} (b : Before h was t) (e : getD was takenAt 0 ≡ taken) (fits : 12 * taken + t .nodes * t .width ≤ 3059) (copied : PartCopied (set was (45952 + 12 * taken) (t .nodes)) mid (t .rows) (45953 + 12 * taken) (t .nodes * t .width)) (is : v ≡ taken + t .nodes * t .width / 12 + 1) where
+    module _ {was mid : List ℕ} {taken v : ℕ} (b : Before h was t) (e : getD was takenAt 0 ≡ taken) (fits : 12 * taken + t .nodes * t .width ≤ 3059) (copied : PartCopied (set was (tablesAt + 12 * taken) (t .nodes)) mid (t .rows) (tablesAt + 12 * taken + 1) (t .nodes * t .width)) (is : v ≡ taken + t .nodes * t .width / 12 + 1) where
       abbrev first : List ℕ
-      first = set was (45952 + 12 * taken) (t .nodes)
+      first = set was (tablesAt + 12 * taken) (t .nodes)
 
       abbrev last : List ℕ
       last = set mid takenAt v
@@ -267,11 +267,11 @@ module _ (h : Shape) where
       blocks : (t .nodes * t .width / 12 * 12 ≤ t .nodes * t .width) × (t .nodes * t .width < t .nodes * t .width / 12 * 12 + 12)
       blocks = let all = div-add-mod (t .nodes * t .width) 12 in let rest : t .nodes * t .width % 12 < 12 = mod-lt (t .nodes * t .width) (omega arith) in (omega (arith, all), omega (arith, all, rest))
 
-      below : (q : ℕ) → q ≢ takenAt → q < 45952 + 12 * taken → getD last q 0 ≡ getD was q 0
-      below q n l = getD-set-other mid takenAt q v 0 n ∙ copied .low q (omega (arith, l)) ∙ getD-set-other was (45952 + 12 * taken) q (t .nodes) 0 (λ z. omega (arith, z, l))
+      below : (q : ℕ) → q ≢ takenAt → q < tablesAt + 12 * taken → getD last q 0 ≡ getD was q 0
+      below q n l = getD-set-other mid takenAt q v 0 n ∙ copied .low q (omega (arith, l)) ∙ getD-set-other was (tablesAt + 12 * taken) q (t .nodes) 0 (λ z. omega (arith, z, l))
 
-      above : (q : ℕ) → 45953 + 12 * taken + t .nodes * t .width ≤ q → getD last q 0 ≡ getD was q 0
-      above q l = getD-set-other mid takenAt q v 0 (λ z. omega (arith, z, l)) ∙ copied .high q (omega (arith, l)) ∙ getD-set-other was (45952 + 12 * taken) q (t .nodes) 0 (λ z. omega (arith, z, l))
+      above : (q : ℕ) → tablesAt + 12 * taken + 1 + t .nodes * t .width ≤ q → getD last q 0 ≡ getD was q 0
+      above q l = getD-set-other mid takenAt q v 0 (λ z. omega (arith, z, l)) ∙ copied .high q (omega (arith, l)) ∙ getD-set-other was (tablesAt + 12 * taken) q (t .nodes) 0 (λ z. omega (arith, z, l))
 
       module _ (long : length mid ≡ length was) where
         pub new-taken : getD last takenAt 0 ≡ v
@@ -279,13 +279,13 @@ module _ (h : Shape) where
 
         new-count : getD last (keptAt (taken + 1)) 0 ≡ t .nodes
         new-count =
-            let x : keptAt (taken + 1) ≡ 45952 + 12 * taken = omega arith in
-            ap (λ (q : ℕ). getD last q 0) x ∙ getD-set-other mid takenAt (45952 + 12 * taken) v 0 (λ z. omega (arith, z)) ∙ copied .low (45952 + 12 * taken) (omega arith) ∙ getD-set-same was (45952 + 12 * taken) (t .nodes) 0 (omega (arith, fits, b .room))
+            let x : keptAt (taken + 1) ≡ tablesAt + 12 * taken = omega arith in
+            ap (λ (q : ℕ). getD last q 0) x ∙ getD-set-other mid takenAt (tablesAt + 12 * taken) v 0 (λ z. omega (arith, z)) ∙ copied .low (tablesAt + 12 * taken) (omega arith) ∙ getD-set-same was (tablesAt + 12 * taken) (t .nodes) 0 (omega (arith, fits, b .room))
 
         new-byte : (q : ℕ) → q < t .nodes * t .width → getD last (keptAt (taken + 1) + 1 + q) 0 ≡ getD last (t .rows + q) 0
         new-byte q l =
-            let x : keptAt (taken + 1) + 1 + q ≡ 45953 + 12 * taken + q = omega arith in
-            ap (λ (q : ℕ). getD last q 0) x ∙ getD-set-other mid takenAt (45953 + 12 * taken + q) v 0 (λ z. omega (arith, z)) ∙ copied .part q l ∙ getD-set-other was (45952 + 12 * taken) (t .rows + q) (t .nodes) 0 (λ z. omega (arith, z, l, b .before)) ∙ sym (below (t .rows + q) (λ z. omega (arith, z, l, b .before)) (omega (arith, l, b .before)))
+            let x : keptAt (taken + 1) + 1 + q ≡ tablesAt + 12 * taken + 1 + q = omega arith in
+            ap (λ (q : ℕ). getD last q 0) x ∙ getD-set-other mid takenAt (tablesAt + 12 * taken + 1 + q) v 0 (λ z. omega (arith, z)) ∙ copied .part q l ∙ getD-set-other was (tablesAt + 12 * taken) (t .rows + q) (t .nodes) 0 (λ z. omega (arith, z, l, b .before)) ∙ sym (below (t .rows + q) (λ z. omega (arith, z, l, b .before)) (omega (arith, l, b .before)))
 
         pub stored-new : Stored h t was last (taken + 1)
         stored-new = record {

@@ -1,4 +1,5 @@
 // What is known of the lists from a state: entries by the name of its table, one for each hash, each true.
+use crate::layout::LISTS;
 use crate::memory::Shape;
 use crate::memory::name_of;
 use reading::number::wide;
@@ -23,7 +24,7 @@ pub fn fact_at(name: usize, k: Key) -> usize
     ensures { λ r. ⌜ Place 256 44160 7 r ⌝ }
 {
     let h = name * 11 + k.who % 8 * 37 + k.left % 32 * 5 + k.nesting % 4;
-    44160 + 7 * (h % 256)
+    LISTS + 7 * (h % 256)
 }
 
 // Whether an entry has a key.

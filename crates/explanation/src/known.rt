@@ -1,10 +1,14 @@
 // Steps that are known: what an action leaves of a row of a kept table is made once, and then copied.
+use crate::layout::KEPT;
+use crate::layout::NAMES;
+use crate::layout::STEPS;
 use crate::memory::Shape;
 use crate::memory::name_anew;
 use crate::memory::name_of;
 use partition::bytes::copy_part;
 use reading::number::wide;
 use state::table::Table;
+use transition::layout::SLOT;
 use transition::step::step_slot;
 ghost use mathlib.Core.Path.{_≡_};
 ghost use mathlib.Core.Bool.{true};
@@ -21,7 +25,7 @@ pub fn step_at(name: usize, root: usize, action: usize) -> usize
     requires { ⌜ (name < 256) × (root < 256) × (action < 256) ⌝ }
     ensures { λ r. ⌜ Place 128 43648 4 r ⌝ }
 {
-    43648 + 4 * ((name * 11 + root * 5 + action) % 128)
+    STEPS + 4 * ((name * 11 + root * 5 + action) % 128)
 }
 
 // Whether an entry is that one.
@@ -57,7 +61,7 @@ pub fn note(work: &mut [u8], p: Shape, t: Table, root: usize, action: usize, nex
     requires { ⌜ Before p (now work) t × (root < 256) × (action < 256) × (next < 256) ⌝ }
     ensures { λ _. ⌜ Noted p t root action next (now (work .entry)) (now (work .exit)) ⌝ }
 {
-    let name = wide(work[43470 + t.rows / 961]);
+    let name = wide(work[NAMES + t.rows / SLOT]);
     if name != 0 {
         let at = step_at(name, root, action);
         put_step(work, at, name, root, action, next);
@@ -72,10 +76,10 @@ pub fn again(work: &mut [u8], p: Shape, next: usize, slot: usize) -> u8
     if next == 0 {
         return 10;
     }
-    let from = 45940 + 12 * next;
+    let from = KEPT + 12 * next;
     let nodes = wide(work[from]);
     copy_part(work, from, slot, 1 + nodes * (p.fluents + p.characters));
-    work[43470 + slot / 961] = next as u8;
+    work[NAMES + slot / SLOT] = next as u8;
     0
 }
 
@@ -84,7 +88,7 @@ pub fn note_left(work: &mut [u8], p: Shape, t: Table, root: usize, action: usize
     requires { ⌜ Before p (now work) t × (root < 256) × (action < 256) × Slot p (now work) slot × (getD (now work) slot 0 ≤ 32) ⌝ }
     ensures { λ _. ⌜ LeftNoted p t root action slot (now (work .entry)) (now (work .exit)) ⌝ }
 {
-    work[43470 + slot / 961] = 0;
+    work[NAMES + slot / SLOT] = 0;
     let left = Table {
         rows: slot + 1,
         nodes: wide(work[slot]),

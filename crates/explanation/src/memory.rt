@@ -1,9 +1,16 @@
 // What is known of states, behind a step's scratch: tables that are kept, each under a number that is its name. What is known of steps and of lists is known by these names.
+use crate::layout::BEFORE_TABLES;
+use crate::layout::HASHED;
+use crate::layout::KEPT;
+use crate::layout::NAMES;
+use crate::layout::TABLES;
+use crate::layout::TAKEN;
 use partition::bytes::clear;
 use partition::bytes::copy_part;
 use partition::values::first_other;
 use reading::number::wide;
 use state::table::Table;
+use transition::layout::SLOT;
 ghost use mathlib.Core.Path.{_≡_};
 ghost use mathlib.Core.Bool.{true};
 ghost use Prim.Native.Nat.{_+_, _*_, _<_, _≤_};
@@ -41,13 +48,14 @@ pub fn goes_by(work: &[u8], p: Shape, t: Table, name: usize) -> bool
         return false;
     }
     let n = t.nodes * t.width;
-    if 12 * wide(work[43518]) + 11 < 12 * name + n {
+    if 12 * wide(work[TAKEN]) + 11 < 12 * name + n {
         return false;
     }
-    if wide(work[45940 + 12 * name]) != t.nodes {
+    let at = KEPT + 12 * name;
+    if wide(work[at]) != t.nodes {
         return false;
     }
-    n <= first_other(work, t.rows, 45941 + 12 * name, n)
+    n <= first_other(work, t.rows, at + 1, n)
 }
 
 // Keeps a table where there is room: its name, or 0.
@@ -56,13 +64,14 @@ pub fn store(work: &mut [u8], p: Shape, t: Table) -> usize
     ensures { λ r. ⌜ Stored p t (now (work .entry)) (now (work .exit)) r ⌝ }
 {
     let n = t.nodes * t.width;
-    let taken = wide(work[43518]);
+    let taken = wide(work[TAKEN]);
     if 3059 < 12 * taken + n {
         return 0;
     }
-    work[45952 + 12 * taken] = t.nodes as u8;
-    copy_part(work, t.rows, 45953 + 12 * taken, n);
-    work[43518] = (taken + n / 12 + 1) as u8;
+    let at = TABLES + 12 * taken;
+    work[at] = t.nodes as u8;
+    copy_part(work, t.rows, at + 1, n);
+    work[TAKEN] = (taken + n / 12 + 1) as u8;
     taken + 1
 }
 
@@ -75,7 +84,7 @@ pub fn keep(work: &mut [u8], p: Shape, t: Table) -> usize
     if name != 0 {
         return name;
     }
-    clear(work, 43470, 2482);
+    clear(work, NAMES, BEFORE_TABLES);
     store(work, p, t)
 }
 
@@ -84,7 +93,7 @@ pub fn look_up(work: &mut [u8], p: Shape, t: Table) -> usize
     requires { ⌜ Before p (now work) t ⌝ }
     ensures { λ r. ⌜ Stored p t (now (work .entry)) (now (work .exit)) r ⌝ }
 {
-    let at = 43520 + hash(work, t.rows, t.nodes * t.width);
+    let at = HASHED + hash(work, t.rows, t.nodes * t.width);
     let known = wide(work[at]);
     if goes_by(work, p, t, known) {
         return known;
@@ -100,7 +109,7 @@ pub fn name_anew(work: &mut [u8], p: Shape, t: Table) -> usize
     ensures { λ r. ⌜ Naming p t (now (work .entry)) (now (work .exit)) r ⌝ }
 {
     let name = look_up(work, p, t);
-    work[43470 + t.rows / 961] = name as u8;
+    work[NAMES + t.rows / SLOT] = name as u8;
     name
 }
 
@@ -109,7 +118,7 @@ pub fn name_of(work: &mut [u8], p: Shape, t: Table) -> usize
     requires { ⌜ Before p (now work) t ⌝ }
     ensures { λ r. ⌜ Naming p t (now (work .entry)) (now (work .exit)) r ⌝ }
 {
-    let known = wide(work[43470 + t.rows / 961]);
+    let known = wide(work[NAMES + t.rows / SLOT]);
     if known != 0 {
         return known;
     }

@@ -2,6 +2,7 @@
 use crate::action::read_actions;
 use crate::head::read_head;
 use crate::node::check_rows;
+use crate::places::PLACES;
 use crate::trigger::read_triggers;
 use crate::utility::read_utilities;
 use reading::number::Checked;
@@ -154,6 +155,6 @@ pub fn read_pack(s: &[u8], places: &mut [u16]) -> Contents
 pub fn read_contents(s: &[u8]) -> Contents
     ensures { λ r. ⌜ ContentsRead (now (s .entry)) r ⌝ }
 {
-    let mut places = [0u16; 327];
+    let mut places = [0u16; PLACES];
     read_pack(s, &mut places)
 }

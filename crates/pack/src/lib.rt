@@ -1,5 +1,6 @@
 // The pack layer: the bytes of a story pack are read or refused, and the places of its parts are found.
 // What each function reads is said by a parser: see state/specs/Grammar.antt. What is in which module:
+pub mod places; // where the places of its parts stand among those that are marked
 pub mod reader; // a reader that holds the bytes and a position, and hands out number after number
 pub mod head; // version, characters, domains
 pub mod node; // nodes, as a pack or a chart has them, and a whole chart

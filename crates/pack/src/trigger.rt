@@ -1,6 +1,7 @@
 // Triggers: checked, with the places of their parts. Trigger i has two places from 288 + 2 * i on: its condition and its effects.
 use crate::condition::check_condition;
 use crate::effect::check_effects;
+use crate::places::TRIGGERS;
 use reading::number::Checked;
 use reading::number::Number;
 use reading::number::read_between;
@@ -49,7 +50,7 @@ pub fn read_triggers(
             let mut n = first;
             let mut left = count;
             while 0 < left {
-                match read_trigger(s, n, characters, domains, places, 288 + 2 * i) {
+                match read_trigger(s, n, characters, domains, places, TRIGGERS + 2 * i) {
                     Checked::Refused(k, p) => {
                         return Number::Refused(k, p);
                     }

@@ -1,5 +1,6 @@
 // Utilities ("worths"): rules, each a condition and a number. The rules of the author and of each character have a place each, from 320 on.
 use crate::condition::check_condition;
+use crate::places::UTILITIES;
 use reading::number::Checked;
 use reading::number::Number;
 use reading::number::read_between;
@@ -66,7 +67,7 @@ pub fn read_utilities(
     let mut n = at;
     let mut left = characters + 1;
     while 0 < left {
-        places[320 + i] = n as u16;
+        places[UTILITIES + i] = n as u16;
         match check_rules(s, n, characters, domains) {
             Checked::Refused(k, p) => {
                 return Checked::Refused(k, p);

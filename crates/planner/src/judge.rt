@@ -1,10 +1,14 @@
 // Explained: the checks, and the verdict on a chart.
 use crate::Judged;
+use chart::call::WORK_ROOM;
 use chart::call::both_at_most;
 use chart::call::check_lent;
 use chart::call::check_under;
+use explanation::layout::BEFORE_TABLES;
+use explanation::layout::NAMES;
 use explanation::memory::Shape;
 use pack::contents::read_pack;
+use pack::places::PLACES;
 use partition::bytes::clear;
 use partition::bytes::sweep;
 use reading::number::Number;
@@ -13,6 +17,7 @@ use reason::explain::Nesting;
 use reason::explain::explained;
 use state::copy::copy_table;
 use state::table::Table;
+use transition::layout::SLOT;
 ghost use mathlib.Core.Path.{_≡_};
 ghost use mathlib.Core.Bool.{_&&_};
 ghost use mathlib.Core.List.{List};
@@ -74,7 +79,7 @@ pub fn judge_chart(
         characters: p.characters,
         width: p.fluents + p.characters,
     };
-    clear(work, 43470, 2482);
+    clear(work, NAMES, BEFORE_TABLES);
     let verdict = explained(
         pack,
         places,
@@ -82,13 +87,13 @@ pub fn judge_chart(
         work,
         t,
         0,
-        961,
+        SLOT,
         character,
         action,
         Nesting(nesting),
         Foresight(foresight),
     );
-    sweep(work, 0, 49152);
+    sweep(work, 0, WORK_ROOM);
     verdict
 }
 
@@ -104,7 +109,7 @@ pub fn judge(
 ) -> Judged
     ensures { λ r. ⌜ Judgement (now (pack .entry)) (now (chart .entry)) character action foresight nesting (now (work .entry)) (now (work .exit)) r ⌝ }
 {
-    let mut places = [0u16; 327];
+    let mut places = [0u16; PLACES];
     let p = read_pack(pack, &mut places);
     let sizes = p.sizes;
     let answer = p.answer;
@@ -117,7 +122,7 @@ pub fn judge(
         foresight,
         nesting,
     );
-    match check_lent(nodes, 49152 <= work.len(), there) {
+    match check_lent(nodes, WORK_ROOM <= work.len(), there) {
         Number::Refused(k, at) => Judged::Refused(k, at),
         Number::Is(n, _) => {
             let shape = Shape {

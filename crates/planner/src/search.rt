@@ -1,15 +1,23 @@
 // Search: the list search of the author, shortest lists first, and the public call. A state is row 0 of the table in a slot of the work buffer; the slots behind it are free.
 use crate::Found;
+use chart::call::WORK_ROOM;
 use chart::call::both_at_most;
 use chart::call::check_lent;
 use chart::call::unless_refused;
+use chart::start::MERGED;
 use chart::start::merge_table;
 use explanation::fact::Key;
 use explanation::fact::recall;
 use explanation::fact::remember;
 use explanation::known::known_step;
+use explanation::layout::BEFORE_LISTS;
+use explanation::layout::LISTS;
+use explanation::layout::NAMES;
+use explanation::layout::OF_LISTS;
 use explanation::memory::Shape;
 use pack::contents::read_pack;
+use pack::places::PLACES;
+use pack::places::UTILITIES;
 use partition::bytes::clear;
 use partition::bytes::copy_part;
 use partition::values::first_other;
@@ -22,6 +30,7 @@ use reason::look::next_promising;
 use state::copy::copy_table;
 use state::judge::utility;
 use state::table::Table;
+use transition::layout::SLOT;
 ghost use mathlib.Core.Path.{_≡_};
 ghost use mathlib.Core.Bool.{true, _&&_};
 ghost use mathlib.Core.List.{List};
@@ -121,7 +130,7 @@ pub fn repeats(work: &[u8], p: Shape, slot: usize, done: usize) -> bool
     let n = extent(work, p, slot);
     let mut i = 0;
     while i < done {
-        if n <= first_other(work, slot, i * 961, n) {
+        if n <= first_other(work, slot, i * SLOT, n) {
             return true;
         }
         i += 1;
@@ -170,7 +179,7 @@ pub fn ends(pack: &[u8], places: &[u16], p: Shape, work: &[u8], slot: usize, bas
         characters: p.characters,
         width: p.fluents + p.characters,
     };
-    let worth = utility(pack, places[320] as usize, work, t, 0);
+    let worth = utility(pack, places[UTILITIES] as usize, work, t, 0);
     if base < worth { worth } else { 0 }
 }
 
@@ -206,7 +215,7 @@ pub fn completes_by(
         work,
         t,
         0,
-        slot + 961,
+        slot + SLOT,
         p.characters,
         x,
         e,
@@ -215,7 +224,7 @@ pub fn completes_by(
     if !agreed {
         return 0;
     }
-    let number = known_step(pack, places, p, x, work, t, 0, slot + 961);
+    let number = known_step(pack, places, p, x, work, t, 0, slot + SLOT);
     if number != 0 {
         return 0;
     }
@@ -224,7 +233,7 @@ pub fn completes_by(
         places,
         p,
         work,
-        slot + 961,
+        slot + SLOT,
         list,
         done + 1,
         e,
@@ -288,13 +297,13 @@ pub fn lay_start(pack: &[u8], first: usize, nodes: usize, p: Shape, work: &mut [
     requires { ⌜ Layable (now pack) first nodes p (now work) ⌝ }
     ensures { λ _. ⌜ ((T : List Node) → Laying T (now (pack .entry)) first nodes p (now (work .entry)) → LaidStart T p (now (work .entry)) (now (work .exit))) ⌝ }
 {
-    clear(work, 44160, 1792);
+    clear(work, LISTS, OF_LISTS);
     copy_table(pack, first, nodes, work, 0, p.fluents, p.characters);
     let width = p.fluents + p.characters;
     let rows = merge_table(work, nodes, width, p.fluents, p.characters);
     work[0] = rows as u8;
-    copy_part(work, 2400, 1, rows * width);
-    clear(work, 43470, 690);
+    copy_part(work, MERGED, 1, rows * width);
+    clear(work, NAMES, BEFORE_LISTS);
 }
 
 // The search from what node 0 means of the nodes that are read from `first` on. The work buffer is cleared.
@@ -321,9 +330,9 @@ pub fn search_nodes(
         characters: p.characters,
         width: p.fluents + p.characters,
     };
-    let base = utility(pack, places[320] as usize, work, t, 0);
+    let base = utility(pack, places[UTILITIES] as usize, work, t, 0);
     let found = shortest(pack, places, p, work, list, s, e, k, base);
-    clear(work, 0, 49152);
+    clear(work, 0, WORK_ROOM);
     if found.length == 0 {
         return Found::Refused(13, 0);
     }
@@ -341,11 +350,11 @@ pub fn search(
 ) -> Found
     ensures { λ r. ⌜ Searching (now (pack .entry)) story foresight nesting (now (list .entry)) (now (work .entry)) (now (list .exit)) (now (work .exit)) r ⌝ }
 {
-    let mut places = [0u16; 327];
+    let mut places = [0u16; PLACES];
     let p = read_pack(pack, &mut places);
     let answer = p.answer;
     let nodes = unless_refused(answer, p.nodes, 0);
-    let enough = both_at_most(8, list.len(), 49152, work.len());
+    let enough = both_at_most(8, list.len(), WORK_ROOM, work.len());
     let there = limits(story, foresight, nesting);
     match check_lent(nodes, enough, there) {
         Number::Refused(k, at) => Found::Refused(k, at),

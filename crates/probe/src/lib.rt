@@ -3,6 +3,7 @@
 use pack::contents::Contents;
 use pack::contents::read_pack;
 use pack::node::check_chart;
+use pack::places::PLACES;
 use reading::number::Checked;
 use reading::number::Number;
 ghost use Prim.Native.Nat.{_≤_};
@@ -43,7 +44,7 @@ pub extern "C" fn pirwodd_probe_pack(pack: &[u8], report: &mut [u64]) -> u32
     if report.len() < 5 {
         return 8;
     }
-    let mut places = [0u16; 327];
+    let mut places = [0u16; PLACES];
     let c = read_pack(pack, &mut places);
     let answer = c.answer;
     match answer {
@@ -62,7 +63,7 @@ pub extern "C" fn pirwodd_probe_pack(pack: &[u8], report: &mut [u64]) -> u32
 fn count_nodes(pack: &[u8], chart: &[u8]) -> Number
     ensures { λ r. ⌜ chartCount (now (pack .entry)) (now (chart .entry)) ≡ repliedCount r ⌝ }
 {
-    let mut places = [0u16; 327];
+    let mut places = [0u16; PLACES];
     let c = read_pack(pack, &mut places);
     let answer = c.answer;
     match answer {

@@ -5,11 +5,13 @@ use explanation::fact::recall;
 use explanation::fact::remember;
 use explanation::known::known_step;
 use explanation::memory::Shape;
+use pack::places::CHARACTERS;
 use reading::number::wide;
 use state::judge::utility;
 use state::table::Table;
 use state::write::consenter;
 use state::write::consenters;
+use transition::layout::SLOT;
 ghost use mathlib.Core.Path.{_≡_};
 ghost use mathlib.Core.Bool.{true, false};
 ghost use mathlib.Core.List.{List};
@@ -86,7 +88,7 @@ pub fn explains(
     if number != 0 {
         return false;
     }
-    let base = utility(pack, places[321 + c] as usize, work, t, q);
+    let base = utility(pack, places[CHARACTERS + c] as usize, work, t, q);
     extends(
         pack,
         places,
@@ -124,7 +126,7 @@ pub fn extends(
         characters: p.characters,
         width: p.fluents + p.characters,
     };
-    if base < utility(pack, places[321 + c] as usize, work, t, 0) {
+    if base < utility(pack, places[CHARACTERS + c] as usize, work, t, 0) {
         return true;
     }
     if left == 0 {
@@ -206,15 +208,15 @@ pub fn via(
         characters: p.characters,
         width: p.fluents + p.characters,
     };
-    let agreed = allowed(pack, places, p, work, t, 0, slot + 961, c, x, e, k);
+    let agreed = allowed(pack, places, p, work, t, 0, slot + SLOT, c, x, e, k);
     if !agreed {
         return false;
     }
-    let number = known_step(pack, places, p, x, work, t, 0, slot + 961);
+    let number = known_step(pack, places, p, x, work, t, 0, slot + SLOT);
     if number != 0 {
         return false;
     }
-    extends(pack, places, p, work, slot + 961, c, e, k, left, base)
+    extends(pack, places, p, work, slot + SLOT, c, e, k, left, base)
 }
 
 // Whether action x is explained to each of its consenters other than `who`.

@@ -1,5 +1,7 @@
 // A look before an action is tried: no step is made for one whose condition fails, nor for a last one after which no rule above some utility could hold. What effects may write, and what is believed, is left open.
 use explanation::memory::Shape;
+use pack::places::TRIGGER_EFFECTS;
+use pack::places::UTILITIES;
 use reading::number::Number;
 use reading::number::read_number;
 use reading::number::wide;
@@ -60,7 +62,7 @@ pub fn moves(pack: &[u8], places: &[u16], triggers: usize, x: usize, fluent: usi
     }
     let mut i = 0;
     while i < triggers {
-        if writes(pack, places[289 + 2 * i] as usize, fluent) {
+        if writes(pack, places[TRIGGER_EFFECTS + 2 * i] as usize, fluent) {
             return true;
         }
         i += 1;
@@ -208,7 +210,7 @@ pub fn promising(
         places,
         p.triggers,
         x,
-        places[320 + whose] as usize,
+        places[UTILITIES + whose] as usize,
         work,
         t,
         base,

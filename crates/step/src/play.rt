@@ -1,15 +1,19 @@
 // Step: the checks, and an action played in a chart.
 use chart::Charted;
+use chart::call::CHART_ROOM;
+use chart::call::WORK_ROOM;
 use chart::call::both_at_most;
 use chart::call::check_lent;
 use chart::call::check_under;
 use pack::contents::read_pack;
+use pack::places::PLACES;
 use partition::bytes::sweep;
 use partition::write::write_chart;
 use reading::number::Number;
 use reading::number::wide;
 use state::copy::copy_table;
 use state::table::Table;
+use transition::layout::SLOT;
 use transition::step::step_slot;
 ghost use Rattle.transition.specs.Promises.{Stepped};
 ghost use Rattle.step.specs.Inner.Play.{Steppable, StepPut};
@@ -38,12 +42,12 @@ pub fn play(
         characters,
         width: fluents + characters,
     };
-    let number = step_slot(pack, places, triggers, action, work, t, 0, 961);
+    let number = step_slot(pack, places, triggers, action, work, t, 0, SLOT);
     if number != 0 {
-        sweep(work, 0, 49152);
+        sweep(work, 0, WORK_ROOM);
         return Charted::Refused(number, 0);
     }
-    let rows = wide(work[961]);
+    let rows = wide(work[SLOT]);
     let length = write_chart(
         work,
         rows,
@@ -53,7 +57,7 @@ pub fn play(
         962,
         out,
     );
-    sweep(work, 0, 49152);
+    sweep(work, 0, WORK_ROOM);
     Charted::Chart(length)
 }
 
@@ -61,12 +65,12 @@ pub fn play(
 pub fn step(pack: &[u8], chart: &[u8], action: usize, out: &mut [u8], work: &mut [u8]) -> Charted
     ensures { λ r. ⌜ Stepped (now (pack .entry)) (now (chart .entry)) action (now (out .entry)) (now (work .entry)) (now (out .exit)) (now (work .exit)) r ⌝ }
 {
-    let mut places = [0u16; 327];
+    let mut places = [0u16; PLACES];
     let p = read_pack(pack, &mut places);
     let sizes = p.sizes;
     let answer = p.answer;
     let nodes = check_under(answer, p.characters, &sizes[..p.fluents], chart);
-    let enough = both_at_most(961, out.len(), 49152, work.len());
+    let enough = both_at_most(CHART_ROOM, out.len(), WORK_ROOM, work.len());
     match check_lent(nodes, enough, action < p.actions) {
         Number::Refused(k, at) => Charted::Refused(k, at),
         Number::Is(n, _) => play(

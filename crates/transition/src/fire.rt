@@ -1,4 +1,6 @@
 // Triggers: the lowest that holds in each row.
+use pack::places::TRIGGER_EFFECTS;
+use pack::places::TRIGGERS;
 use state::judge::holds;
 use state::table::Table;
 ghost use Prim.Native.Nat.{_<_, _≤_};
@@ -18,8 +20,8 @@ pub fn firing(pack: &[u8], places: &[u16], triggers: usize, work: &[u8], t: Tabl
 {
     let mut i = 0;
     while i < triggers {
-        if holds(pack, places[288 + 2 * i] as usize, work, t, m) {
-            return places[289 + 2 * i];
+        if holds(pack, places[TRIGGERS + 2 * i] as usize, work, t, m) {
+            return places[TRIGGER_EFFECTS + 2 * i];
         }
         i += 1;
     }

@@ -1,4 +1,8 @@
 // A round of triggers in a slot. Where it tells nobody anything, every belief stays where it was: the values change in place, and rows that have become the same are merged.
+use crate::layout::CLASSES;
+use crate::layout::FIRSTS;
+use crate::layout::LEVEL;
+use crate::layout::MERGED;
 use crate::stage::put_down;
 use crate::stage::stage;
 use change::cause::write_told;
@@ -88,9 +92,9 @@ pub fn merge_slot(work: &mut [u8], t: Table, slot: usize) -> usize
         t.fluents,
         t.characters,
         t.rows,
-        36036,
-        36264,
-        36492,
+        LEVEL,
+        CLASSES,
+        FIRSTS,
         32,
     );
     if t.nodes <= classes {
@@ -103,10 +107,10 @@ pub fn merge_slot(work: &mut [u8], t: Table, slot: usize) -> usize
         t.fluents,
         t.characters,
         t.rows,
-        36264,
-        36720,
+        CLASSES,
+        MERGED,
     );
-    put_down(work, 36720, count, t.width, slot);
+    put_down(work, MERGED, count, t.width, slot);
     count
 }
 

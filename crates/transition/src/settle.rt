@@ -2,6 +2,7 @@
 use crate::fire::fire_all;
 use crate::round::round;
 use change::change::Change;
+use pack::places::PLACES;
 use state::table::Table;
 ghost use mathlib.Core.List.{List};
 ghost use Prim.Native.Nat.{ℕ};
@@ -45,7 +46,7 @@ pub fn settle(
         let everyone = Change {
             acted: 6,
             old: 7,
-            observed: 327,
+            observed: PLACES,
             root: 0,
         };
         nodes = round(pack, places, &effects, everyone, work, now, slot);

@@ -1,4 +1,10 @@
 // A stage of Step, part 1 or a round: the pass, the partition, and the merged table, which is put into a slot of the work buffer.
+use crate::layout::CLASSES;
+use crate::layout::FIRSTS;
+use crate::layout::LEVEL;
+use crate::layout::MADE;
+use crate::layout::MERGED;
+use crate::layout::NUMBERS;
 use change::change::Change;
 use change::change::change_table;
 use partition::bytes::copy_part;
@@ -33,9 +39,9 @@ pub fn stage(
     requires { ⌜ Scened (now pack) (now places) (now effects) h (now work) t × StageRoom (now work) t slot ⌝ }
     ensures { λ r. ⌜ ((s : Scene) → Stands s (now (pack .entry)) (now (places .entry)) (now (effects .entry)) h (now (work .entry)) t → Staged s (h .root) t (now (work .entry)) (now (work .exit)) slot r) ⌝ }
 {
-    let rows = change_table(pack, places, effects, h, work, t, 28832, 29284);
+    let rows = change_table(pack, places, effects, h, work, t, NUMBERS, MADE);
     if rows == 1 {
-        put_down(work, 29284, 1, t.width, slot);
+        put_down(work, MADE, 1, t.width, slot);
         return 1;
     }
     let classes = partition(
@@ -44,17 +50,17 @@ pub fn stage(
         t.width,
         t.fluents,
         t.characters,
-        29284,
-        36036,
-        36264,
-        36492,
+        MADE,
+        LEVEL,
+        CLASSES,
+        FIRSTS,
         32,
     );
     if 32 < classes {
         return classes;
     }
     if rows <= classes {
-        put_down(work, 29284, rows, t.width, slot);
+        put_down(work, MADE, rows, t.width, slot);
         return rows;
     }
     let count = write_merged(
@@ -63,10 +69,10 @@ pub fn stage(
         t.width,
         t.fluents,
         t.characters,
-        29284,
-        36264,
-        36720,
+        MADE,
+        CLASSES,
+        MERGED,
     );
-    put_down(work, 36720, count, t.width, slot);
+    put_down(work, MERGED, count, t.width, slot);
     count
 }

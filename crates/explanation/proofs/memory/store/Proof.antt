@@ -23,7 +23,6 @@ store-spec =
     (λ c. search needs)
     (λ c. search needs)
     (λ c. search needs)
-    (λ c. search needs)
     (λ c κs. let b = c .before .before .before .before .before .before .before .pre in let long = length-set (c .before .before .before .before .before .before .before .args .work .now) (45952 + 12 * c .before .before .before .wide .result) (c .before .before .before .before .before .before .before .args .t .nodes) in (omega (arith, b .before), omega (arith, b .before, b .room, long), omega (arith, b .room, long, c .before .before .if1 .left)))
     (λ c. search needs)
     (λ c. search needs)

@@ -1,0 +1,20 @@
+// Where tables stand in the work buffer: in slots from its start on, and behind them, while a stage of Step is made.
+
+// A slot has room for the count of the largest table and its rows.
+pub const SLOT: usize = 961;
+
+// The numbers and keys of what happens.
+pub const NUMBERS: usize = 28832;
+
+// The rows that are made of it.
+pub const MADE: usize = 29284;
+
+// The classes of a level of them, the classes so far, and the first row of each.
+pub const LEVEL: usize = 36036;
+
+pub const CLASSES: usize = 36264;
+
+pub const FIRSTS: usize = 36492;
+
+// The rows, one of each class.
+pub const MERGED: usize = 36720;
