@@ -37,7 +37,7 @@ use Rattle.change.proofs.Changing.{tabled-same, small, row-inside, belief-is, b
 use Rattle.explanation.specs.declared.memory.Shape.{Shape}
 use Rattle.explanation.specs.declared.fact.Key.{Key}
 use Rattle.explanation.specs.Ending.{Leads, Explained, utilityTo}
-use Rattle.explanation.specs.Inner.Lists.{slotTable, Other, AboveBy, AboveBySome, Agreed}
+use Rattle.explanation.specs.Inner.Lists.{counted, slotTable, Other, AboveBy, AboveBySome, Agreed}
 use Rattle.explanation.specs.Inner.Lists as inner
 use Rattle.explanation.specs.Inner.Memory.{stepsAt, keptTable, Named, StepFact, StepEntry, Memory, Fact, Place, Before, InSlot, Naming, StepRead, Noted, Slot, Again, LeftNoted}
 use Rattle.explanation.specs.Inner.Explain.{Stage, Free, Told, Advanced}
@@ -395,19 +395,14 @@ module _ {th : Theory} {T : List Node} {pack places : List ℕ} {h : Shape} {was
         (e, omega (arith, e, consenter-below (dims (th .characters) (th .domains)) pack (getD places (9 * a + 2) 0) consentersOf (stand .end) (stand .reads) i li, x .tabled .over .characters))
 
 -- the table in a slot, its count read
-module _ (h : Shape) (work : List ℕ) (slot : ℕ) {n : ℕ} (e : getD work slot 0 ≡ n) where
-  abbrev pub counted : ℕ → Table
-  counted n = record { rows = slot + 1; nodes = n; fluents = h .fluents; characters = h .characters; width = h .fluents + h .characters }
-
-  pub slot-stage : {th : Theory} {T : List Node} {pack places : List ℕ} {free : ℕ} → Stage th T pack places h work (slotTable h work slot) free → Stage th T pack places h work (counted n) free
-  slot-stage {th} {T} {pack} {places} {free} x = subst (λ (n : ℕ). Stage th T pack places h work (counted n) free) e x
+pub slot-stage : (h : Shape) (work : List ℕ) (slot : ℕ) {n : ℕ} (e : getD work slot 0 ≡ n) {th : Theory} {T : List Node} {pack places : List ℕ} {free : ℕ} → Stage th T pack places h work (slotTable h work slot) free → Stage th T pack places h work (counted h slot n) free
+slot-stage h work slot e {th} {T} {pack} {places} {free} x = subst (λ (n : ℕ). Stage th T pack places h work (counted h slot n) free) e x
 
 -- the table in a slot stays where its bytes do
 pub slot-same : {th : Theory} {T : List Node} {pack places : List ℕ} {h : Shape} {was now : List ℕ} (slot : ℕ) → Stage th T pack places h was (slotTable h was slot) (slot + 961) → Below was now (slot + 961) → length now ≡ length was
     → Stage th T pack places h now (slotTable h now slot) (slot + 961)
 slot-same {th} {T} {pack} {places} {h} {was} {now} slot x low long =
-    let same : getD was slot 0 ≡ getD now slot 0 = sym (low slot (omega arith)) in
-    subst (λ (n : ℕ). Stage th T pack places h now (record { rows = slot + 1; nodes = n; fluents = h .fluents; characters = h .characters; width = h .fluents + h .characters }) (slot + 961)) same (stage-same x low long)
+    subst (λ (n : ℕ). Stage th T pack places h now (counted h slot n) (slot + 961)) (sym (low slot (omega arith))) (stage-same x low long)
 
 -- a table takes no more than its slot
 pub stage-extent : {th : Theory} {T : List Node} {pack places : List ℕ} {h : Shape} {work : List ℕ} (slot : ℕ) {free : ℕ} → Stage th T pack places h work (slotTable h work slot) free → 1 + getD work slot 0 * (h .fluents + h .characters) ≤ 961

@@ -3,11 +3,11 @@ use crate::layout::LISTS;
 use crate::memory::Shape;
 use crate::memory::name_of;
 use reading::number::wide;
-use state::table::Table;
 ghost use mathlib.Core.Path.{_≡_};
 ghost use mathlib.Core.Bool.{true};
 ghost use Prim.Native.Nat.{_+_, _*_, _<_, _≤_};
-ghost use lib.ListN.{length, getD};
+ghost use lib.ListN.{length};
+ghost use Rattle.explanation.specs.Inner.Lists.{slotTable};
 ghost use Rattle.explanation.specs.Inner.Memory.{Before, Place, Storable, KeyPut, Recalled, Remembered, keyAt};
 
 // Whose list it is that is known about, at which nesting, how many actions are left to it, and above which utility it is to end.
@@ -63,12 +63,12 @@ pub fn storable(name: usize, k: Key) -> bool
     k.base < 65536
 }
 
-// The mark of what is known of a table in a slot by this key; 0 where nothing is.
-pub fn recall(work: &mut [u8], p: Shape, t: Table, k: Key) -> u8
-    requires { ⌜ Before p (now work) t ⌝ }
-    ensures { λ r. ⌜ Recalled p t k (now (work .entry)) (now (work .exit)) r ⌝ }
+// The mark of what is known of the table in a slot by this key; 0 where nothing is.
+pub fn recall(work: &mut [u8], p: Shape, slot: usize, k: Key) -> u8
+    requires { ⌜ Before p (now work) (slotTable p (now work) slot) ⌝ }
+    ensures { λ r. ⌜ Recalled p (slotTable p (now (work .entry)) slot) k (now (work .entry)) (now (work .exit)) r ⌝ }
 {
-    let name = name_of(work, p, t);
+    let name = name_of(work, p, slot);
     if name == 0 {
         return 0;
     }
@@ -95,12 +95,12 @@ pub fn put_key(work: &mut [u8], at: usize, mark: u8, k: Key)
     work[at + 5] = (k.base / 256) as u8;
 }
 
-// Puts down what is known of a table in a slot by this key, in the place of what stood there.
-pub fn remember(work: &mut [u8], p: Shape, t: Table, mark: u8, k: Key)
-    requires { ⌜ Before p (now work) t ⌝ }
-    ensures { λ _. ⌜ Remembered p t mark k (now (work .entry)) (now (work .exit)) ⌝ }
+// Puts down what is known of the table in a slot by this key, in the place of what stood there.
+pub fn remember(work: &mut [u8], p: Shape, slot: usize, mark: u8, k: Key)
+    requires { ⌜ Before p (now work) (slotTable p (now work) slot) ⌝ }
+    ensures { λ _. ⌜ Remembered p (slotTable p (now (work .entry)) slot) mark k (now (work .entry)) (now (work .exit)) ⌝ }
 {
-    let name = name_of(work, p, t);
+    let name = name_of(work, p, slot);
     if storable(name, k) {
         let at = fact_at(name, k);
         put_key(work, at, mark, k);

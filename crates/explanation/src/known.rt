@@ -17,6 +17,7 @@ ghost use Prim.Native.Nat.{ℕ, _+_, _*_, _<_, _≤_};
 ghost use lib.ListN.{length, getD};
 ghost use Rattle.state.specs.Syntax.{Node, Theory};
 ghost use Rattle.state.specs.State.{meaning};
+ghost use Rattle.explanation.specs.Inner.Lists.{slotTable};
 ghost use Rattle.explanation.specs.Inner.Memory.{Memory, Before, Kept, Place, StepRead, StepPut, Noted, Slot, Again, LeftNoted};
 ghost use Rattle.explanation.specs.Inner.Explain.{Stage, Steppable, Advanced};
 
@@ -89,14 +90,7 @@ pub fn note_left(work: &mut [u8], p: Shape, t: Table, root: usize, action: usize
     ensures { λ _. ⌜ LeftNoted p t root action slot (now (work .entry)) (now (work .exit)) ⌝ }
 {
     work[NAMES + slot / SLOT] = 0;
-    let left = Table {
-        rows: slot + 1,
-        nodes: wide(work[slot]),
-        fluents: p.fluents,
-        characters: p.characters,
-        width: p.fluents + p.characters,
-    };
-    let next = name_anew(work, p, left);
+    let next = name_anew(work, p, slot);
     if next != 0 {
         note(work, p, t, root, action, next);
     }
@@ -109,22 +103,28 @@ pub fn known_step(
     p: Shape,
     action: usize,
     work: &mut [u8],
-    t: Table,
-    root: usize,
     slot: usize,
+    root: usize,
 ) -> u8
-    requires { ⌜ Steppable (now pack) (now places) p action (now work) t root slot ⌝ }
-    ensures { λ r. ⌜ ((th : Theory) (T : List Node) (foresight : ℕ) → Stage th T (now (pack .entry)) (now (places .entry)) p (now (work .entry)) t slot → Memory th foresight p slot (now (work .entry)) → Advanced th foresight p (meaning (t .characters) T root) action t (now (work .entry)) (now (work .exit)) slot r) ⌝ }
+    requires { ⌜ Steppable (now pack) (now places) p action (now work) (slotTable p (now work) slot) root (slot + 961) ⌝ }
+    ensures { λ r. ⌜ ((th : Theory) (T : List Node) (foresight : ℕ) → Stage th T (now (pack .entry)) (now (places .entry)) p (now (work .entry)) (slotTable p (now (work .entry)) slot) (slot + 961) → Memory th foresight p (slot + 961) (now (work .entry)) → Advanced th foresight p (meaning (p .characters) T root) action (slotTable p (now (work .entry)) slot) (now (work .entry)) (now (work .exit)) (slot + 961) r) ⌝ }
 {
-    let name = name_of(work, p, t);
+    let t = Table {
+        rows: slot + 1,
+        nodes: wide(work[slot]),
+        fluents: p.fluents,
+        characters: p.characters,
+        width: p.fluents + p.characters,
+    };
+    let name = name_of(work, p, slot);
     let at = step_at(name, root, action);
     if step_is(work, at, name, root, action) {
         let next = wide(work[at + 3]);
-        return again(work, p, next, slot);
+        return again(work, p, next, slot + SLOT);
     }
-    let number = step_slot(pack, places, p.triggers, action, work, t, root, slot);
+    let number = step_slot(pack, places, p.triggers, action, work, t, root, slot + SLOT);
     if number == 0 {
-        note_left(work, p, t, root, action, slot);
+        note_left(work, p, t, root, action, slot + SLOT);
     } else {
         note(work, p, t, root, action, 0);
     }

@@ -15,6 +15,7 @@ ghost use mathlib.Core.Path.{_≡_};
 ghost use mathlib.Core.Bool.{true};
 ghost use Prim.Native.Nat.{_+_, _*_, _<_, _≤_};
 ghost use lib.ListN.{length};
+ghost use Rattle.explanation.specs.Inner.Lists.{slotTable};
 ghost use Rattle.explanation.specs.Inner.Memory.{Before, Named, Stored, Naming};
 
 // A pack's counts.
@@ -104,23 +105,30 @@ pub fn look_up(work: &mut [u8], p: Shape, t: Table) -> usize
 }
 
 // As `look_up`, of the table in a slot, whose name is known from then on.
-pub fn name_anew(work: &mut [u8], p: Shape, t: Table) -> usize
-    requires { ⌜ Before p (now work) t ⌝ }
-    ensures { λ r. ⌜ Naming p t (now (work .entry)) (now (work .exit)) r ⌝ }
+pub fn name_anew(work: &mut [u8], p: Shape, slot: usize) -> usize
+    requires { ⌜ Before p (now work) (slotTable p (now work) slot) ⌝ }
+    ensures { λ r. ⌜ Naming p (slotTable p (now (work .entry)) slot) (now (work .entry)) (now (work .exit)) r ⌝ }
 {
+    let t = Table {
+        rows: slot + 1,
+        nodes: wide(work[slot]),
+        fluents: p.fluents,
+        characters: p.characters,
+        width: p.fluents + p.characters,
+    };
     let name = look_up(work, p, t);
     work[NAMES + t.rows / SLOT] = name as u8;
     name
 }
 
 // The same where the slot's name is not known yet. It mostly is, so the way there is short.
-pub fn name_of(work: &mut [u8], p: Shape, t: Table) -> usize
-    requires { ⌜ Before p (now work) t ⌝ }
-    ensures { λ r. ⌜ Naming p t (now (work .entry)) (now (work .exit)) r ⌝ }
+pub fn name_of(work: &mut [u8], p: Shape, slot: usize) -> usize
+    requires { ⌜ Before p (now work) (slotTable p (now work) slot) ⌝ }
+    ensures { λ r. ⌜ Naming p (slotTable p (now (work .entry)) slot) (now (work .entry)) (now (work .exit)) r ⌝ }
 {
-    let known = wide(work[NAMES + t.rows / SLOT]);
+    let known = wide(work[NAMES + (slot + 1) / SLOT]);
     if known != 0 {
         return known;
     }
-    name_anew(work, p, t)
+    name_anew(work, p, slot)
 }

@@ -40,6 +40,8 @@ use Rattle.planner.specs.Answers.{explainedTable}
 use Rattle.planner.specs.Replies.{foresightLimit, nestingLimit, explainedReply}
 use Rattle.planner.specs.Promises.{Judgement}
 use Rattle.planner.specs.Laws.Answers.{explained-table-iff}
+use Rattle.explanation.specs.Inner.Lists as slots
+use Rattle.explanation.specs.Inner.Lists.{slotTable}
 use Rattle.explanation.specs.Inner.Memory.{memoryAt, Memory}
 use Rattle.explanation.proofs.Remembering.{emptied, memory-clear}
 use Rattle.explanation.proofs.Telling.{stage-same}
@@ -55,7 +57,7 @@ module _ {th : Theory} {T : List Node} {pack places : List ℕ} {h : Shape} {cha
   abbrev pub judgeFrom : Table
   judgeFrom = record { rows = 1; nodes = nodes; fluents = f; characters = C; width = f + C }
 
-  pub judge-free : Free 961 (K * e)
+  pub judge-free : Free 0 (1 + K * e)
   judge-free = omega (arith, mul-le-mul-left K (x .nested), mul-le-mul-right 3 (x .foreseen .1))
 
   module _ {mid : List ℕ} (y : TableCopied chart 1 nodes work mid 0 f C) where
@@ -73,8 +75,8 @@ module _ {th : Theory} {T : List Node} {pack places : List ℕ} {h : Shape} {cha
 
     -- the memory is empty then
     module _ {then : List ℕ} (cl : Cleared mid then memoryAt 2482) (long : length then ≡ length mid) where
-      pub judge-ready : Stage th T pack places h then judgeFrom 961
-      judge-ready = stage-same judge-stage (λ q l. cl .low q (omega arith)) long
+      pub judge-ready : Stage th T pack places h then (slotTable h then 0) 961
+      judge-ready = subst (λ (n : ℕ). Stage th T pack places h then (slots.counted h 0 n) 961) (sym (cl .low 0 (omega arith) ∙ y .count)) (stage-same judge-stage (λ q l. cl .low q (omega arith)) long)
 
       pub judge-memory : Memory th K h 961 then
       judge-memory = memory-clear h (omega (arith, x .theorized .small .characters, x .theorized .small .fluents, x .same-characters, x .same-fluents)) (omega arith) (emptied cl)

@@ -44,11 +44,11 @@ use Rattle.planner.specs.Answers.{searchTable}
 use Rattle.planner.specs.Replies.{storyLimit, foresightLimit, nestingLimit, Plan, answerReply, searchReply}
 use Rattle.planner.specs.Promises.{summary, Searching}
 use Rattle.planner.specs.Laws.Answers.{search-table-iff}
-use Rattle.explanation.specs.Inner.Lists.{slotTable, Ends}
+use Rattle.explanation.specs.Inner.Lists.{counted, slotTable, Ends}
 use Rattle.explanation.specs.Inner.Explain.{Stage}
 use Rattle.explanation.specs.Inner.Memory.{Memory}
 use Rattle.explanation.proofs.Remembering.{memory-clear}
-use Rattle.explanation.proofs.Telling.{counted, slot-stage}
+use Rattle.explanation.proofs.Telling.{slot-stage}
 use Rattle.planner.specs.Inner.Search.{Laying, LaidStart, Chosen, Best, Shortest, Seeking, Seekable, SearchPut}
 
 module _ {Good : List ℕ → ℕ → Type 0} where
@@ -121,7 +121,7 @@ module _ {th : Theory} {T : List Node} {pack places : List ℕ} {h : Shape} {fir
 
     -- the author's utility there
     module _ {n : ℕ} (count : getD then 0 0 ≡ n) where
-      pub seek-ready : Stage th seekTable pack places h then (counted h then 0 count n) 961
+      pub seek-ready : Stage th seekTable pack places h then (counted h 0 n) 961
       seek-ready = slot-stage h then 0 count seek-slot
 
       module _ {base : ℕ} (is : base ≡ authorUtility th (meaning C seekTable 0)) where

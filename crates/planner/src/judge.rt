@@ -16,8 +16,6 @@ use reason::explain::Foresight;
 use reason::explain::Nesting;
 use reason::explain::explained;
 use state::copy::copy_table;
-use state::table::Table;
-use transition::layout::SLOT;
 ghost use mathlib.Core.Path.{_≡_};
 ghost use mathlib.Core.Bool.{_&&_};
 ghost use mathlib.Core.List.{List};
@@ -72,22 +70,13 @@ pub fn judge_chart(
     ensures { λ r. ⌜ ((th : Theory) (T : List Node) → Judging th T (now (pack .entry)) (now (places .entry)) p (now (chart .entry)) nodes character action foresight nesting (now (work .entry)) → Verdict (Explained th foresight nesting character action (meaning (p .characters) T 0)) (now (work .entry)) (now (work .exit)) r) ⌝ }
 {
     copy_table(chart, 1, nodes, work, 0, p.fluents, p.characters);
-    let t = Table {
-        rows: 1,
-        nodes,
-        fluents: p.fluents,
-        characters: p.characters,
-        width: p.fluents + p.characters,
-    };
     clear(work, NAMES, BEFORE_TABLES);
     let verdict = explained(
         pack,
         places,
         p,
         work,
-        t,
         0,
-        SLOT,
         character,
         action,
         Nesting(nesting),

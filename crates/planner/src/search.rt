@@ -84,14 +84,7 @@ pub fn completes(
         left,
         base,
     };
-    let t = Table {
-        rows: slot + 1,
-        nodes: wide(work[slot]),
-        fluents: p.fluents,
-        characters: p.characters,
-        width: p.fluents + p.characters,
-    };
-    if recall(work, p, t, key) == 3 {
+    if recall(work, p, slot, key) == 3 {
         return 0;
     }
     let after = completes_after(
@@ -108,7 +101,7 @@ pub fn completes(
         base,
     );
     if after == 0 {
-        remember(work, p, t, 3, key);
+        remember(work, p, slot, 3, key);
     }
     after
 }
@@ -201,30 +194,11 @@ pub fn completes_by(
     requires { ⌜ Underway (k .0) (e .0) base (now pack) (now places) p (now work) slot done (suc left) × (x < p .actions) × (0 < k .0) × (k .0 ≤ 6) × Free slot (2 + left + k .0 * e .0) × (done + suc left ≤ length (now list)) × (slot ≡ done * 961) ⌝ }
     ensures { λ r. ⌜ ((th : Theory) (T : List Node) → Stage th T (now (pack .entry)) (now (places .entry)) p (now (work .entry)) (slotTable p (now (work .entry)) slot) (slot + 961) → Memory th (k .0) p (slot + 961) (now (work .entry)) → Trail th (k .0) (e .0) base p (now (work .entry)) done (suc left) (meaning (p .characters) T 0) → Best (Memory th (k .0) p (slot + 961)) (EndsBy th (k .0) (e .0) base x (meaning (p .characters) T 0)) (suc left) (now (list .entry)) (now (list .exit)) done (slot + 961) (now (work .entry)) (now (work .exit)) r) ⌝ }
 {
-    let t = Table {
-        rows: slot + 1,
-        nodes: wide(work[slot]),
-        fluents: p.fluents,
-        characters: p.characters,
-        width: p.fluents + p.characters,
-    };
-    let agreed = allowed(
-        pack,
-        places,
-        p,
-        work,
-        t,
-        0,
-        slot + SLOT,
-        p.characters,
-        x,
-        e,
-        k,
-    );
+    let agreed = allowed(pack, places, p, work, slot, p.characters, x, e, k);
     if !agreed {
         return 0;
     }
-    let number = known_step(pack, places, p, x, work, t, 0, slot + SLOT);
+    let number = known_step(pack, places, p, x, work, slot, 0);
     if number != 0 {
         return 0;
     }

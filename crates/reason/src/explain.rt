@@ -1,4 +1,4 @@
-// Explanations: whether a character has a reason of their own for an action. A state is row `root` of a table; the slots of the work buffer from `slot` on are free.
+// Explanations: whether a character has a reason of their own for an action. A state is row 0 of the table in a slot of the work buffer; the slots behind it are free.
 use crate::look::next_promising;
 use explanation::fact::Key;
 use explanation::fact::recall;
@@ -34,16 +34,14 @@ pub fn explained(
     places: &[u16],
     p: Shape,
     work: &mut [u8],
-    t: Table,
-    root: usize,
     slot: usize,
     c: usize,
     a: usize,
     e: Nesting,
     k: Foresight,
 ) -> bool
-    requires { ⌜ Prepared (k .0) (now pack) (now places) p (now work) t slot × (root < t .nodes) × (c < t .characters) × (a < p .actions) × (0 < k .0) × (k .0 ≤ 6) × Free slot (k .0 * e .0) ⌝ }
-    ensures { λ r. ⌜ ((th : Theory) (T : List Node) → Stage th T (now (pack .entry)) (now (places .entry)) p (now (work .entry)) t slot → Memory th (k .0) p slot (now (work .entry)) → Told (Memory th (k .0) p slot) slot (now (work .entry)) (now (work .exit)) r (Explained th (k .0) (e .0) c a (meaning (t .characters) T root))) ⌝ }
+    requires { ⌜ Prepared (k .0) (now pack) (now places) p (now work) (slotTable p (now work) slot) (slot + 961) × (c < p .characters) × (a < p .actions) × (0 < k .0) × (k .0 ≤ 6) × Free slot (1 + k .0 * e .0) ⌝ }
+    ensures { λ r. ⌜ ((th : Theory) (T : List Node) → Stage th T (now (pack .entry)) (now (places .entry)) p (now (work .entry)) (slotTable p (now (work .entry)) slot) (slot + 961) → Memory th (k .0) p (slot + 961) (now (work .entry)) → Told (Memory th (k .0) p (slot + 961)) (slot + 961) (now (work .entry)) (now (work .exit)) r (Explained th (k .0) (e .0) c a (meaning (p .characters) T 0))) ⌝ }
 {
     if e.0 == 0 {
         return false;
@@ -52,17 +50,17 @@ pub fn explained(
         who: c,
         nesting: e.0,
         left: a,
-        base: root,
+        base: 0,
     };
-    let known = recall(work, p, t, key);
+    let known = recall(work, p, slot, key);
     if known == 4 {
         return false;
     }
     if known == 5 {
         return true;
     }
-    let found = explains(pack, places, p, work, t, root, slot, c, a, e, k);
-    remember(work, p, t, mark(found) + 3, key);
+    let found = explains(pack, places, p, work, slot, c, a, e, k);
+    remember(work, p, slot, mark(found) + 3, key);
     found
 }
 
@@ -72,29 +70,34 @@ pub fn explains(
     places: &[u16],
     p: Shape,
     work: &mut [u8],
-    t: Table,
-    root: usize,
     slot: usize,
     c: usize,
     a: usize,
     e: Nesting,
     k: Foresight,
 ) -> bool
-    requires { ⌜ Prepared (k .0) (now pack) (now places) p (now work) t slot × (root < t .nodes) × (c < t .characters) × (a < p .actions) × (0 < k .0) × (k .0 ≤ 6) × Free slot (k .0 * e .0) × (0 < e .0) ⌝ }
-    ensures { λ r. ⌜ ((th : Theory) (T : List Node) → Stage th T (now (pack .entry)) (now (places .entry)) p (now (work .entry)) t slot → Memory th (k .0) p slot (now (work .entry)) → Told (Memory th (k .0) p slot) slot (now (work .entry)) (now (work .exit)) r (Explained th (k .0) (e .0) c a (meaning (t .characters) T root))) ⌝ }
+    requires { ⌜ Prepared (k .0) (now pack) (now places) p (now work) (slotTable p (now work) slot) (slot + 961) × (c < p .characters) × (a < p .actions) × (0 < k .0) × (k .0 ≤ 6) × Free slot (1 + k .0 * e .0) × (0 < e .0) ⌝ }
+    ensures { λ r. ⌜ ((th : Theory) (T : List Node) → Stage th T (now (pack .entry)) (now (places .entry)) p (now (work .entry)) (slotTable p (now (work .entry)) slot) (slot + 961) → Memory th (k .0) p (slot + 961) (now (work .entry)) → Told (Memory th (k .0) p (slot + 961)) (slot + 961) (now (work .entry)) (now (work .exit)) r (Explained th (k .0) (e .0) c a (meaning (p .characters) T 0))) ⌝ }
 {
-    let q = wide(work[t.rows + root * t.width + t.fluents + c]);
-    let number = known_step(pack, places, p, a, work, t, q, slot);
+    let q = wide(work[slot + 1 + p.fluents + c]);
+    let number = known_step(pack, places, p, a, work, slot, q);
     if number != 0 {
         return false;
     }
+    let t = Table {
+        rows: slot + 1,
+        nodes: wide(work[slot]),
+        fluents: p.fluents,
+        characters: p.characters,
+        width: p.fluents + p.characters,
+    };
     let base = utility(pack, places[CHARACTERS + c] as usize, work, t, q);
     extends(
         pack,
         places,
         p,
         work,
-        slot,
+        slot + SLOT,
         c,
         Nesting(e.0 - 1),
         k,
@@ -138,7 +141,7 @@ pub fn extends(
         left,
         base,
     };
-    let known = recall(work, p, t, key);
+    let known = recall(work, p, slot, key);
     if known == 1 {
         return false;
     }
@@ -146,7 +149,7 @@ pub fn extends(
         return true;
     }
     let found = extends_by(pack, places, p, work, slot, c, e, k, left - 1, base);
-    remember(work, p, t, mark(found), key);
+    remember(work, p, slot, mark(found), key);
     found
 }
 
@@ -201,18 +204,11 @@ pub fn via(
     requires { ⌜ Prepared (k .0) (now pack) (now places) p (now work) (slotTable p (now work) slot) (slot + 961) × (c < p .characters) × (x < p .actions) × (0 < k .0) × (k .0 ≤ 6) × Free slot (2 + left + k .0 * e .0) ⌝ }
     ensures { λ r. ⌜ ((th : Theory) (T : List Node) → Stage th T (now (pack .entry)) (now (places .entry)) p (now (work .entry)) (slotTable p (now (work .entry)) slot) (slot + 961) → Memory th (k .0) p (slot + 961) (now (work .entry)) → Told (Memory th (k .0) p (slot + 961)) (slot + 961) (now (work .entry)) (now (work .exit)) r (AboveBy th (k .0) (e .0) c base (suc left) x (meaning (p .characters) T 0))) ⌝ }
 {
-    let t = Table {
-        rows: slot + 1,
-        nodes: wide(work[slot]),
-        fluents: p.fluents,
-        characters: p.characters,
-        width: p.fluents + p.characters,
-    };
-    let agreed = allowed(pack, places, p, work, t, 0, slot + SLOT, c, x, e, k);
+    let agreed = allowed(pack, places, p, work, slot, c, x, e, k);
     if !agreed {
         return false;
     }
-    let number = known_step(pack, places, p, x, work, t, 0, slot + SLOT);
+    let number = known_step(pack, places, p, x, work, slot, 0);
     if number != 0 {
         return false;
     }
@@ -225,23 +221,21 @@ pub fn allowed(
     places: &[u16],
     p: Shape,
     work: &mut [u8],
-    t: Table,
-    root: usize,
     slot: usize,
     who: usize,
     x: usize,
     e: Nesting,
     k: Foresight,
 ) -> bool
-    requires { ⌜ Prepared (k .0) (now pack) (now places) p (now work) t slot × (root < t .nodes) × (x < p .actions) × (0 < k .0) × (k .0 ≤ 6) × Free slot (k .0 * e .0) ⌝ }
-    ensures { λ r. ⌜ ((th : Theory) (T : List Node) → Stage th T (now (pack .entry)) (now (places .entry)) p (now (work .entry)) t slot → Memory th (k .0) p slot (now (work .entry)) → Told (Memory th (k .0) p slot) slot (now (work .entry)) (now (work .exit)) r (Agreed th (k .0) (e .0) who x (meaning (t .characters) T root))) ⌝ }
+    requires { ⌜ Prepared (k .0) (now pack) (now places) p (now work) (slotTable p (now work) slot) (slot + 961) × (x < p .actions) × (0 < k .0) × (k .0 ≤ 6) × Free slot (1 + k .0 * e .0) ⌝ }
+    ensures { λ r. ⌜ ((th : Theory) (T : List Node) → Stage th T (now (pack .entry)) (now (places .entry)) p (now (work .entry)) (slotTable p (now (work .entry)) slot) (slot + 961) → Memory th (k .0) p (slot + 961) (now (work .entry)) → Told (Memory th (k .0) p (slot + 961)) (slot + 961) (now (work .entry)) (now (work .exit)) r (Agreed th (k .0) (e .0) who x (meaning (p .characters) T 0))) ⌝ }
 {
     let at = places[9 * x + 2] as usize;
     let count = consenters(pack, at);
     let mut i = 0;
     while i < count {
         let d = consenter(pack, at, i);
-        let content = fine(pack, places, p, work, t, root, slot, who, d, x, e, k);
+        let content = fine(pack, places, p, work, slot, who, d, x, e, k);
         if !content {
             return false;
         }
@@ -256,8 +250,6 @@ pub fn fine(
     places: &[u16],
     p: Shape,
     work: &mut [u8],
-    t: Table,
-    root: usize,
     slot: usize,
     who: usize,
     d: usize,
@@ -265,11 +257,11 @@ pub fn fine(
     e: Nesting,
     k: Foresight,
 ) -> bool
-    requires { ⌜ Prepared (k .0) (now pack) (now places) p (now work) t slot × (root < t .nodes) × (d < t .characters) × (x < p .actions) × (0 < k .0) × (k .0 ≤ 6) × Free slot (k .0 * e .0) ⌝ }
-    ensures { λ r. ⌜ ((th : Theory) (T : List Node) → Stage th T (now (pack .entry)) (now (places .entry)) p (now (work .entry)) t slot → Memory th (k .0) p slot (now (work .entry)) → Told (Memory th (k .0) p slot) slot (now (work .entry)) (now (work .exit)) r (Other who d → Explained th (k .0) (e .0) d x (meaning (t .characters) T root))) ⌝ }
+    requires { ⌜ Prepared (k .0) (now pack) (now places) p (now work) (slotTable p (now work) slot) (slot + 961) × (d < p .characters) × (x < p .actions) × (0 < k .0) × (k .0 ≤ 6) × Free slot (1 + k .0 * e .0) ⌝ }
+    ensures { λ r. ⌜ ((th : Theory) (T : List Node) → Stage th T (now (pack .entry)) (now (places .entry)) p (now (work .entry)) (slotTable p (now (work .entry)) slot) (slot + 961) → Memory th (k .0) p (slot + 961) (now (work .entry)) → Told (Memory th (k .0) p (slot + 961)) (slot + 961) (now (work .entry)) (now (work .exit)) r (Other who d → Explained th (k .0) (e .0) d x (meaning (p .characters) T 0))) ⌝ }
 {
     if d == who {
         return true;
     }
-    explained(pack, places, p, work, t, root, slot, d, x, e, k)
+    explained(pack, places, p, work, slot, d, x, e, k)
 }

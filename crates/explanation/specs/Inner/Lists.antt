@@ -11,9 +11,13 @@ use Rattle.explanation.specs.declared.memory.Shape.{Shape}
 use Rattle.explanation.specs.Ending.{Explained, utilityTo, authorUtility}
 use Rattle.explanation.specs.Laws.Explaining as explaining
 
+-- a table of n rows in a slot
+abbrev pub counted : Shape → (slot n : ℕ) → Table
+counted h slot n = record { rows = slot + 1; nodes = n; fluents = h .fluents; characters = h .characters; width = h .fluents + h .characters }
+
 -- the table in a slot
 abbrev pub slotTable : Shape → List ℕ → ℕ → Table
-slotTable h work slot = record { rows = slot + 1; nodes = getD work slot 0; fluents = h .fluents; characters = h .characters; width = h .fluents + h .characters }
+slotTable h work slot = counted h slot (getD work slot 0)
 
 -- asked of a consenter: to be another than c
 abbrev pub Other : ℕ → ℕ → Type 0

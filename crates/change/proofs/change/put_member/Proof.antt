@@ -1,6 +1,6 @@
 -- The row that it is made of, and what it is told besides. Assumes nothing.
-use mathlib.Core.Path.{_≡_, _∙_}
-use Prim.Native.Nat.{_/_, _%_, _<_}
+use mathlib.Core.Path.{_∙_}
+use Prim.Native.Nat.{_/_, _<_}
 use native.Mathlib.Omega.{arith}
 use Rattle.change.proofs.Changing.{tellable, edge-put, put-is}
 use Rattle.change.proofs.change.put_member.Statement.{statement}

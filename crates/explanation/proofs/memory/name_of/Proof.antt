@@ -10,10 +10,11 @@ pub name-of-spec : {M : Type 1} → statement M
 name-of-spec =
     tie.close
     (tie.spec
-    (λ c. search needs)
-    (λ c. search needs)
+    (λ c. omega (arith, c .before .pre .before))
+    (λ c. omega (arith, c .before .pre .before))
+    (λ c. omega (arith, c .before .before .pre .before, c .before .before .pre .room))
     (λ c κs. search needs)
-    (λ c. naming-known (c .before .before .before .before .before .args .p) (c .before .before .before .before .before .pre) (omega (arith, c .before .wide .ensures, c .before .before .slice-known2 .given (43470 + c .before .before .before .before .before .args .t .rows / 961))) (c .before .wide .ensures))
+    (λ c. naming-known (c .before .before .before .before .args .p) (c .before .before .before .before .pre) (omega (arith, c .before .wide .ensures, c .before .before .slice-known2 .given (43470 + (c .before .before .before .before .args .slot + 1) / 961))) (c .before .wide .ensures))
     (λ c κs. search needs)
     (λ c. search needs)
     (λ c. c .before .before .name-anew .ensures))

@@ -1,6 +1,6 @@
 -- A table is put behind those that are kept. Assumes nothing.
 use Prim.Native.Nat.{_+_, _*_, _/_}
-use mathlib.Core.Path.{_≡_, refl, _∙_}
+use mathlib.Core.Path.{refl, _∙_}
 use native.Mathlib.Omega.{arith}
 use lib.ListN.{length-set}
 use Rattle.explanation.proofs.Remembering.{table-size, stored-none, stored-new}

@@ -12,14 +12,13 @@ use Rattle.state.specs.Syntax.{Node, Theory}
 use Rattle.state.specs.State.{meaning}
 use Rattle.state.specs.Table.{Below, Above}
 use Rattle.chart.specs.Call.{workRoom}
-use Rattle.change.proofs.Changing.{small}
 use Rattle.explanation.specs.Inner.Lists.{slotTable, Ends, EndsBy}
 use Rattle.explanation.specs.Inner.Memory.{Memory}
 use Rattle.explanation.specs.Inner.Explain.{Stage, Free}
 use Rattle.planner.specs.Inner.Search.{Best, Trail}
 use Rattle.explanation.proofs.Remembering.{memory-fewer}
 use Rattle.reason.proofs.Looking.{below-far, stage-trying, stage-skipped}
-use Rattle.explanation.proofs.Telling.{stage-same, nextTable, next-plays, next-stage, slot-stage, slot-same, stage-before, stage-state, known, note}
+use Rattle.explanation.proofs.Telling.{nextTable, next-plays, next-stage, slot-same, stage-before, stage-state, known, note}
 use Rattle.planner.proofs.Completing.{best-none, best-from, best-noted, best-same, fact-of-none, trail-step, trail-same, trail-repeats, best-end, best-first, best-no, best-hopeless, best-by, best-by-none, agreed-from, agreed-to}
 use borrow.Fn.Kinds.{In}
 use borrow.Fn.PlainCycle.{Measures, is, falls, and}
@@ -32,7 +31,6 @@ use Rattle.planner.proofs.search.+completes+completes_after+completes_b
 use Rattle.planner.proofs.search.completes_by.Reads as completes-by
 use Rattle.planner.proofs.search.completes_by.Kinds as completes-by-kinds
 use Rattle.planner.proofs.search.+completes+completes_after+completes_by.Lts-completes_by as completes-by-lts
-use Rattle.reading.proofs.number.wide.Reads as wide-reads
 use Rattle.reason.proofs.explain.allowed.Reads as allowed-reads
 use Rattle.reason.proofs.look.next_promising.Reads as next-promising-reads
 use Rattle.explanation.proofs.fact.recall.Reads as recall-reads
@@ -91,10 +89,10 @@ abbrev completes-after-calls : ℕ → completes-after-lts.Claims
 completes-after-calls t = (next-promising-reads.Asked, next-promising-reads.Learnt, completes-by-below t, completes-by.Post)
 
 abbrev completes-by-calls : ℕ → completes-by-lts.Claims
-completes-by-calls t = (wide-reads.Asked, wide-reads.Learnt, allowed-reads.Asked, allowed-reads.Learnt, known-step-reads.Asked, known-step-reads.Learnt, completes-below t, completes.Post)
+completes-by-calls t = (allowed-reads.Asked, allowed-reads.Learnt, known-step-reads.Asked, known-step-reads.Learnt, completes-below t, completes.Post)
 
 abbrev completes-calls : ℕ → completes-lts.Claims
-completes-calls t = (ends-reads.Asked, ends-reads.Learnt, repeats-reads.Asked, repeats-reads.Learnt, wide-reads.Asked, wide-reads.Learnt, recall-reads.Asked, recall-reads.Learnt, completes-after-below t, completes-after.Post, remember-reads.Asked, remember-reads.Learnt)
+completes-calls t = (ends-reads.Asked, ends-reads.Learnt, repeats-reads.Asked, repeats-reads.Learnt, recall-reads.Asked, recall-reads.Learnt, completes-after-below t, completes-after.Post, remember-reads.Asked, remember-reads.Learnt)
 
 completes-ends-requires : (t : ℕ) → completes-lts.Need-ends-requires (completes-calls t) (completes-at t) completes.Post
 completes-ends-requires t c κs = let P = c .before .before .before .before .before .before .pre .1 in let (th, (T, (y, mem, trail))) = P .0 in ((th, (T, y)), omega (arith, P .3))
@@ -120,59 +118,42 @@ completes-returns-2 t c = let a = c .before .before .before .before .before .bef
     let again = c .before .repeats .ensures (c .if2 .taken) in
     λ th T y mem trail. best-none _ (λ q l. refl) (λ q l. refl) mem (trail-repeats th (a .k .0) (a .e .0) (a .base) (meaning (a .p .characters) T 0) (a .slot) trail (stage-state y 0) again)
 
-completes-add-t21 : (t : ℕ) → completes-lts.Need-add-t21 (completes-calls t) (completes-at t) completes.Post
-completes-add-t21 t c = omega (arith, c .before .before .before .before .before .before .before .before .pre .1 .3)
-
-completes-slice-read-wide : (t : ℕ) → completes-lts.Need-slice-read-wide (completes-calls t) (completes-at t) completes.Post
-completes-slice-read-wide t c = let P = c .before .before .before .before .before .before .before .before .before .pre .1 in let (th, (T, (y, mem, trail))) = P .0 in omega (arith, P .3, y .room)
-
-completes-wide-requires : (t : ℕ) → completes-lts.Need-wide-requires (completes-calls t) (completes-at t) completes.Post
-completes-wide-requires t c κs = search needs
-
-completes-add-completes-after : (t : ℕ) → completes-lts.Need-add-completes-after (completes-calls t) (completes-at t) completes.Post
-completes-add-completes-after t c = let (th, (T, (y, mem, trail))) = c .before .before .before .before .before .before .before .before .before .before .before .pre .1 .0 in omega (arith, small (y .tabled))
-
 completes-recall-requires : (t : ℕ) → completes-lts.Need-recall-requires (completes-calls t) (completes-at t) completes.Post
-completes-recall-requires t c κs = let P = c .before .before .before .before .before .before .before .before .before .before .before .before .pre .1 in
-    let a = c .before .before .before .before .before .before .before .before .before .before .before .before .args in
+completes-recall-requires t c κs = let P = c .before .before .before .before .before .before .before .before .before .pre .1 in
     let (th, (T, (y, mem, trail))) = P .0 in
-    let z = slot-stage (a .p) (a .work .now) (a .slot) (c .before .before .wide .ensures) y in
-    stage-before z (omega (arith, P .3))
+    stage-before y (omega (arith, P .3))
 
 completes-same-length-3 : (t : ℕ) → completes-lts.Need-same-length-3 (completes-calls t) (completes-at t) completes.Post
 completes-same-length-3 t c = search needs
 
 completes-returns-3 : (t : ℕ) → completes-lts.Need-returns-3 (completes-calls t) (completes-at t) completes.Post
-completes-returns-3 t c = let P = c .before .before .before .before .before .before .before .before .before .before .before .before .before .before .before .before .pre .1 in
-    let a = c .before .before .before .before .before .before .before .before .before .before .before .before .before .before .before .before .args in
+completes-returns-3 t c = let P = c .before .before .before .before .before .before .before .before .before .before .before .before .before .pre .1 in
+    let a = c .before .before .before .before .before .before .before .before .before .before .before .before .before .args in
     let r = c .before .before .before .recall in
     λ th T y mem trail.
-    let z = slot-stage (a .p) (a .work .now) (a .slot) (c .before .before .before .before .before .before .wide .ensures) y in
-    let (m, fact) = r .ensures .told th (a .k .0) (a .slot + 961) (omega (arith, P .3)) (z .slotted) mem in
-    best-none _ (λ q l. r .ensures .only .low q (omega (arith, l, P .3))) (r .ensures .only .high) m (known z fact .none (c .if3 .taken))
+    let (m, fact) = r .ensures .told th (a .k .0) (a .slot + 961) (omega (arith, P .3)) (y .slotted) mem in
+    best-none _ (λ q l. r .ensures .only .low q (omega (arith, l, P .3))) (r .ensures .only .high) m (known y fact .none (c .if3 .taken))
 
 completes-sub-completes-after : (t : ℕ) → completes-lts.Need-sub-completes-after (completes-calls t) (completes-at t) completes.Post
-completes-sub-completes-after t c = omega (arith, c .before .before .before .before .before .before .before .before .before .before .before .before .before .if1 .left)
+completes-sub-completes-after t c = omega (arith, c .before .before .before .before .before .before .before .before .before .before .if1 .left)
 
 completes-completes-after-requires : (t : ℕ) → completes-lts.Need-completes-after-requires (completes-calls t) (completes-at t) completes.Post
-completes-completes-after-requires t c κs = let (m, P) = c .before .before .before .before .before .before .before .before .before .before .before .before .before .before .before .before .before .before .pre in
-    let a = c .before .before .before .before .before .before .before .before .before .before .before .before .before .before .before .before .before .before .args in
+completes-completes-after-requires t c κs = let (m, P) = c .before .before .before .before .before .before .before .before .before .before .before .before .before .before .before .pre in
+    let a = c .before .before .before .before .before .before .before .before .before .before .before .before .before .before .before .args in
     let (th, (T, (y, mem, trail))) = P .0 in
     let r = c .before .before .before .before .before .recall in
-    let z = slot-stage (a .p) (a .work .now) (a .slot) (c .before .before .before .before .before .before .before .before .wide .ensures) y in
-    let up : a .left ≡ suc (a .left - 1) = omega (arith, c .before .before .before .before .before .before .before .before .before .before .before .before .before .if1 .left) in
-    (omega (arith, m, c .before .before .before .before .before .before .before .before .before .before .before .before .before .if1 .left), ((th, (T, ((slot-same (a .slot) y (λ q l. r .ensures .only .low q (omega (arith, l, P .3))) (r .kept .0)), (r .ensures .told th (a .k .0) (a .slot + 961) (omega (arith, P .3)) (z .slotted) mem .0), (trail-same th (a .k .0) (a .e .0) (a .base) (meaning (a .p .characters) T 0) (λ q l. r .ensures .only .low q (omega (arith, l, P .3, P .5))) (subst (λ (n : ℕ). Trail th (a .k .0) (a .e .0) (a .base) (a .p) (a .work .now) (a .done) n (meaning (a .p .characters) T 0)) up trail))))), P .1, P .2, omega (arith, P .3, c .before .before .before .before .before .before .before .before .before .before .before .before .before .if1 .left), omega (arith, P .4, c .before .before .before .before .before .before .before .before .before .before .before .before .before .if1 .left), P .5))
+    let up : a .left ≡ suc (a .left - 1) = omega (arith, c .before .before .before .before .before .before .before .before .before .before .if1 .left) in
+    (omega (arith, m, c .before .before .before .before .before .before .before .before .before .before .if1 .left), ((th, (T, ((slot-same (a .slot) y (λ q l. r .ensures .only .low q (omega (arith, l, P .3))) (r .kept .0)), (r .ensures .told th (a .k .0) (a .slot + 961) (omega (arith, P .3)) (y .slotted) mem .0), (trail-same th (a .k .0) (a .e .0) (a .base) (meaning (a .p .characters) T 0) (λ q l. r .ensures .only .low q (omega (arith, l, P .3, P .5))) (subst (λ (n : ℕ). Trail th (a .k .0) (a .e .0) (a .base) (a .p) (a .work .now) (a .done) n (meaning (a .p .characters) T 0)) up trail))))), P .1, P .2, omega (arith, P .3, c .before .before .before .before .before .before .before .before .before .before .if1 .left), omega (arith, P .4, c .before .before .before .before .before .before .before .before .before .before .if1 .left), P .5))
 
 completes-remember-requires : (t : ℕ) → completes-lts.Need-remember-requires (completes-calls t) (completes-at t) completes.Post
-completes-remember-requires t c κs = let P = c .before .before .before .before .before .before .before .before .before .before .before .before .before .before .before .before .before .before .before .before .before .before .before .before .before .pre .1 in
-    let a = c .before .before .before .before .before .before .before .before .before .before .before .before .before .before .before .before .before .before .before .before .before .before .before .before .before .args in
+completes-remember-requires t c κs = let P = c .before .before .before .before .before .before .before .before .before .before .before .before .before .before .before .before .before .before .before .before .before .before .pre .1 in
+    let a = c .before .before .before .before .before .before .before .before .before .before .before .before .before .before .before .before .before .before .before .before .before .before .args in
     let (th, (T, (y, mem, trail))) = P .0 in
     let r = c .before .before .before .before .before .before .before .before .before .before .before .before .recall in
-    let z = slot-stage (a .p) (a .work .now) (a .slot) (c .before .before .before .before .before .before .before .before .before .before .before .before .before .before .before .wide .ensures) y in
-    let up : a .left ≡ suc (a .left - 1) = omega (arith, c .before .before .before .before .before .before .before .before .before .before .before .before .before .before .before .before .before .before .before .before .if1 .left) in
+    let up : a .left ≡ suc (a .left - 1) = omega (arith, c .before .before .before .before .before .before .before .before .before .before .before .before .before .before .before .before .before .if1 .left) in
     let d = c .before .before .before .before .before .before .completes-after in
-    let b = d .ensures th T (slot-same (a .slot) y (λ q l. r .ensures .only .low q (omega (arith, l, P .3))) (r .kept .0)) (r .ensures .told th (a .k .0) (a .slot + 961) (omega (arith, P .3)) (z .slotted) mem .0) (trail-same th (a .k .0) (a .e .0) (a .base) (meaning (a .p .characters) T 0) (λ q l. r .ensures .only .low q (omega (arith, l, P .3, P .5))) (subst (λ (n : ℕ). Trail th (a .k .0) (a .e .0) (a .base) (a .p) (a .work .now) (a .done) n (meaning (a .p .characters) T 0)) up trail)) in
-    stage-before (stage-same (stage-same z {now = r .last .0} (λ q l. r .ensures .only .low q (omega (arith, l, P .3))) (r .kept .0)) (b .low) (d .kept .1 .1 .1 .0)) (omega (arith, P .3))
+    let b = d .ensures th T (slot-same (a .slot) y (λ q l. r .ensures .only .low q (omega (arith, l, P .3))) (r .kept .0)) (r .ensures .told th (a .k .0) (a .slot + 961) (omega (arith, P .3)) (y .slotted) mem .0) (trail-same th (a .k .0) (a .e .0) (a .base) (meaning (a .p .characters) T 0) (λ q l. r .ensures .only .low q (omega (arith, l, P .3, P .5))) (subst (λ (n : ℕ). Trail th (a .k .0) (a .e .0) (a .base) (a .p) (a .work .now) (a .done) n (meaning (a .p .characters) T 0)) up trail)) in
+    stage-before (slot-same (a .slot) (slot-same {now = r .last .0} (a .slot) y (λ q l. r .ensures .only .low q (omega (arith, l, P .3))) (r .kept .0)) (b .low) (d .kept .1 .1 .1 .0)) (omega (arith, P .3))
 
 completes-same-length-4 : (t : ℕ) → completes-lts.Need-same-length-4 (completes-calls t) (completes-at t) completes.Post
 completes-same-length-4 t c = c .before .before .remember .kept .0 ∙ c .before .before .before .before .before .before .before .before .before .completes-after .kept .1 .1 .1 .0 ∙ c .before .before .before .before .before .before .before .before .before .before .before .before .before .before .before .recall .kept .0
@@ -181,17 +162,16 @@ completes-same-length-5 : (t : ℕ) → completes-lts.Need-same-length-5 (comple
 completes-same-length-5 t c = c .before .before .before .before .before .before .before .before .before .completes-after .kept .1 .1 .1 .1 .1 .0
 
 completes-returns-4 : (t : ℕ) → completes-lts.Need-returns-4 (completes-calls t) (completes-at t) completes.Post
-completes-returns-4 t c = let P = c .before .before .before .before .before .before .before .before .before .before .before .before .before .before .before .before .before .before .before .before .before .before .before .before .before .before .before .before .pre .1 in
-    let a = c .before .before .before .before .before .before .before .before .before .before .before .before .before .before .before .before .before .before .before .before .before .before .before .before .before .before .before .before .args in
+completes-returns-4 t c = let P = c .before .before .before .before .before .before .before .before .before .before .before .before .before .before .before .before .before .before .before .before .before .before .before .before .before .pre .1 in
+    let a = c .before .before .before .before .before .before .before .before .before .before .before .before .before .before .before .before .before .before .before .before .before .before .before .before .before .args in
     let r = c .before .before .before .before .before .before .before .before .before .before .before .before .before .before .before .recall in
     let d = c .before .before .before .before .before .before .before .before .before .completes-after in
     let rem = c .before .before .remember .ensures in
     let zero : d .result ≡ 0 = omega (arith, c .before .before .before .before .if4 .taken) in
-    let up : a .left ≡ suc (a .left - 1) = omega (arith, c .before .before .before .before .before .before .before .before .before .before .before .before .before .before .before .before .before .before .before .before .before .before .before .if1 .left) in
+    let up : a .left ≡ suc (a .left - 1) = omega (arith, c .before .before .before .before .before .before .before .before .before .before .before .before .before .before .before .before .before .before .before .before .if1 .left) in
     λ th T y mem trail.
-    let z = slot-stage (a .p) (a .work .now) (a .slot) (c .before .before .before .before .before .before .before .before .before .before .before .before .before .before .before .before .before .before .wide .ensures) y in
-    let b = best-from (λ q l. r .ensures .only .low q (omega (arith, l, P .3))) (r .ensures .only .high) (best-same (sym up) (d .ensures th T (slot-same (a .slot) y (λ q l. r .ensures .only .low q (omega (arith, l, P .3))) (r .kept .0)) (r .ensures .told th (a .k .0) (a .slot + 961) (omega (arith, P .3)) (z .slotted) mem .0) (trail-same th (a .k .0) (a .e .0) (a .base) (meaning (a .p .characters) T 0) (λ q l. r .ensures .only .low q (omega (arith, l, P .3, P .5))) (subst (λ (n : ℕ). Trail th (a .k .0) (a .e .0) (a .base) (a .p) (a .work .now) (a .done) n (meaning (a .p .characters) T 0)) up trail)))) in
-    let z′ = stage-same (stage-same z {now = r .last .0} (λ q l. r .ensures .only .low q (omega (arith, l, P .3))) (r .kept .0)) (d .ensures th T (slot-same (a .slot) y (λ q l. r .ensures .only .low q (omega (arith, l, P .3))) (r .kept .0)) (r .ensures .told th (a .k .0) (a .slot + 961) (omega (arith, P .3)) (z .slotted) mem .0) (trail-same th (a .k .0) (a .e .0) (a .base) (meaning (a .p .characters) T 0) (λ q l. r .ensures .only .low q (omega (arith, l, P .3, P .5))) (subst (λ (n : ℕ). Trail th (a .k .0) (a .e .0) (a .base) (a .p) (a .work .now) (a .done) n (meaning (a .p .characters) T 0)) up trail)) .low) (d .kept .1 .1 .1 .0) in
+    let b = best-from (λ q l. r .ensures .only .low q (omega (arith, l, P .3))) (r .ensures .only .high) (best-same (sym up) (d .ensures th T (slot-same (a .slot) y (λ q l. r .ensures .only .low q (omega (arith, l, P .3))) (r .kept .0)) (r .ensures .told th (a .k .0) (a .slot + 961) (omega (arith, P .3)) (y .slotted) mem .0) (trail-same th (a .k .0) (a .e .0) (a .base) (meaning (a .p .characters) T 0) (λ q l. r .ensures .only .low q (omega (arith, l, P .3, P .5))) (subst (λ (n : ℕ). Trail th (a .k .0) (a .e .0) (a .base) (a .p) (a .work .now) (a .done) n (meaning (a .p .characters) T 0)) up trail)))) in
+    let z′ = slot-same (a .slot) (slot-same {now = r .last .0} (a .slot) y (λ q l. r .ensures .only .low q (omega (arith, l, P .3))) (r .kept .0)) (d .ensures th T (slot-same (a .slot) y (λ q l. r .ensures .only .low q (omega (arith, l, P .3))) (r .kept .0)) (r .ensures .told th (a .k .0) (a .slot + 961) (omega (arith, P .3)) (y .slotted) mem .0) (trail-same th (a .k .0) (a .e .0) (a .base) (meaning (a .p .characters) T 0) (λ q l. r .ensures .only .low q (omega (arith, l, P .3, P .5))) (subst (λ (n : ℕ). Trail th (a .k .0) (a .e .0) (a .base) (a .p) (a .work .now) (a .done) n (meaning (a .p .characters) T 0)) up trail)) .low) (d .kept .1 .1 .1 .0) in
     best-noted b (omega (arith, P .3)) (rem .only .low) (rem .only .high) (rem .memory th (a .k .0) (a .slot + 961) (omega (arith, P .3)) (z′ .slotted) (b .memory) (note z′ (fact-of-none th (a .k .0) (a .e .0) (a .base) (λ (root : ℕ). meaning (a .p .characters) T root) (b .none zero .1))))
 
 completes-same-length-6 : (t : ℕ) → completes-lts.Need-same-length-6 (completes-calls t) (completes-at t) completes.Post
@@ -201,14 +181,13 @@ completes-same-length-7 : (t : ℕ) → completes-lts.Need-same-length-7 (comple
 completes-same-length-7 t c = c .before .before .before .before .before .completes-after .kept .1 .1 .1 .1 .1 .0
 
 completes-returns-5 : (t : ℕ) → completes-lts.Need-returns-5 (completes-calls t) (completes-at t) completes.Post
-completes-returns-5 t c = let P = c .before .before .before .before .before .before .before .before .before .before .before .before .before .before .before .before .before .before .before .before .before .before .before .before .pre .1 in
-    let a = c .before .before .before .before .before .before .before .before .before .before .before .before .before .before .before .before .before .before .before .before .before .before .before .before .args in
+completes-returns-5 t c = let P = c .before .before .before .before .before .before .before .before .before .before .before .before .before .before .before .before .before .before .before .before .before .pre .1 in
+    let a = c .before .before .before .before .before .before .before .before .before .before .before .before .before .before .before .before .before .before .before .before .before .args in
     let r = c .before .before .before .before .before .before .before .before .before .before .before .recall in
     let d = c .before .before .before .before .before .completes-after in
-    let up : a .left ≡ suc (a .left - 1) = omega (arith, c .before .before .before .before .before .before .before .before .before .before .before .before .before .before .before .before .before .before .before .if1 .left) in
+    let up : a .left ≡ suc (a .left - 1) = omega (arith, c .before .before .before .before .before .before .before .before .before .before .before .before .before .before .before .before .if1 .left) in
     λ th T y mem trail.
-    let z = slot-stage (a .p) (a .work .now) (a .slot) (c .before .before .before .before .before .before .before .before .before .before .before .before .before .before .wide .ensures) y in
-    best-from (λ q l. r .ensures .only .low q (omega (arith, l, P .3))) (r .ensures .only .high) (best-same (sym up) (d .ensures th T (slot-same (a .slot) y (λ q l. r .ensures .only .low q (omega (arith, l, P .3))) (r .kept .0)) (r .ensures .told th (a .k .0) (a .slot + 961) (omega (arith, P .3)) (z .slotted) mem .0) (trail-same th (a .k .0) (a .e .0) (a .base) (meaning (a .p .characters) T 0) (λ q l. r .ensures .only .low q (omega (arith, l, P .3, P .5))) (subst (λ (n : ℕ). Trail th (a .k .0) (a .e .0) (a .base) (a .p) (a .work .now) (a .done) n (meaning (a .p .characters) T 0)) up trail))))
+    best-from (λ q l. r .ensures .only .low q (omega (arith, l, P .3))) (r .ensures .only .high) (best-same (sym up) (d .ensures th T (slot-same (a .slot) y (λ q l. r .ensures .only .low q (omega (arith, l, P .3))) (r .kept .0)) (r .ensures .told th (a .k .0) (a .slot + 961) (omega (arith, P .3)) (y .slotted) mem .0) (trail-same th (a .k .0) (a .e .0) (a .base) (meaning (a .p .characters) T 0) (λ q l. r .ensures .only .low q (omega (arith, l, P .3, P .5))) (subst (λ (n : ℕ). Trail th (a .k .0) (a .e .0) (a .base) (a .p) (a .work .now) (a .done) n (meaning (a .p .characters) T 0)) up trail))))
 
 abbrev completes-after-Inv-loop : completes-after-lts.InvT-loop
 completes-after-Inv-loop pack places p work₀ slot list₀ done e k left base actions x₀ work list x = (length work ≡ length work₀) × (list ≡ list₀) × Below work₀ work (slot + 961) × Above work₀ work workRoom
@@ -301,81 +280,59 @@ completes-after-returns-2 t c = let a = c .before .before .before .before .befor
     subst (λ (now : List ℕ). Best (Memory th (a .k .0) (a .p) (a .slot + 961)) (Ends th (a .k .0) (a .e .0) (a .base) s) (suc (a .left)) (a .list .now) now (a .done) (a .slot + 961) (a .work .now) (c .before .loop .work) 0) (sym same)
     (best-none (a .list .now) low high (rest th T y mem trail .0) (best-no th (a .k .0) (a .e .0) (a .base) s (λ x g. rest th T y mem trail .1 x (omega (arith, g, y .theorized .found .actions, c .loop-test .left)))))
 
-completes-by-add-allowed : (t : ℕ) → completes-by-lts.Need-add-allowed (completes-by-calls t) (completes-by-at t) completes-by.Post
-completes-by-add-allowed t c = let (th, (T, (y, mem, trail))) = c .before .before .before .before .pre .1 .0 in omega (arith, small (y .tabled))
-
-completes-by-slice-read-wide : (t : ℕ) → completes-by-lts.Need-slice-read-wide (completes-by-calls t) (completes-by-at t) completes-by.Post
-completes-by-slice-read-wide t c = let (th, (T, (y, mem, trail))) = c .before .before .before .before .before .pre .1 .0 in omega (arith, c .before .before .before .before .before .pre .1 .4, y .room)
-
-completes-by-wide-requires : (t : ℕ) → completes-by-lts.Need-wide-requires (completes-by-calls t) (completes-by-at t) completes-by.Post
-completes-by-wide-requires t c κs = search needs
-
-completes-by-add-known-step : (t : ℕ) → completes-by-lts.Need-add-known-step (completes-by-calls t) (completes-by-at t) completes-by.Post
-completes-by-add-known-step t c = omega (arith, c .before .before .before .before .before .before .before .pre .1 .4)
-
-completes-by-add-allowed-2 : (t : ℕ) → completes-by-lts.Need-add-allowed-2 (completes-by-calls t) (completes-by-at t) completes-by.Post
-completes-by-add-allowed-2 t c = omega (arith, c .before .before .before .before .before .before .before .before .pre .1 .4)
-
 completes-by-allowed-requires : (t : ℕ) → completes-by-lts.Need-allowed-requires (completes-by-calls t) (completes-by-at t) completes-by.Post
 completes-by-allowed-requires t c κs =
-    let P = c .before .before .before .before .before .before .before .before .pre .1 in
-    let a = c .before .before .before .before .before .before .before .before .args in
+    let P = c .before .before .before .before .before .pre .1 in
     let (th, (T, (y, mem, trail))) = P .0 in
-    let z = slot-stage (a .p) (a .work .now) (a .slot) (c .before .before .wide .ensures) y in
-    ((th, (T, (z, mem))), z .tabled .some, P .1, P .2, P .3, omega (arith, P .4))
+    ((th, (T, (y, mem))), P .1, P .2, P .3, omega (arith, P .4))
 
 completes-by-same-length : (t : ℕ) → completes-by-lts.Need-same-length (completes-by-calls t) (completes-by-at t) completes-by.Post
 completes-by-same-length t c = search needs
 
 completes-by-returns : (t : ℕ) → completes-by-lts.Need-returns (completes-by-calls t) (completes-by-at t) completes-by.Post
 completes-by-returns t c =
-    let P = c .before .before .before .before .before .before .before .before .before .before .before .before .pre .1 in
-    let a = c .before .before .before .before .before .before .before .before .before .before .before .before .args in
+    let P = c .before .before .before .before .before .before .before .before .before .pre .1 in
+    let a = c .before .before .before .before .before .before .before .before .before .args in
     let w = c .before .before .before .allowed in
     λ th T y mem trail.
-    let told = w .ensures th T (slot-stage (a .p) (a .work .now) (a .slot) (c .before .before .before .before .before .before .wide .ensures) y) mem in
+    let told = w .ensures th T y mem in
     best-none _ (told .low) (told .high) (told .memory) (λ l v q g. told .complete (not-true (w .result) (c .if1 .taken)) (agreed-to y (a .k .0) (a .e .0) (a .x) (P .1) (meaning (a .p .characters) T 0) (g .2 .2)))
 
-completes-by-add-known-step-2 : (t : ℕ) → completes-by-lts.Need-add-known-step-2 (completes-by-calls t) (completes-by-at t) completes-by.Post
-completes-by-add-known-step-2 t c = let (th, (T, (y, mem, trail))) = c .before .before .before .before .before .before .before .before .before .before .before .before .before .pre .1 .0 in omega (arith, small (y .tabled))
-
 completes-by-known-step-requires : (t : ℕ) → completes-by-lts.Need-known-step-requires (completes-by-calls t) (completes-by-at t) completes-by.Post
-completes-by-known-step-requires t c κs = let P = c .before .before .before .before .before .before .before .before .before .before .before .before .before .pre .1 in
-    let a = c .before .before .before .before .before .before .before .before .before .before .before .before .before .args in
+completes-by-known-step-requires t c κs = let P = c .before .before .before .before .before .before .before .before .before .before .pre .1 in
+    let a = c .before .before .before .before .before .before .before .before .before .before .args in
     let (th, (T, (y, mem, trail))) = P .0 in
-    let z = slot-stage (a .p) (a .work .now) (a .slot) (c .before .before .before .before .before .before .before .wide .ensures) y in
     let w = c .before .before .before .before .allowed in
-    let told = w .ensures th T z mem in
-    (a .k .0, ((th, (T, (stage-same z (told .low) (w .kept .1 .1 .1 .0), told .memory))), P .1, z .tabled .some, omega (arith, P .4)))
+    let told = w .ensures th T y mem in
+    let z = slot-same (a .slot) y (told .low) (w .kept .1 .1 .1 .0) in
+    (a .k .0, ((th, (T, (z, told .memory))), P .1, z .tabled .some, omega (arith, P .4)))
 
 completes-by-same-length-2 : (t : ℕ) → completes-by-lts.Need-same-length-2 (completes-by-calls t) (completes-by-at t) completes-by.Post
 completes-by-same-length-2 t c = c .before .before .before .known-step .kept .1 .1 .1 .1 .0 ∙ c .before .before .before .before .before .before .before .before .allowed .kept .1 .1 .1 .0
 
 completes-by-returns-2 : (t : ℕ) → completes-by-lts.Need-returns-2 (completes-by-calls t) (completes-by-at t) completes-by.Post
-completes-by-returns-2 t c = let a = c .before .before .before .before .before .before .before .before .before .before .before .before .before .before .before .before .before .args in
+completes-by-returns-2 t c = let a = c .before .before .before .before .before .before .before .before .before .before .before .before .before .before .args in
     let w = c .before .before .before .before .before .before .before .before .allowed in
     let s = c .before .before .before .known-step in
     λ th T y mem trail.
-    let z = slot-stage (a .p) (a .work .now) (a .slot) (c .before .before .before .before .before .before .before .before .before .before .before .wide .ensures) y in
-    let told = w .ensures th T z mem in
-    let played = s .ensures th T (a .k .0) (stage-same z (told .low) (w .kept .1 .1 .1 .0)) (told .memory) in
+    let told = w .ensures th T y mem in
+    let played = s .ensures th T (a .k .0) (slot-same (a .slot) y (told .low) (w .kept .1 .1 .1 .0)) (told .memory) in
     best-none _ (λ q l. played .low q l ∙ told .low q l) (λ q l. played .high q l ∙ told .high q l) (played .memory) (λ l v q g. played .none (c .if2 .taken) (g .2 .0) (g .2 .1))
 
 completes-by-add-completes : (t : ℕ) → completes-by-lts.Need-add-completes (completes-by-calls t) (completes-by-at t) completes-by.Post
-completes-by-add-completes t c = omega (arith, c .before .before .before .before .before .before .before .before .before .before .before .before .before .before .before .before .before .before .pre .1 .4)
+completes-by-add-completes t c = omega (arith, c .before .before .before .before .before .before .before .before .before .before .before .before .before .before .before .pre .1 .4)
 
 completes-by-add-completes-2 : (t : ℕ) → completes-by-lts.Need-add-completes-2 (completes-by-calls t) (completes-by-at t) completes-by.Post
-completes-by-add-completes-2 t c = omega (arith, c .before .before .before .before .before .before .before .before .before .before .before .before .before .before .before .before .before .before .before .pre .1 .5, c .before .before .before .before .before .before .before .before .before .before .before .before .before .before .before .before .before .before .before .good .1 .1 .1 .1 .1 .0 .0)
+completes-by-add-completes-2 t c = omega (arith, c .before .before .before .before .before .before .before .before .before .before .before .before .before .before .before .before .pre .1 .5, c .before .before .before .before .before .before .before .before .before .before .before .before .before .before .before .before .good .1 .1 .1 .1 .1 .0 .0)
 
 completes-by-completes-requires : (t : ℕ) → completes-by-lts.Need-completes-requires (completes-by-calls t) (completes-by-at t) completes-by.Post
-completes-by-completes-requires t c κs = let (m, P) = c .before .before .before .before .before .before .before .before .before .before .before .before .before .before .before .before .before .before .before .pre in
-    let a = c .before .before .before .before .before .before .before .before .before .before .before .before .before .before .before .before .before .before .before .args in
+completes-by-completes-requires t c κs = let (m, P) = c .before .before .before .before .before .before .before .before .before .before .before .before .before .before .before .before .pre in
+    let a = c .before .before .before .before .before .before .before .before .before .before .before .before .before .before .before .before .args in
     let (th, (T, (y, mem, trail))) = P .0 in
     let w = c .before .before .before .before .before .before .before .before .before .before .allowed in
     let s = c .before .before .before .before .before .known-step in
-    let z = slot-stage (a .p) (a .work .now) (a .slot) (c .before .before .before .before .before .before .before .before .before .before .before .before .before .wide .ensures) y in
-    let told = w .ensures th T z mem in
-    let z′ = stage-same z (told .low) (w .kept .1 .1 .1 .0) in
+    let told = w .ensures th T y mem in
+    let z′ = slot-same (a .slot) y (told .low) (w .kept .1 .1 .1 .0) in
     let f : Free (a .slot + 961) 1 = omega (arith, P .4) in
     let long = s .kept .1 .1 .1 .1 .0 in
     let played = s .ensures th T (a .k .0) z′ (told .memory) in
@@ -386,27 +343,26 @@ completes-by-completes-requires t c κs = let (m, P) = c .before .before .before
     (omega (arith, m), ((th, (nextTable z′ 0 played f long zero, (next-stage z′ 0 played f long zero, played .further zero, next))), P .2, P .3, omega (arith, P .4), omega (arith, P .5), omega (arith, P .6)))
 
 completes-by-cast-list : (t : ℕ) → completes-by-lts.Need-cast-list (completes-by-calls t) (completes-by-at t) completes-by.Post
-completes-by-cast-list t c = let (th, (T, (y, mem, trail))) = c .before .before .before .before .before .before .before .before .before .before .before .before .before .before .before .before .before .before .before .before .before .before .before .before .before .pre .1 .0 in omega (arith, c .before .before .before .before .before .before .before .before .before .before .before .before .before .before .before .before .before .before .before .before .before .before .before .before .before .pre .1 .1, y .theorized .found .mostActions)
+completes-by-cast-list t c = let (th, (T, (y, mem, trail))) = c .before .before .before .before .before .before .before .before .before .before .before .before .before .before .before .before .before .before .before .before .before .before .pre .1 .0 in omega (arith, c .before .before .before .before .before .before .before .before .before .before .before .before .before .before .before .before .before .before .before .before .before .before .pre .1 .1, y .theorized .found .mostActions)
 
 completes-by-slice-write-list : (t : ℕ) → completes-by-lts.Need-slice-write-list (completes-by-calls t) (completes-by-at t) completes-by.Post
-completes-by-slice-write-list t c = omega (arith, c .before .before .before .before .before .before .before .before .before .before .before .before .before .before .before .before .before .before .before .before .before .before .before .before .before .pre .1 .5, c .before .before .before .before .before .completes .kept .1 .1 .1 .1 .1 .0)
+completes-by-slice-write-list t c = omega (arith, c .before .before .before .before .before .before .before .before .before .before .before .before .before .before .before .before .before .before .before .before .before .before .pre .1 .5, c .before .before .before .before .before .completes .kept .1 .1 .1 .1 .1 .0)
 
 completes-by-same-length-3 : (t : ℕ) → completes-by-lts.Need-same-length-3 (completes-by-calls t) (completes-by-at t) completes-by.Post
 completes-by-same-length-3 t c = c .before .before .before .before .before .completes .kept .1 .1 .1 .0 ∙ c .before .before .before .before .before .before .before .before .before .before .before .known-step .kept .1 .1 .1 .1 .0 ∙ c .before .before .before .before .before .before .before .before .before .before .before .before .before .before .before .before .allowed .kept .1 .1 .1 .0
 
 completes-by-same-length-4 : (t : ℕ) → completes-by-lts.Need-same-length-4 (completes-by-calls t) (completes-by-at t) completes-by.Post
-completes-by-same-length-4 t c = length-set {A = ℕ} (c .before .before .before .before .before .completes .last .1 .1 .1 .1 .1 .0) (c .before .before .before .before .before .before .before .before .before .before .before .before .before .before .before .before .before .before .before .before .before .before .before .before .before .args .done) (c .before .before .before .before .before .before .before .before .before .before .before .before .before .before .before .before .before .before .before .before .before .before .before .before .before .args .x) ∙ c .before .before .before .before .before .completes .kept .1 .1 .1 .1 .1 .0
+completes-by-same-length-4 t c = length-set {A = ℕ} (c .before .before .before .before .before .completes .last .1 .1 .1 .1 .1 .0) (c .before .before .before .before .before .before .before .before .before .before .before .before .before .before .before .before .before .before .before .before .before .before .args .done) (c .before .before .before .before .before .before .before .before .before .before .before .before .before .before .before .before .before .before .before .before .before .before .args .x) ∙ c .before .before .before .before .before .completes .kept .1 .1 .1 .1 .1 .0
 
 completes-by-returns-3 : (t : ℕ) → completes-by-lts.Need-returns-3 (completes-by-calls t) (completes-by-at t) completes-by.Post
-completes-by-returns-3 t c = let P = c .before .before .before .before .before .before .before .before .before .before .before .before .before .before .before .before .before .before .before .before .before .before .before .before .before .pre .1 in
-    let a = c .before .before .before .before .before .before .before .before .before .before .before .before .before .before .before .before .before .before .before .before .before .before .before .before .before .args in
+completes-by-returns-3 t c = let P = c .before .before .before .before .before .before .before .before .before .before .before .before .before .before .before .before .before .before .before .before .before .before .pre .1 in
+    let a = c .before .before .before .before .before .before .before .before .before .before .before .before .before .before .before .before .before .before .before .before .before .before .args in
     let w = c .before .before .before .before .before .before .before .before .before .before .before .before .before .before .before .before .allowed in
     let s = c .before .before .before .before .before .before .before .before .before .before .before .known-step in
     let d = c .before .before .before .before .before .completes in
     λ th T y mem trail.
-    let z = slot-stage (a .p) (a .work .now) (a .slot) (c .before .before .before .before .before .before .before .before .before .before .before .before .before .before .before .before .before .before .before .wide .ensures) y in
-    let told = w .ensures th T z mem in
-    let z′ = stage-same z (told .low) (w .kept .1 .1 .1 .0) in
+    let told = w .ensures th T y mem in
+    let z′ = slot-same (a .slot) y (told .low) (w .kept .1 .1 .1 .0) in
     let f : Free (a .slot + 961) 1 = omega (arith, P .4) in
     let long = s .kept .1 .1 .1 .1 .0 in
     let played = s .ensures th T (a .k .0) z′ (told .memory) in
@@ -424,15 +380,14 @@ completes-by-same-length-6 : (t : ℕ) → completes-by-lts.Need-same-length-6 (
 completes-by-same-length-6 t c = c .before .before .before .before .before .completes .kept .1 .1 .1 .1 .1 .0
 
 completes-by-returns-4 : (t : ℕ) → completes-by-lts.Need-returns-4 (completes-by-calls t) (completes-by-at t) completes-by.Post
-completes-by-returns-4 t c = let P = c .before .before .before .before .before .before .before .before .before .before .before .before .before .before .before .before .before .before .before .before .before .before .before .before .before .pre .1 in
-    let a = c .before .before .before .before .before .before .before .before .before .before .before .before .before .before .before .before .before .before .before .before .before .before .before .before .before .args in
+completes-by-returns-4 t c = let P = c .before .before .before .before .before .before .before .before .before .before .before .before .before .before .before .before .before .before .before .before .before .before .pre .1 in
+    let a = c .before .before .before .before .before .before .before .before .before .before .before .before .before .before .before .before .before .before .before .before .before .before .args in
     let w = c .before .before .before .before .before .before .before .before .before .before .before .before .before .before .before .before .allowed in
     let s = c .before .before .before .before .before .before .before .before .before .before .before .known-step in
     let d = c .before .before .before .before .before .completes in
     λ th T y mem trail.
-    let z = slot-stage (a .p) (a .work .now) (a .slot) (c .before .before .before .before .before .before .before .before .before .before .before .before .before .before .before .before .before .before .before .wide .ensures) y in
-    let told = w .ensures th T z mem in
-    let z′ = stage-same z (told .low) (w .kept .1 .1 .1 .0) in
+    let told = w .ensures th T y mem in
+    let z′ = slot-same (a .slot) y (told .low) (w .kept .1 .1 .1 .0) in
     let f : Free (a .slot + 961) 1 = omega (arith, P .4) in
     let long = s .kept .1 .1 .1 .1 .0 in
     let played = s .ensures th T (a .k .0) z′ (told .memory) in
@@ -453,10 +408,6 @@ pub +completes+completes-after+completes-by-spec : {M : Type 1} → statement M
     (completes-repeats-requires t)
     (completes-same-length-2 t)
     (completes-returns-2 t)
-    (completes-add-t21 t)
-    (completes-slice-read-wide t)
-    (completes-wide-requires t)
-    (completes-add-completes-after t)
     (completes-recall-requires t)
     (completes-same-length-3 t)
     (completes-returns-3 t)
@@ -491,15 +442,9 @@ pub +completes+completes-after+completes-by-spec : {M : Type 1} → statement M
     λ t. completes-by-lts.spec (completes-by-calls t)
     (completes-by-at t)
     completes-by.Post
-    (completes-by-add-allowed t)
-    (completes-by-slice-read-wide t)
-    (completes-by-wide-requires t)
-    (completes-by-add-known-step t)
-    (completes-by-add-allowed-2 t)
     (completes-by-allowed-requires t)
     (completes-by-same-length t)
     (completes-by-returns t)
-    (completes-by-add-known-step-2 t)
     (completes-by-known-step-requires t)
     (completes-by-same-length-2 t)
     (completes-by-returns-2 t)

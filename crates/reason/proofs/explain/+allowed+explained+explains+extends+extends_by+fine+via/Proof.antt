@@ -3,24 +3,24 @@ use Prim.Native.Nat.{ℕ, suc, _+_, _*_, _-_, _<_}
 use mathlib.Core.Path.{_≡_, refl, sym, ap, _∙_, subst}
 use mathlib.Core.List.{List}
 use native.Mathlib.Omega.{arith}
-use lib.ListN.{length}
+use lib.ListN.{length, getD}
 use borrow.Author.Count.{below-more}
 use borrow.Author.Needs.{needs}
 use borrow.Author.Tests.{not-true, not-false}
 use Rattle.state.specs.Syntax.{Node, Theory}
-use Rattle.state.specs.State.{State, meaning}
+use Rattle.state.specs.State.{State, meaning, belief}
 use Rattle.state.specs.Table.{Below, Above}
 use Rattle.chart.specs.Call.{workRoom}
 use Rattle.change.specs.Happening.{Plays}
 use Rattle.change.proofs.Changing.{small}
 use Rattle.explanation.specs.Ending.{Explained, utilityTo}
-use Rattle.explanation.specs.Inner.Lists.{slotTable, AboveBy}
+use Rattle.explanation.specs.Inner.Lists.{counted, slotTable, AboveBy}
 use Rattle.explanation.specs.Inner.Lists as inner
 use Rattle.explanation.specs.Inner.Memory.{Memory}
 use Rattle.explanation.specs.Inner.Explain.{Stage, Free}
 use Rattle.explanation.proofs.Remembering.{memory-fewer}
 use Rattle.reason.proofs.Looking.{below-far, stage-trying, stage-skipped}
-use Rattle.explanation.proofs.Telling.{Content, told-none, told-by, told-no, told-yes, stage-same, stage-setting, stage-rules, stage-utility, nextTable, next-plays, next-stage, reach-here, reach-no-more, by-hopeless, by-from, by-to, explained-from, explained-to, explained-zero, explained-plays, agreed-all, content-of, content-more, one-less, stage-row, stage-believed, consentersOf, consent-place, consent-readable, consent-count, consent-each, slot-stage, slot-same, stage-before, known, note, verdict, extended, noted}
+use Rattle.explanation.proofs.Telling.{Content, told-none, told-by, told-no, told-yes, stage-rules, stage-utility, nextTable, next-plays, next-stage, reach-here, reach-no-more, by-hopeless, by-from, by-to, explained-from, explained-to, explained-zero, explained-plays, agreed-all, content-of, content-more, one-less, stage-row, stage-believed, consentersOf, consent-place, consent-readable, consent-count, consent-each, slot-stage, slot-same, stage-before, known, note, verdict, extended, noted}
 use borrow.Fn.Kinds.{In}
 use borrow.Fn.PlainCycle.{Measures, is, falls, and}
 use Rattle.reason.proofs.explain.allowed.Reads as allowed
@@ -61,13 +61,13 @@ use Rattle.reason.proofs.explain.+allowed+explained+explains+extends+ex
 }
 
 abbrev μ-allowed : Measures 3 allowed-kinds.ps ℕ
-μ-allowed κs a = 1000 * a .1 .1 .1 .1 .1 .1 .1 .1 .1 .0 .0 + 3
+μ-allowed κs a = 1000 * a .1 .1 .1 .1 .1 .1 .1 .0 .0 + 3
 
 abbrev μ-explained : Measures 3 explained-kinds.ps ℕ
-μ-explained κs a = 1000 * a .1 .1 .1 .1 .1 .1 .1 .1 .1 .0 .0 + 1
+μ-explained κs a = 1000 * a .1 .1 .1 .1 .1 .1 .1 .0 .0 + 1
 
 abbrev μ-explains : Measures 3 explains-kinds.ps ℕ
-μ-explains κs a = 1000 * a .1 .1 .1 .1 .1 .1 .1 .1 .1 .0 .0
+μ-explains κs a = 1000 * a .1 .1 .1 .1 .1 .1 .1 .0 .0
 
 abbrev μ-extends : Measures 3 extends-kinds.ps ℕ
 μ-extends κs a = 1000 * a .1 .1 .1 .1 .1 .1 .0 .0 + 3 + 3 * a .1 .1 .1 .1 .1 .1 .1 .1 .0
@@ -76,7 +76,7 @@ abbrev μ-extends-by : Measures 3 extends-by-kinds.ps ℕ
 μ-extends-by κs a = 1000 * a .1 .1 .1 .1 .1 .1 .0 .0 + 5 + 3 * a .1 .1 .1 .1 .1 .1 .1 .1 .0
 
 abbrev μ-fine : Measures 3 fine-kinds.ps ℕ
-μ-fine κs a = 1000 * a .1 .1 .1 .1 .1 .1 .1 .1 .1 .1 .0 .0 + 2
+μ-fine κs a = 1000 * a .1 .1 .1 .1 .1 .1 .1 .1 .0 .0 + 2
 
 abbrev μ-via : Measures 3 via-kinds.ps ℕ
 μ-via κs a = 1000 * a .1 .1 .1 .1 .1 .1 .1 .0 .0 + 4 + 3 * a .1 .1 .1 .1 .1 .1 .1 .1 .1 .0
@@ -143,46 +143,47 @@ abbrev extends-by-calls : ℕ → extends-by-lts.Claims
 extends-by-calls t = (next-promising-reads.Asked, next-promising-reads.Learnt, via-below t, via.Post)
 
 abbrev via-calls : ℕ → via-lts.Claims
-via-calls t = (wide-reads.Asked, wide-reads.Learnt, allowed-below t, allowed.Post, known-step-reads.Asked, known-step-reads.Learnt, extends-below t, extends.Post)
+via-calls t = (allowed-below t, allowed.Post, known-step-reads.Asked, known-step-reads.Learnt, extends-below t, extends.Post)
 
 abbrev allowed-Inv-loop : allowed-lts.InvT-loop
-allowed-Inv-loop pack places p work₀ t root slot who x e k at count i₀ work i = (length work ≡ length work₀) × Below work₀ work slot × Above work₀ work workRoom
-    × ((th : Theory) (T : List Node) → Stage th T pack places p work₀ t slot → Memory th (k .0) p slot work₀ → Memory th (k .0) p slot work × ((j : ℕ) → j < i → Content th (k .0) (e .0) who x (meaning (t .characters) T root) j))
+allowed-Inv-loop pack places p work₀ slot who x e k at count i₀ work i = (length work ≡ length work₀) × Below work₀ work (slot + 961) × Above work₀ work workRoom
+    × ((th : Theory) (T : List Node) → Stage th T pack places p work₀ (slotTable p work₀ slot) (slot + 961) → Memory th (k .0) p (slot + 961) work₀ → Memory th (k .0) p (slot + 961) work × ((j : ℕ) → j < i → Content th (k .0) (e .0) who x (meaning (p .characters) T 0) j))
 
 abbrev allowed-μ-loop : allowed-lts.MeasureT-loop
-allowed-μ-loop pack places p work₀ t root slot who x e k at count i₀ work i = count - i
+allowed-μ-loop pack places p work₀ slot who x e k at count i₀ work i = count - i
 
 allowed-mul-at : (t : ℕ) → allowed-lts.Need-mul-at (allowed-calls t) (allowed-at t) allowed.Post allowed-Inv-loop allowed-μ-loop
-allowed-mul-at t c = let (th, (T, (y, mem))) = c .before .before .before .pre .1 .0 in omega (arith, consent-place y _ (c .before .before .before .pre .1 .2))
+allowed-mul-at t c = let (th, (T, (y, mem))) = c .before .before .before .pre .1 .0 in omega (arith, consent-place y _ (c .before .before .before .pre .1 .1))
 
 allowed-add-at : (t : ℕ) → allowed-lts.Need-add-at (allowed-calls t) (allowed-at t) allowed.Post allowed-Inv-loop allowed-μ-loop
-allowed-add-at t c = let (th, (T, (y, mem))) = c .before .before .before .pre .1 .0 in omega (arith, consent-place y _ (c .before .before .before .pre .1 .2))
+allowed-add-at t c = let (th, (T, (y, mem))) = c .before .before .before .pre .1 .0 in omega (arith, consent-place y _ (c .before .before .before .pre .1 .1))
 
 allowed-mul-at-2 : (t : ℕ) → allowed-lts.Need-mul-at-2 (allowed-calls t) (allowed-at t) allowed.Post allowed-Inv-loop allowed-μ-loop
-allowed-mul-at-2 t c = let (th, (T, (y, mem))) = c .before .before .before .pre .1 .0 in omega (arith, consent-place y _ (c .before .before .before .pre .1 .2))
+allowed-mul-at-2 t c = let (th, (T, (y, mem))) = c .before .before .before .pre .1 .0 in omega (arith, consent-place y _ (c .before .before .before .pre .1 .1))
 
 allowed-shared-slice-read-at : (t : ℕ) → allowed-lts.Need-shared-slice-read-at (allowed-calls t) (allowed-at t) allowed.Post allowed-Inv-loop allowed-μ-loop
-allowed-shared-slice-read-at t c = let (th, (T, (y, mem))) = c .before .before .before .before .pre .1 .0 in omega (arith, consent-place y _ (c .before .before .before .before .pre .1 .2))
+allowed-shared-slice-read-at t c = let (th, (T, (y, mem))) = c .before .before .before .before .pre .1 .0 in omega (arith, consent-place y _ (c .before .before .before .before .pre .1 .1))
 
 allowed-cast-at : (t : ℕ) → allowed-lts.Need-cast-at (allowed-calls t) (allowed-at t) allowed.Post allowed-Inv-loop allowed-μ-loop
 allowed-cast-at t c = omega (arith, c .shared-slice-known3 .given (9 * c .before .before .before .before .args .x + 2))
 
 allowed-consenters-requires : (t : ℕ) → allowed-lts.Need-consenters-requires (allowed-calls t) (allowed-at t) allowed.Post allowed-Inv-loop allowed-μ-loop
-allowed-consenters-requires t c κs = let (th, (T, (y, mem))) = c .before .before .before .before .pre .1 .0 in consent-readable y _ (c .before .before .before .before .pre .1 .2)
+allowed-consenters-requires t c κs = let (th, (T, (y, mem))) = c .before .before .before .before .pre .1 .0 in consent-readable y _ (c .before .before .before .before .pre .1 .1)
 
 allowed-loop-holds : (t : ℕ) → allowed-lts.Need-loop-holds (allowed-calls t) (allowed-at t) allowed.Post allowed-Inv-loop allowed-μ-loop
 allowed-loop-holds t c = (refl, λ q l. refl, λ q l. refl, λ th T y mem. (mem, λ j l. absurd (omega arith)))
 
 allowed-consenter-requires : (t : ℕ) → allowed-lts.Need-consenter-requires (allowed-calls t) (allowed-at t) allowed.Post allowed-Inv-loop allowed-μ-loop
-allowed-consenter-requires t c κs = let (th, (T, (y, mem))) = c .before .before .before .before .before .before .before .pre .1 .0 in (consent-readable y _ (c .before .before .before .before .before .before .before .pre .1 .2), omega (arith, c .loop-test .taken, consent-count y _ (c .before .before .before .before .before .before .before .pre .1 .2) (c .before .before .consenters .ensures)))
+allowed-consenter-requires t c κs = let (th, (T, (y, mem))) = c .before .before .before .before .before .before .before .pre .1 .0 in (consent-readable y _ (c .before .before .before .before .before .before .before .pre .1 .1), omega (arith, c .loop-test .taken, consent-count y _ (c .before .before .before .before .before .before .before .pre .1 .1) (c .before .before .consenters .ensures)))
 
 allowed-fine-requires : (t : ℕ) → allowed-lts.Need-fine-requires (allowed-calls t) (allowed-at t) allowed.Post allowed-Inv-loop allowed-μ-loop
 allowed-fine-requires t c κs = let (m, P) = c .before .before .before .before .before .before .before .before .before .pre in
+    let a = c .before .before .before .before .before .before .before .before .before .args in
     let (th, (T, (y, mem))) = P .0 in
     let (long, low, high, rest) = c .before .before .before .loop .inv in
-    let count = consent-count y _ (P .2) (c .before .before .before .before .consenters .ensures) in
-    let d = consent-each y _ (P .2) {i = c .before .before .before .loop .i} (omega (arith, count, c .before .before .loop-test .taken)) (c .before .consenter .ensures) in
-    (omega (arith, m), ((th, (T, (stage-same y low long, rest th T y mem .0))), P .1, d .1, P .2, P .3, P .4, P .5))
+    let count = consent-count y _ (P .1) (c .before .before .before .before .consenters .ensures) in
+    let d = consent-each y _ (P .1) {i = c .before .before .before .loop .i} (omega (arith, count, c .before .before .loop-test .taken)) (c .before .consenter .ensures) in
+    (omega (arith, m), ((th, (T, (slot-same (a .slot) y low long, rest th T y mem .0))), d .1, P .1, P .2, P .3, P .4))
 
 allowed-same-length : (t : ℕ) → allowed-lts.Need-same-length (allowed-calls t) (allowed-at t) allowed.Post allowed-Inv-loop allowed-μ-loop
 allowed-same-length t c = c .before .before .before .fine .kept .1 .1 .1 .0 ∙ c .before .before .before .before .before .before .before .loop .inv .0
@@ -194,12 +195,12 @@ allowed-returns t c = let P = c .before .before .before .before .before .before 
     let f = c .before .before .before .fine in
     let i = c .before .before .before .before .before .before .before .loop .i in
     λ th T y mem.
-    let told = f .ensures th T (stage-same y low long) (rest th T y mem .0) in
-    let count = consent-count y _ (P .2) (c .before .before .before .before .before .before .before .before .consenters .ensures) in
-    let li : i < length (consentersOf y _ (P .2)) = omega (arith, count, c .before .before .before .before .before .before .loop-test .taken) in
-    let d = consent-each y _ (P .2) li (c .before .before .before .before .before .consenter .ensures) in
+    let told = f .ensures th T (slot-same (a .slot) y low long) (rest th T y mem .0) in
+    let count = consent-count y _ (P .1) (c .before .before .before .before .before .before .before .before .consenters .ensures) in
+    let li : i < length (consentersOf y _ (P .1)) = omega (arith, count, c .before .before .before .before .before .before .loop-test .taken) in
+    let d = consent-each y _ (P .1) li (c .before .before .before .before .before .consenter .ensures) in
     told-no (λ q l. told .low q l ∙ low q l) (λ q l. told .high q l ∙ high q l) (told .memory)
-    (λ agreed. told .complete (not-true (f .result) (c .if1 .taken)) (content-of th (a .k .0) (a .e .0) (a .who) (a .x) (meaning (a .t .characters) T (a .root)) agreed li (d .0)))
+    (λ agreed. told .complete (not-true (f .result) (c .if1 .taken)) (content-of th (a .k .0) (a .e .0) (a .who) (a .x) (meaning (a .p .characters) T 0) agreed li (d .0)))
 
 allowed-add-i : (t : ℕ) → allowed-lts.Need-add-i (allowed-calls t) (allowed-at t) allowed.Post allowed-Inv-loop allowed-μ-loop
 allowed-add-i t c = search needs
@@ -213,16 +214,16 @@ allowed-loop-again t c = let P = c .before .before .before .before .before .befo
     let (long, low, high, rest) = c .before .before .before .before .before .before .before .loop .inv in
     let f = c .before .before .before .fine in
     let (th, (T, (y, mem))) = P .0 in
-    let told = f .ensures th T (stage-same y low long) (rest th T y mem .0) in (
+    let told = f .ensures th T (slot-same (a .slot) y low long) (rest th T y mem .0) in (
       f .kept .1 .1 .1 .0 ∙ long,
       λ q l. told .low q l ∙ low q l,
       λ q l. told .high q l ∙ high q l,
       λ th T y mem.
-          let told = f .ensures th T (stage-same y low long) (rest th T y mem .0) in
-          let count = consent-count y _ (P .2) (c .before .before .before .before .before .before .before .before .consenters .ensures) in
-          let li : c .before .before .before .before .before .before .before .loop .i < length (consentersOf y _ (P .2)) = omega (arith, count, c .before .before .before .before .before .before .loop-test .taken) in
-          let d = consent-each y _ (P .2) li (c .before .before .before .before .before .consenter .ensures) in
-          (told .memory, content-more th (a .k .0) (a .e .0) (a .who) (a .x) (meaning (a .t .characters) T (a .root)) (rest th T y mem .1) (d .0) (told .sound (not-false (f .result) (c .if1 .left)))),
+          let told = f .ensures th T (slot-same (a .slot) y low long) (rest th T y mem .0) in
+          let count = consent-count y _ (P .1) (c .before .before .before .before .before .before .before .before .consenters .ensures) in
+          let li : c .before .before .before .before .before .before .before .loop .i < length (consentersOf y _ (P .1)) = omega (arith, count, c .before .before .before .before .before .before .loop-test .taken) in
+          let d = consent-each y _ (P .1) li (c .before .before .before .before .before .consenter .ensures) in
+          (told .memory, content-more th (a .k .0) (a .e .0) (a .who) (a .x) (meaning (a .p .characters) T 0) (rest th T y mem .1) (d .0) (told .sound (not-false (f .result) (c .if1 .left)))),
     )
 
 allowed-same-length-2 : (t : ℕ) → allowed-lts.Need-same-length-2 (allowed-calls t) (allowed-at t) allowed.Post allowed-Inv-loop allowed-μ-loop
@@ -232,15 +233,15 @@ allowed-returns-2 : (t : ℕ) → allowed-lts.Need-returns-2 (allowed-calls t) (
 allowed-returns-2 t c = let P = c .before .before .before .before .before .before .before .pre .1 in
     let a = c .before .before .before .before .before .before .before .args in
     let (long, low, high, rest) = c .before .loop .inv in
-    λ th T y mem. let count = consent-count y _ (P .2) (c .before .before .consenters .ensures) in told-yes low high (rest th T y mem .0) (agreed-all th (a .k .0) (a .e .0) (a .who) (a .x) (meaning (a .t .characters) T (a .root)) {n = c .before .loop .i} (omega (arith, count, c .loop-test .left)) (rest th T y mem .1))
+    λ th T y mem. let count = consent-count y _ (P .1) (c .before .before .consenters .ensures) in told-yes low high (rest th T y mem .0) (agreed-all th (a .k .0) (a .e .0) (a .who) (a .x) (meaning (a .p .characters) T 0) {n = c .before .loop .i} (omega (arith, count, c .loop-test .left)) (rest th T y mem .1))
 
 explained-returns : (t : ℕ) → explained-lts.Need-returns (explained-calls t) (explained-at t) explained.Post
 explained-returns t c = let a = c .before .before .before .before .before .args in
     let none : 0 ≡ a .e .0 = omega (arith, c .if1 .taken) in
-    λ th T y mem. told-none _ mem (λ z. explained-zero th (a .k .0) (a .c) (a .a) (meaning (a .t .characters) T (a .root)) (subst (λ (e : ℕ). Explained th (a .k .0) e (a .c) (a .a) (meaning (a .t .characters) T (a .root))) (sym none) z))
+    λ th T y mem. told-none _ mem (λ z. explained-zero th (a .k .0) (a .c) (a .a) (meaning (a .p .characters) T 0) (subst (λ (e : ℕ). Explained th (a .k .0) e (a .c) (a .a) (meaning (a .p .characters) T 0)) (sym none) z))
 
 explained-recall-requires : (t : ℕ) → explained-lts.Need-recall-requires (explained-calls t) (explained-at t) explained.Post
-explained-recall-requires t c κs = let P = c .before .before .before .before .before .before .pre .1 in let (th, (T, (y, mem))) = P .0 in stage-before y (omega (arith, P .6))
+explained-recall-requires t c κs = let P = c .before .before .before .before .before .before .pre .1 in let (th, (T, (y, mem))) = P .0 in stage-before y (omega (arith, P .5))
 
 explained-same-length : (t : ℕ) → explained-lts.Need-same-length (explained-calls t) (explained-at t) explained.Post
 explained-same-length t c = search needs
@@ -250,8 +251,8 @@ explained-returns-2 t c = let P = c .before .before .before .before .before .bef
     let a = c .before .before .before .before .before .before .before .before .before .before .args in
     let r = c .before .before .before .recall in
     λ th T y mem.
-    let (m, fact) = (r .ensures .told th (a .k .0) (a .slot) (omega (arith, P .6)) (y .slotted) mem) in
-    told-no (λ q l. r .ensures .only .low q (omega (arith, l, P .6))) (r .ensures .only .high) m (known y fact .unexplained (c .if2 .taken))
+    let (m, fact) = (r .ensures .told th (a .k .0) (a .slot + 961) (omega (arith, P .5)) (y .slotted) mem) in
+    told-no (λ q l. r .ensures .only .low q (omega (arith, l, P .5))) (r .ensures .only .high) m (known y fact .unexplained (c .if2 .taken))
 
 explained-same-length-2 : (t : ℕ) → explained-lts.Need-same-length-2 (explained-calls t) (explained-at t) explained.Post
 explained-same-length-2 t c = search needs
@@ -261,15 +262,15 @@ explained-returns-3 t c = let P = c .before .before .before .before .before .bef
     let a = c .before .before .before .before .before .before .before .before .before .before .before .args in
     let r = c .before .before .before .before .recall in
     λ th T y mem.
-    let (m, fact) = (r .ensures .told th (a .k .0) (a .slot) (omega (arith, P .6)) (y .slotted) mem) in
-    told-yes (λ q l. r .ensures .only .low q (omega (arith, l, P .6))) (r .ensures .only .high) m (known y fact .explained (c .if3 .taken))
+    let (m, fact) = (r .ensures .told th (a .k .0) (a .slot + 961) (omega (arith, P .5)) (y .slotted) mem) in
+    told-yes (λ q l. r .ensures .only .low q (omega (arith, l, P .5))) (r .ensures .only .high) m (known y fact .explained (c .if3 .taken))
 
 explained-explains-requires : (t : ℕ) → explained-lts.Need-explains-requires (explained-calls t) (explained-at t) explained.Post
 explained-explains-requires t c κs = let (m, P) = c .before .before .before .before .before .before .before .before .before .before .before .before .pre in
     let a = c .before .before .before .before .before .before .before .before .before .before .before .before .args in
     let (th, (T, (y, mem))) = P .0 in
     let r = c .before .before .before .before .before .recall in
-    (omega (arith, m), ((th, (T, (stage-same y (λ q l. r .ensures .only .low q (omega (arith, l, P .6))) (r .kept .0), (r .ensures .told th (a .k .0) (a .slot) (omega (arith, P .6)) (y .slotted) mem) .0))), P .1, P .2, P .3, P .4, P .5, P .6, omega (arith, c .before .before .before .before .before .before .before .if1 .left)))
+    (omega (arith, m), ((th, (T, (slot-same (a .slot) y (λ q l. r .ensures .only .low q (omega (arith, l, P .5))) (r .kept .0), (r .ensures .told th (a .k .0) (a .slot + 961) (omega (arith, P .5)) (y .slotted) mem) .0))), P .1, P .2, P .3, P .4, P .5, omega (arith, c .before .before .before .before .before .before .before .if1 .left)))
 
 explained-mark-requires : (t : ℕ) → explained-lts.Need-mark-requires (explained-calls t) (explained-at t) explained.Post
 explained-mark-requires t c κs = search needs
@@ -283,9 +284,9 @@ explained-remember-requires t c κs = let P = c .before .before .before .before 
     let (th, (T, (y, mem))) = P .0 in
     let r = c .before .before .before .before .before .before .before .before .before .before .recall in
     let x = c .before .before .before .before .explains in
-    let told = x .ensures th T (stage-same y {now = r .last .0} (λ q l. r .ensures .only .low q (omega (arith, l, P .6))) (r .kept .0)) ((r .ensures .told th (a .k .0) (a .slot) (omega (arith, P .6)) (y .slotted) mem) .0) in
-    let z = stage-same (stage-same y {now = r .last .0} (λ q l. r .ensures .only .low q (omega (arith, l, P .6))) (r .kept .0)) (told .low) (x .kept .1 .1 .1 .0) in
-    stage-before z (omega (arith, P .6))
+    let told = x .ensures th T (slot-same {now = r .last .0} (a .slot) y (λ q l. r .ensures .only .low q (omega (arith, l, P .5))) (r .kept .0)) ((r .ensures .told th (a .k .0) (a .slot + 961) (omega (arith, P .5)) (y .slotted) mem) .0) in
+    let z = slot-same (a .slot) (slot-same {now = r .last .0} (a .slot) y (λ q l. r .ensures .only .low q (omega (arith, l, P .5))) (r .kept .0)) (told .low) (x .kept .1 .1 .1 .0) in
+    stage-before z (omega (arith, P .5))
 
 explained-same-length-3 : (t : ℕ) → explained-lts.Need-same-length-3 (explained-calls t) (explained-at t) explained.Post
 explained-same-length-3 t c = c .before .before .remember .kept .0 ∙ c .before .before .before .before .before .before .before .explains .kept .1 .1 .1 .0 ∙ c .before .before .before .before .before .before .before .before .before .before .before .before .before .recall .kept .0
@@ -297,114 +298,136 @@ explained-returns-4 t c = let P = c .before .before .before .before .before .bef
     let rem = c .before .before .remember .ensures in
     λ th T y mem.
     let x = c .before .before .before .before .before .before .before .explains in
-    let told = x .ensures th T (stage-same y {now = r .last .0} (λ q l. r .ensures .only .low q (omega (arith, l, P .6))) (r .kept .0)) ((r .ensures .told th (a .k .0) (a .slot) (omega (arith, P .6)) (y .slotted) mem) .0) in
-    let z = stage-same (stage-same y {now = r .last .0} (λ q l. r .ensures .only .low q (omega (arith, l, P .6))) (r .kept .0)) (told .low) (x .kept .1 .1 .1 .0) in
+    let told = x .ensures th T (slot-same {now = r .last .0} (a .slot) y (λ q l. r .ensures .only .low q (omega (arith, l, P .5))) (r .kept .0)) ((r .ensures .told th (a .k .0) (a .slot + 961) (omega (arith, P .5)) (y .slotted) mem) .0) in
+    let z = slot-same (a .slot) (slot-same {now = r .last .0} (a .slot) y (λ q l. r .ensures .only .low q (omega (arith, l, P .5))) (r .kept .0)) (told .low) (x .kept .1 .1 .1 .0) in
     record {
       sound = told .sound;
       complete = told .complete;
-      low = λ q l. rem .only .low q (omega (arith, l, P .6)) ∙ told .low q l ∙ r .ensures .only .low q (omega (arith, l, P .6));
+      low = λ q l. rem .only .low q (omega (arith, l, P .5)) ∙ told .low q l ∙ r .ensures .only .low q (omega (arith, l, P .5));
       high = λ q l. rem .only .high q l ∙ told .high q l ∙ r .ensures .only .high q l;
-      memory = rem .memory th (a .k .0) (a .slot) (omega (arith, P .6)) (z .slotted) (told .memory) (note z (verdict th (a .k .0) (record { who = a .c; nesting = a .e .0; left = a .a; base = a .root }) (λ (root : ℕ). meaning (a .t .characters) T root) (told .sound) (told .complete) (c .before .before .before .mark .ensures)));
+      memory = rem .memory th (a .k .0) (a .slot + 961) (omega (arith, P .5)) (z .slotted) (told .memory) (note z (verdict th (a .k .0) (record { who = a .c; nesting = a .e .0; left = a .a; base = 0 }) (λ (root : ℕ). meaning (a .p .characters) T root) (told .sound) (told .complete) (c .before .before .before .mark .ensures)));
     }
 
-explains-mul-wide : (t : ℕ) → explains-lts.Need-mul-wide (explains-calls t) (explains-at t) explains.Post
-explains-mul-wide t c = let (th, (T, (y, mem))) = c .before .before .before .before .pre .1 .0 in omega (arith, stage-row y _ _ (c .before .before .before .before .pre .1 .1) (c .before .before .before .before .pre .1 .2), c .before .before .before .before .pre .1 .6)
-
 explains-add-wide : (t : ℕ) → explains-lts.Need-add-wide (explains-calls t) (explains-at t) explains.Post
-explains-add-wide t c = let (th, (T, (y, mem))) = c .before .before .before .before .before .pre .1 .0 in omega (arith, stage-row y _ _ (c .before .before .before .before .before .pre .1 .1) (c .before .before .before .before .before .pre .1 .2), c .before .before .before .before .before .pre .1 .6)
+explains-add-wide t c = let (th, (T, (y, mem))) = c .before .before .before .pre .1 .0 in omega (arith, stage-row y 0 _ (y .tabled .some) (c .before .before .before .pre .1 .1), c .before .before .before .pre .1 .5)
 
 explains-add-wide-2 : (t : ℕ) → explains-lts.Need-add-wide-2 (explains-calls t) (explains-at t) explains.Post
-explains-add-wide-2 t c = let (th, (T, (y, mem))) = c .before .before .before .before .before .before .pre .1 .0 in omega (arith, stage-row y _ _ (c .before .before .before .before .before .before .pre .1 .1) (c .before .before .before .before .before .before .pre .1 .2), c .before .before .before .before .before .before .pre .1 .6)
+explains-add-wide-2 t c = let (th, (T, (y, mem))) = c .before .before .before .before .pre .1 .0 in omega (arith, stage-row y 0 _ (y .tabled .some) (c .before .before .before .before .pre .1 .1), c .before .before .before .before .pre .1 .5)
 
 explains-add-wide-3 : (t : ℕ) → explains-lts.Need-add-wide-3 (explains-calls t) (explains-at t) explains.Post
-explains-add-wide-3 t c = let (th, (T, (y, mem))) = c .before .before .before .before .before .before .pre .1 .0 in omega (arith, stage-row y _ _ (c .before .before .before .before .before .before .pre .1 .1) (c .before .before .before .before .before .before .pre .1 .2), c .before .before .before .before .before .before .pre .1 .6)
+explains-add-wide-3 t c = let (th, (T, (y, mem))) = c .before .before .before .before .pre .1 .0 in omega (arith, stage-row y 0 _ (y .tabled .some) (c .before .before .before .before .pre .1 .1), c .before .before .before .before .pre .1 .5)
 
 explains-slice-read-wide : (t : ℕ) → explains-lts.Need-slice-read-wide (explains-calls t) (explains-at t) explains.Post
-explains-slice-read-wide t c = let (th, (T, (y, mem))) = c .before .before .before .before .before .before .before .pre .1 .0 in let (low, there) = stage-row y _ _ (c .before .before .before .before .before .before .before .pre .1 .1) (c .before .before .before .before .before .before .before .pre .1 .2) in omega (arith, low, there (omega (arith, c .before .before .before .before .before .before .before .pre .1 .6)))
+explains-slice-read-wide t c = let (th, (T, (y, mem))) = c .before .before .before .before .before .pre .1 .0 in let (low, there) = stage-row y 0 _ (y .tabled .some) (c .before .before .before .before .before .pre .1 .1) in omega (arith, low, there (omega (arith, c .before .before .before .before .before .pre .1 .5)))
 
 explains-wide-requires : (t : ℕ) → explains-lts.Need-wide-requires (explains-calls t) (explains-at t) explains.Post
 explains-wide-requires t c κs = search needs
 
+-- the row of what c believes
+explains-believed : (t : ℕ) (c : explains-lts.After-wide (explains-calls t) (explains-at t) explains.Post) {th : Theory} {T : List Node} → let a = c .before .before .before .before .before .before .args in Stage th T (a .pack .now) (a .places .now) (a .p) (a .work .now) (slotTable (a .p) (a .work .now) (a .slot)) (a .slot + 961) → (belief (meaning (a .p .characters) T 0) (a .c) ≡ meaning (a .p .characters) T (c .wide .result)) × (c .wide .result < getD (a .work .now) (a .slot) 0)
+explains-believed t c y = let a = c .before .before .before .before .before .before .args in stage-believed y 0 (a .c) (y .tabled .some) (c .before .before .before .before .before .before .pre .1 .1) (ap (λ (q : ℕ). getD (a .work .now) q 0) (omega arith) ∙ c .wide .ensures)
+
 explains-known-step-requires : (t : ℕ) → explains-lts.Need-known-step-requires (explains-calls t) (explains-at t) explains.Post
-explains-known-step-requires t c κs = let P = c .before .before .before .before .before .before .before .before .before .pre .1 in
-    let a = c .before .before .before .before .before .before .before .before .before .args in
+explains-known-step-requires t c κs = let P = c .before .before .before .before .before .before .before .pre .1 in
+    let a = c .before .before .before .before .before .before .before .args in
     let (th, (T, (y, mem))) = P .0 in
-    let less = one-less (a .k .0) (a .e .0) (P .7) in
-    (a .k .0, ((th, (T, (y, mem))), P .3, stage-believed y _ _ (P .1) (P .2) (c .before .wide .ensures) .1, omega (arith, P .6, P .4, less)))
+    let less = one-less (a .k .0) (a .e .0) (P .6) in
+    (a .k .0, ((th, (T, (y, mem))), P .2, explains-believed t (c .before) y .1, omega (arith, P .5, P .3, less)))
 
 explains-same-length : (t : ℕ) → explains-lts.Need-same-length (explains-calls t) (explains-at t) explains.Post
 explains-same-length t c = search needs
 
 explains-returns : (t : ℕ) → explains-lts.Need-returns (explains-calls t) (explains-at t) explains.Post
-explains-returns t c = let P = c .before .before .before .before .before .before .before .before .before .before .before .before .before .pre .1 in
-    let a = c .before .before .before .before .before .before .before .before .before .before .before .before .before .args in
+explains-returns t c = let a = c .before .before .before .before .before .before .before .before .before .before .before .args in
     λ th T y mem.
-    let (same, inside) = stage-believed y _ _ (P .1) (P .2) (c .before .before .before .before .before .wide .ensures) in
+    let (same, inside) = explains-believed t (c .before .before .before .before .before) y in
     let played = c .before .before .before .known-step .ensures th T (a .k .0) y mem in
-    told-no (played .low) (played .high) (played .memory) (explained-plays th (a .k .0) (a .e .0) (a .c) (a .a) (meaning (a .t .characters) T (a .root)) (λ t q. played .none (c .if1 .taken) t (subst (λ (s : State). Plays th s (a .a) t) same q)))
+    told-no (played .low) (played .high) (played .memory) (explained-plays th (a .k .0) (a .e .0) (a .c) (a .a) (meaning (a .p .characters) T 0) (λ t q. played .none (c .if1 .taken) t (subst (λ (s : State). Plays th s (a .a) t) same q)))
 
 explains-add-utility : (t : ℕ) → explains-lts.Need-add-utility (explains-calls t) (explains-at t) explains.Post
-explains-add-utility t c = let (th, (T, (y, mem))) = c .before .before .before .before .before .before .before .before .before .before .before .before .before .pre .1 .0 in omega (arith, small (y .tabled), c .before .before .before .before .before .before .before .before .before .before .before .before .before .pre .1 .2)
+explains-add-utility t c = omega (arith, c .before .before .before .before .before .before .before .before .before .before .before .pre .1 .5)
+
+explains-slice-read-wide-2 : (t : ℕ) → explains-lts.Need-slice-read-wide-2 (explains-calls t) (explains-at t) explains.Post
+explains-slice-read-wide-2 t c = let (th, (T, (y, mem))) = c .before .before .before .before .before .before .before .before .before .before .before .before .pre .1 .0 in omega (arith, c .before .before .before .before .before .before .before .before .before .before .before .before .pre .1 .5, y .room, c .before .before .before .before .known-step .kept .1 .1 .1 .1 .0)
+
+explains-wide-requires-2 : (t : ℕ) → explains-lts.Need-wide-requires-2 (explains-calls t) (explains-at t) explains.Post
+explains-wide-requires-2 t c κs = search needs
+
+explains-add-utility-2 : (t : ℕ) → explains-lts.Need-add-utility-2 (explains-calls t) (explains-at t) explains.Post
+explains-add-utility-2 t c = let (th, (T, (y, mem))) = c .before .before .before .before .before .before .before .before .before .before .before .before .before .before .pre .1 .0 in omega (arith, small (y .tabled))
+
+explains-add-utility-3 : (t : ℕ) → explains-lts.Need-add-utility-3 (explains-calls t) (explains-at t) explains.Post
+explains-add-utility-3 t c = let (th, (T, (y, mem))) = c .before .before .before .before .before .before .before .before .before .before .before .before .before .before .pre .1 .0 in omega (arith, small (y .tabled), c .before .before .before .before .before .before .before .before .before .before .before .before .before .before .pre .1 .1)
 
 explains-mul-utility : (t : ℕ) → explains-lts.Need-mul-utility (explains-calls t) (explains-at t) explains.Post
-explains-mul-utility t c = let (th, (T, (y, mem))) = c .before .before .before .before .before .before .before .before .before .before .before .before .before .pre .1 .0 in omega (arith, small (y .tabled), c .before .before .before .before .before .before .before .before .before .before .before .before .before .pre .1 .2)
+explains-mul-utility t c = let (th, (T, (y, mem))) = c .before .before .before .before .before .before .before .before .before .before .before .before .before .before .pre .1 .0 in omega (arith, small (y .tabled), c .before .before .before .before .before .before .before .before .before .before .before .before .before .before .pre .1 .1)
 
 explains-shared-slice-read-utility : (t : ℕ) → explains-lts.Need-shared-slice-read-utility (explains-calls t) (explains-at t) explains.Post
-explains-shared-slice-read-utility t c = let (th, (T, (y, mem))) = c .before .before .before .before .before .before .before .before .before .before .before .before .before .before .pre .1 .0 in omega (arith, y .theorized .marked, small (y .tabled), c .before .before .before .before .before .before .before .before .before .before .before .before .before .before .pre .1 .2)
+explains-shared-slice-read-utility t c = let (th, (T, (y, mem))) = c .before .before .before .before .before .before .before .before .before .before .before .before .before .before .before .pre .1 .0 in omega (arith, y .theorized .marked, small (y .tabled), c .before .before .before .before .before .before .before .before .before .before .before .before .before .before .before .pre .1 .1)
 
 explains-cast-utility : (t : ℕ) → explains-lts.Need-cast-utility (explains-calls t) (explains-at t) explains.Post
-explains-cast-utility t c = omega (arith, c .shared-slice-known3 .given (321 + c .before .before .before .before .before .before .before .before .before .before .before .before .before .before .args .c))
+explains-cast-utility t c = omega (arith, c .shared-slice-known3 .given (321 + c .before .before .before .before .before .before .before .before .before .before .before .before .before .before .before .args .c))
+
+-- the table in the slot after the step, its count read
+explains-stays : (t : ℕ) (c : explains-lts.After-wide2 (explains-calls t) (explains-at t) explains.Post) {th : Theory} {T : List Node} → let a = c .before .before .before .before .before .before .before .before .before .before .before .before .before .args in Stage th T (a .pack .now) (a .places .now) (a .p) (a .work .now) (slotTable (a .p) (a .work .now) (a .slot)) (a .slot + 961) → Memory th (a .k .0) (a .p) (a .slot + 961) (a .work .now)
+    → Stage th T (a .pack .now) (a .places .now) (a .p) (c .before .before .before .before .before .known-step .last .1 .1 .1 .1 .0) (counted (a .p) (a .slot) (c .wide2 .result)) (a .slot + 961) × (c .before .before .before .before .before .before .before .wide .result < c .wide2 .result)
+explains-stays t c {th} {T} y mem =
+    let a = c .before .before .before .before .before .before .before .before .before .before .before .before .before .args in
+    let s = c .before .before .before .before .before .known-step in
+    let low = s .ensures th T (a .k .0) y mem .low in
+    (slot-stage (a .p) (s .last .1 .1 .1 .1 .0) (a .slot) (c .wide2 .ensures) (slot-same (a .slot) y low (s .kept .1 .1 .1 .1 .0)), omega (arith, explains-believed t (c .before .before .before .before .before .before .before) y .1, low (a .slot) (omega arith), c .wide2 .ensures))
 
 explains-utility-requires : (t : ℕ) → explains-lts.Need-utility-requires (explains-calls t) (explains-at t) explains.Post
-explains-utility-requires t c κs = let P = c .before .before .before .before .before .before .before .before .before .before .before .before .before .before .before .pre .1 in
-    let a = c .before .before .before .before .before .before .before .before .before .before .before .before .before .before .before .args in
+explains-utility-requires t c κs = let P = c .before .before .before .before .before .before .before .before .before .before .before .before .before .before .before .before .pre .1 in
     let (th, (T, (y, mem))) = P .0 in
-    let s = c .before .before .before .before .before .known-step in
-    let (same, inside) = stage-believed y _ _ (P .1) (P .2) (c .before .before .before .before .before .before .before .wide .ensures) in
-    stage-rules (stage-same y (s .ensures th T (a .k .0) y mem .low) (s .kept .1 .1 .1 .1 .0)) _ _ (P .2) inside .0
+    let (z, inside) = explains-stays t (c .before .before .before) y mem in
+    stage-rules z _ _ (P .1) inside .0
 
-explains-sub-t18 : (t : ℕ) → explains-lts.Need-sub-t18 (explains-calls t) (explains-at t) explains.Post
-explains-sub-t18 t c = omega (arith, c .before .before .before .before .before .before .before .before .before .before .before .before .before .before .before .before .before .before .pre .1 .7)
+explains-add-extends : (t : ℕ) → explains-lts.Need-add-extends (explains-calls t) (explains-at t) explains.Post
+explains-add-extends t c = omega (arith, c .before .before .before .before .before .before .before .before .before .before .before .before .before .before .before .before .before .before .pre .1 .5)
+
+explains-sub-t15 : (t : ℕ) → explains-lts.Need-sub-t15 (explains-calls t) (explains-at t) explains.Post
+explains-sub-t15 t c = omega (arith, c .before .before .before .before .before .before .before .before .before .before .before .before .before .before .before .before .before .before .before .pre .1 .6)
 
 explains-sub-extends : (t : ℕ) → explains-lts.Need-sub-extends (explains-calls t) (explains-at t) explains.Post
-explains-sub-extends t c = omega (arith, c .before .before .before .before .before .before .before .before .before .before .before .before .before .before .before .before .before .before .before .pre .1 .4)
+explains-sub-extends t c = omega (arith, c .before .before .before .before .before .before .before .before .before .before .before .before .before .before .before .before .before .before .before .before .pre .1 .3)
 
 explains-extends-requires : (t : ℕ) → explains-lts.Need-extends-requires (explains-calls t) (explains-at t) explains.Post
-explains-extends-requires t c κs = let (m, P) = c .before .before .before .before .before .before .before .before .before .before .before .before .before .before .before .before .before .before .before .pre in
-    let a = c .before .before .before .before .before .before .before .before .before .before .before .before .before .before .before .before .before .before .before .args in
+explains-extends-requires t c κs = let (m, P) = c .before .before .before .before .before .before .before .before .before .before .before .before .before .before .before .before .before .before .before .before .pre in
+    let a = c .before .before .before .before .before .before .before .before .before .before .before .before .before .before .before .before .before .before .before .before .args in
     let (th, (T, (y, mem))) = P .0 in
-    let s = c .before .before .before .before .before .before .before .before .before .known-step in
-    let less = one-less (a .k .0) (a .e .0) (P .7) in
-    let f : Free (a .slot) 1 = omega (arith, P .6, P .4, less) in
-    let played = s .ensures th T (a .k .0) y mem in
-    let long = s .kept .1 .1 .1 .1 .0 in
-    let zero : s .result ≡ 0 = omega (arith, c .before .before .before .before .before .before .if1 .left) in
-    (omega (arith, m, P .5, P .7), ((th, (nextTable y _ played f long zero, (next-stage y _ played f long zero, played .further zero))), omega (arith, P .2, y .same-characters), P .4, P .5, omega (arith, P .6, P .4, less)))
-
-explains-same-length-2 : (t : ℕ) → explains-lts.Need-same-length-2 (explains-calls t) (explains-at t) explains.Post
-explains-same-length-2 t c = c .before .before .extends .kept .1 .1 .1 .0 ∙ c .before .before .before .before .before .before .before .before .before .before .before .before .known-step .kept .1 .1 .1 .1 .0
-
-explains-returns-2 : (t : ℕ) → explains-lts.Need-returns-2 (explains-calls t) (explains-at t) explains.Post
-explains-returns-2 t c = let P = c .before .before .before .before .before .before .before .before .before .before .before .before .before .before .before .before .before .before .before .before .before .before .pre .1 in
-    let a = c .before .before .before .before .before .before .before .before .before .before .before .before .before .before .before .before .before .before .before .before .before .before .args in
     let s = c .before .before .before .before .before .before .before .before .before .before .before .before .known-step in
-    let some : 0 < a .e .0 = P .7 in
-    let less = one-less (a .k .0) (a .e .0) some in
-    let f : Free (a .slot) 1 = omega (arith, P .6, P .4, less) in
+    let less = one-less (a .k .0) (a .e .0) (P .6) in
+    let f : Free (a .slot + 961) 1 = omega (arith, P .5, P .3, less) in
+    let played = s .ensures th T (a .k .0) y mem in
     let long = s .kept .1 .1 .1 .1 .0 in
     let zero : s .result ≡ 0 = omega (arith, c .before .before .before .before .before .before .before .before .before .if1 .left) in
+    (omega (arith, m, P .4, P .6), ((th, (nextTable y _ played f long zero, (next-stage y _ played f long zero, played .further zero))), P .1, P .3, P .4, omega (arith, P .5, P .3, less)))
+
+explains-same-length-2 : (t : ℕ) → explains-lts.Need-same-length-2 (explains-calls t) (explains-at t) explains.Post
+explains-same-length-2 t c = c .before .before .extends .kept .1 .1 .1 .0 ∙ c .before .before .before .before .before .before .before .before .before .before .before .before .before .before .before .known-step .kept .1 .1 .1 .1 .0
+
+explains-returns-2 : (t : ℕ) → explains-lts.Need-returns-2 (explains-calls t) (explains-at t) explains.Post
+explains-returns-2 t c = let P = c .before .before .before .before .before .before .before .before .before .before .before .before .before .before .before .before .before .before .before .before .before .before .before .pre .1 in
+    let a = c .before .before .before .before .before .before .before .before .before .before .before .before .before .before .before .before .before .before .before .before .before .before .before .args in
+    let s = c .before .before .before .before .before .before .before .before .before .before .before .before .before .before .before .known-step in
+    let some : 0 < a .e .0 = P .6 in
+    let less = one-less (a .k .0) (a .e .0) some in
+    let f : Free (a .slot + 961) 1 = omega (arith, P .5, P .3, less) in
+    let long = s .kept .1 .1 .1 .1 .0 in
+    let zero : s .result ≡ 0 = omega (arith, c .before .before .before .before .before .before .before .before .before .before .before .before .if1 .left) in
     let up : suc (a .e .0 - 1) ≡ a .e .0 = omega (arith, some) in
-    let all : suc (a .k .0 - 1) ≡ a .k .0 = omega (arith, P .4) in
+    let all : suc (a .k .0 - 1) ≡ a .k .0 = omega (arith, P .3) in
     λ th T y mem.
-    let (same, inside) = stage-believed y _ _ (P .1) (P .2) (c .before .before .before .before .before .before .before .before .before .before .before .before .before .before .wide .ensures) in
+    let (same, inside) = explains-believed t (c .before .before .before .before .before .before .before .before .before .before .before .before .before .before .before .before .before) y in
     let played = s .ensures th T (a .k .0) y mem in
-    let base = stage-utility (stage-same y (played .low) long) (a .c) (c .before .before .before .before .before .before .before .before .before .before .before .before .before .before .wide .result) (P .2) (c .before .before .before .before .before .before .utility .ensures) in
+    let base = stage-utility (explains-stays t (c .before .before .before .before .before .before .before .before .before .before) y mem .0) (a .c) (c .before .before .before .before .before .before .before .before .before .before .before .before .before .before .before .before .before .wide .result) (P .1) (c .before .before .before .before .before .before .utility .ensures) in
     let b = base ∙ ap (utilityTo th (a .c)) (sym same) in
     let plays = subst (λ (s : State). Plays th s (a .a) (meaning (a .p .characters) (nextTable y _ played f long zero) 0)) (sym same) (next-plays y _ played f long zero) in
     let told = c .before .before .extends .ensures th (nextTable y _ played f long zero) (next-stage y _ played f long zero) (played .further zero) in
     told-by (omega arith) (memory-fewer (a .p) (omega arith)) (played .low) (played .high) told
-    (λ z. subst (λ (e : ℕ). Explained th (a .k .0) e (a .c) (a .a) (meaning (a .t .characters) T (a .root))) up (explained-from th (a .k .0) (a .e .0 - 1) (a .c) (a .a) (meaning (a .t .characters) T (a .root)) _ _ b plays (a .k .0 - 1) all z))
-    (λ z. explained-to th (a .k .0) (a .e .0 - 1) (a .c) (a .a) (meaning (a .t .characters) T (a .root)) _ _ b plays (a .k .0 - 1) all (subst (λ (e : ℕ). Explained th (a .k .0) e (a .c) (a .a) (meaning (a .t .characters) T (a .root))) (sym up) z))
+    (λ z. subst (λ (e : ℕ). Explained th (a .k .0) e (a .c) (a .a) (meaning (a .p .characters) T 0)) up (explained-from th (a .k .0) (a .e .0 - 1) (a .c) (a .a) (meaning (a .p .characters) T 0) _ _ b plays (a .k .0 - 1) all z))
+    (λ z. explained-to th (a .k .0) (a .e .0 - 1) (a .c) (a .a) (meaning (a .p .characters) T 0) _ _ b plays (a .k .0 - 1) all (subst (λ (e : ℕ). Explained th (a .k .0) e (a .c) (a .a) (meaning (a .p .characters) T 0)) (sym up) z))
 
 extends-add-if1 : (t : ℕ) → extends-lts.Need-add-if1 (extends-calls t) (extends-at t) extends.Post
 extends-add-if1 t c = omega (arith, c .before .before .before .pre .1 .4)
@@ -456,10 +479,8 @@ extends-returns-2 t c = let P = c .before .before .before .before .before .befor
 
 extends-recall-requires : (t : ℕ) → extends-lts.Need-recall-requires (extends-calls t) (extends-at t) extends.Post
 extends-recall-requires t c κs = let P = c .before .before .before .before .before .before .before .before .before .before .before .before .pre .1 in
-    let a = c .before .before .before .before .before .before .before .before .before .before .before .before .args in
     let (th, (T, (y, mem))) = P .0 in
-    let z = slot-stage (a .p) (a .work .now) (a .slot) (c .before .before .before .before .before .before .before .wide .ensures) y in
-    stage-before z (omega (arith, P .4))
+    stage-before y (omega (arith, P .4))
 
 extends-same-length-3 : (t : ℕ) → extends-lts.Need-same-length-3 (extends-calls t) (extends-at t) extends.Post
 extends-same-length-3 t c = search needs
@@ -469,9 +490,8 @@ extends-returns-3 t c = let P = c .before .before .before .before .before .befor
     let a = c .before .before .before .before .before .before .before .before .before .before .before .before .before .before .before .before .args in
     let r = c .before .before .before .recall in
     λ th T y mem.
-    let z = slot-stage (a .p) (a .work .now) (a .slot) (c .before .before .before .before .before .before .before .before .before .before .before .wide .ensures) y in
-    let (m, fact) = r .ensures .told th (a .k .0) (a .slot + 961) (omega (arith, P .4)) (z .slotted) mem in
-    told-no (λ q l. r .ensures .only .low q (omega (arith, l, P .4))) (r .ensures .only .high) m (known z fact .no (c .if3 .taken))
+    let (m, fact) = r .ensures .told th (a .k .0) (a .slot + 961) (omega (arith, P .4)) (y .slotted) mem in
+    told-no (λ q l. r .ensures .only .low q (omega (arith, l, P .4))) (r .ensures .only .high) m (known y fact .no (c .if3 .taken))
 
 extends-same-length-4 : (t : ℕ) → extends-lts.Need-same-length-4 (extends-calls t) (extends-at t) extends.Post
 extends-same-length-4 t c = search needs
@@ -481,9 +501,8 @@ extends-returns-4 t c = let P = c .before .before .before .before .before .befor
     let a = c .before .before .before .before .before .before .before .before .before .before .before .before .before .before .before .before .before .args in
     let r = c .before .before .before .before .recall in
     λ th T y mem.
-    let z = slot-stage (a .p) (a .work .now) (a .slot) (c .before .before .before .before .before .before .before .before .before .before .before .before .wide .ensures) y in
-    let (m, fact) = r .ensures .told th (a .k .0) (a .slot + 961) (omega (arith, P .4)) (z .slotted) mem in
-    told-yes (λ q l. r .ensures .only .low q (omega (arith, l, P .4))) (r .ensures .only .high) m (known z fact .yes (c .if4 .taken))
+    let (m, fact) = r .ensures .told th (a .k .0) (a .slot + 961) (omega (arith, P .4)) (y .slotted) mem in
+    told-yes (λ q l. r .ensures .only .low q (omega (arith, l, P .4))) (r .ensures .only .high) m (known y fact .yes (c .if4 .taken))
 
 extends-sub-extends-by : (t : ℕ) → extends-lts.Need-sub-extends-by (extends-calls t) (extends-at t) extends.Post
 extends-sub-extends-by t c = omega (arith, c .before .before .before .before .before .before .before .if2 .left)
@@ -493,8 +512,7 @@ extends-extends-by-requires t c κs = let (m, P) = c .before .before .before .be
     let a = c .before .before .before .before .before .before .before .before .before .before .before .before .before .before .before .before .before .before .args in
     let (th, (T, (y, mem))) = P .0 in
     let r = c .before .before .before .before .before .recall in
-    let z = slot-stage (a .p) (a .work .now) (a .slot) (c .before .before .before .before .before .before .before .before .before .before .before .before .before .wide .ensures) y in
-    (omega (arith, m, c .before .before .before .before .before .before .before .if2 .left), ((th, (T, (slot-same (a .slot) y (λ q l. r .ensures .only .low q (omega (arith, l, P .4))) (r .kept .0), r .ensures .told th (a .k .0) (a .slot + 961) (omega (arith, P .4)) (z .slotted) mem .0))), P .1, P .2, P .3, omega (arith, P .4, c .before .before .before .before .before .before .before .if2 .left)))
+    (omega (arith, m, c .before .before .before .before .before .before .before .if2 .left), ((th, (T, (slot-same (a .slot) y (λ q l. r .ensures .only .low q (omega (arith, l, P .4))) (r .kept .0), r .ensures .told th (a .k .0) (a .slot + 961) (omega (arith, P .4)) (y .slotted) mem .0))), P .1, P .2, P .3, omega (arith, P .4, c .before .before .before .before .before .before .before .if2 .left)))
 
 extends-mark-requires : (t : ℕ) → extends-lts.Need-mark-requires (extends-calls t) (extends-at t) extends.Post
 extends-mark-requires t c κs = search needs
@@ -504,10 +522,9 @@ extends-remember-requires t c κs = let P = c .before .before .before .before .b
     let a = c .before .before .before .before .before .before .before .before .before .before .before .before .before .before .before .before .before .before .before .before .before .before .before .args in
     let (th, (T, (y, mem))) = P .0 in
     let r = c .before .before .before .before .before .before .before .before .before .before .recall in
-    let z = slot-stage (a .p) (a .work .now) (a .slot) (c .before .before .before .before .before .before .before .before .before .before .before .before .before .before .before .before .before .before .wide .ensures) y in
     let x = c .before .before .before .before .extends-by in
-    let told = x .ensures th T (slot-same (a .slot) y (λ q l. r .ensures .only .low q (omega (arith, l, P .4))) (r .kept .0)) (r .ensures .told th (a .k .0) (a .slot + 961) (omega (arith, P .4)) (z .slotted) mem .0) in
-    stage-before (stage-same (stage-same z {now = r .last .0} (λ q l. r .ensures .only .low q (omega (arith, l, P .4))) (r .kept .0)) (told .low) (x .kept .1 .1 .1 .0)) (omega (arith, P .4))
+    let told = x .ensures th T (slot-same (a .slot) y (λ q l. r .ensures .only .low q (omega (arith, l, P .4))) (r .kept .0)) (r .ensures .told th (a .k .0) (a .slot + 961) (omega (arith, P .4)) (y .slotted) mem .0) in
+    stage-before (slot-same (a .slot) (slot-same {now = r .last .0} (a .slot) y (λ q l. r .ensures .only .low q (omega (arith, l, P .4))) (r .kept .0)) (told .low) (x .kept .1 .1 .1 .0)) (omega (arith, P .4))
 
 extends-same-length-5 : (t : ℕ) → extends-lts.Need-same-length-5 (extends-calls t) (extends-at t) extends.Post
 extends-same-length-5 t c = c .before .before .remember .kept .0 ∙ c .before .before .before .before .before .before .before .extends-by .kept .1 .1 .1 .0 ∙ c .before .before .before .before .before .before .before .before .before .before .before .before .before .recall .kept .0
@@ -523,10 +540,10 @@ extends-returns-5 t c = let P = c .before .before .before .before .before .befor
     let s = meaning (a .p .characters) T 0 in
     let states : ℕ → State = λ root. meaning (a .p .characters) T root in
     let z = slot-stage (a .p) (a .work .now) (a .slot) (c .before .before .before .before .before .before .before .before .before .before .before .before .before .before .before .before .before .before .before .before .before .wide .ensures) y in
-    let told = x .ensures th T (slot-same (a .slot) y (λ q l. r .ensures .only .low q (omega (arith, l, P .4))) (r .kept .0)) (r .ensures .told th (a .k .0) (a .slot + 961) (omega (arith, P .4)) (z .slotted) mem .0) in
+    let told = x .ensures th T (slot-same (a .slot) y (λ q l. r .ensures .only .low q (omega (arith, l, P .4))) (r .kept .0)) (r .ensures .told th (a .k .0) (a .slot + 961) (omega (arith, P .4)) (y .slotted) mem .0) in
     let here : a .base < utilityTo th (a .c) s → ⊥ = (λ b. omega (arith, stage-utility z (a .c) 0 (P .1) (c .before .before .before .before .before .before .before .before .before .before .before .before .before .before .before .before .before .utility .ensures), c .before .before .before .before .before .before .before .before .before .before .before .before .before .before .before .before .if1 .left, b)) in
     let whole = extended th (a .k .0) (a .e .0) (a .c) (a .base) (a .left) states some here told in
-    let z′ = stage-same (stage-same z {now = r .last .0} (λ q l. r .ensures .only .low q (omega (arith, l, P .4))) (r .kept .0)) (told .low) (x .kept .1 .1 .1 .0) in
+    let z′ = slot-same (a .slot) (slot-same {now = r .last .0} (a .slot) y (λ q l. r .ensures .only .low q (omega (arith, l, P .4))) (r .kept .0)) (told .low) (x .kept .1 .1 .1 .0) in
     record {
       sound = whole .sound;
       complete = whole .complete;
@@ -626,7 +643,7 @@ fine-explained-requires : (t : ℕ) → fine-lts.Need-explained-requires (
   explained-below t,
   explained.Post,
 ) (fine-at t) fine.Post
-fine-explained-requires t c κs = let (m, P) = c .before .before .before .before .before .pre in (omega (arith, m), (P .0, P .1, P .2, P .3, P .4, P .5, P .6))
+fine-explained-requires t c κs = let (m, P) = c .before .before .before .before .before .pre in (omega (arith, m), (P .0, P .1, P .2, P .3, P .4, P .5))
 
 fine-same-length :
     (t : ℕ) → fine-lts.Need-same-length (explained-below t, explained.Post) (fine-at t) fine.Post
@@ -636,77 +653,51 @@ fine-returns-2 :
     (t : ℕ) → fine-lts.Need-returns-2 (explained-below t, explained.Post) (fine-at t) fine.Post
 fine-returns-2 t c = λ th T y mem. told-by (omega arith) (λ m. m) (λ q l. refl) (λ q l. refl) (c .before .before .explained .ensures th T y mem) (λ z o. z) (λ f. f (c .before .before .before .before .if1 .left))
 
-via-add-allowed : (t : ℕ) → via-lts.Need-add-allowed (via-calls t) (via-at t) via.Post
-via-add-allowed t c = omega (arith, c .before .before .before .pre .1 .5)
-
-via-slice-read-wide : (t : ℕ) → via-lts.Need-slice-read-wide (via-calls t) (via-at t) via.Post
-via-slice-read-wide t c = let (th, (T, (y, mem))) = c .before .before .before .before .pre .1 .0 in omega (arith, c .before .before .before .before .pre .1 .5, y .room)
-
-via-wide-requires : (t : ℕ) → via-lts.Need-wide-requires (via-calls t) (via-at t) via.Post
-via-wide-requires t c κs = search needs
-
-via-add-known-step : (t : ℕ) → via-lts.Need-add-known-step (via-calls t) (via-at t) via.Post
-via-add-known-step t c = let (th, (T, (y, mem))) = c .before .before .before .before .before .before .pre .1 .0 in omega (arith, small (y .tabled))
-
-via-add-allowed-2 : (t : ℕ) → via-lts.Need-add-allowed-2 (via-calls t) (via-at t) via.Post
-via-add-allowed-2 t c = omega (arith, c .before .before .before .before .before .before .before .pre .1 .5)
-
 via-allowed-requires : (t : ℕ) → via-lts.Need-allowed-requires (via-calls t) (via-at t) via.Post
-via-allowed-requires t c κs =
-    let (m, P) = c .before .before .before .before .before .before .before .pre in
-    let a = c .before .before .before .before .before .before .before .args in
-    let (th, (T, (y, mem))) = P .0 in
-    let z = slot-stage (a .p) (a .work .now) (a .slot) (c .before .before .wide .ensures) y in
-    (omega (arith, m), ((th, (T, (z, mem))), z .tabled .some, P .2, P .3, P .4, omega (arith, P .5)))
+via-allowed-requires t c κs = let (m, P) = c .before .before .before .before .pre in (omega (arith, m), (P .0, P .2, P .3, P .4, omega (arith, P .5)))
 
 via-same-length : (t : ℕ) → via-lts.Need-same-length (via-calls t) (via-at t) via.Post
 via-same-length t c = search needs
 
 via-returns : (t : ℕ) → via-lts.Need-returns (via-calls t) (via-at t) via.Post
 via-returns t c =
-    let a = c .before .before .before .before .before .before .before .before .before .before .before .args in
     let w = c .before .before .before .allowed in
     λ th T y mem.
-    let told = w .ensures th T (slot-stage (a .p) (a .work .now) (a .slot) (c .before .before .before .before .before .before .wide .ensures) y) mem in
+    let told = w .ensures th T y mem in
     told-no (told .low) (told .high) (told .memory) (λ z. told .complete (not-true (w .result) (c .if1 .taken)) (z .2))
 
-via-add-known-step-2 : (t : ℕ) → via-lts.Need-add-known-step-2 (via-calls t) (via-at t) via.Post
-via-add-known-step-2 t c = let (th, (T, (y, mem))) = c .before .before .before .before .before .before .before .before .before .before .before .before .pre .1 .0 in omega (arith, small (y .tabled))
-
 via-known-step-requires : (t : ℕ) → via-lts.Need-known-step-requires (via-calls t) (via-at t) via.Post
-via-known-step-requires t c κs = let P = c .before .before .before .before .before .before .before .before .before .before .before .before .pre .1 in
-    let a = c .before .before .before .before .before .before .before .before .before .before .before .before .args in
+via-known-step-requires t c κs = let P = c .before .before .before .before .before .before .before .before .before .pre .1 in
+    let a = c .before .before .before .before .before .before .before .before .before .args in
     let (th, (T, (y, mem))) = P .0 in
-    let z = slot-stage (a .p) (a .work .now) (a .slot) (c .before .before .before .before .before .before .before .wide .ensures) y in
     let w = c .before .before .before .before .allowed in
-    let told = w .ensures th T z mem in
-    (a .k .0, ((th, (T, (stage-same z (told .low) (w .kept .1 .1 .1 .0), told .memory))), P .2, z .tabled .some, omega (arith, P .5)))
+    let told = w .ensures th T y mem in
+    let z = slot-same (a .slot) y (told .low) (w .kept .1 .1 .1 .0) in
+    (a .k .0, ((th, (T, (z, told .memory))), P .2, z .tabled .some, omega (arith, P .5)))
 
 via-same-length-2 : (t : ℕ) → via-lts.Need-same-length-2 (via-calls t) (via-at t) via.Post
 via-same-length-2 t c = c .before .before .before .known-step .kept .1 .1 .1 .1 .0 ∙ c .before .before .before .before .before .before .before .before .allowed .kept .1 .1 .1 .0
 
 via-returns-2 : (t : ℕ) → via-lts.Need-returns-2 (via-calls t) (via-at t) via.Post
-via-returns-2 t c = let a = c .before .before .before .before .before .before .before .before .before .before .before .before .before .before .before .before .args in
+via-returns-2 t c = let a = c .before .before .before .before .before .before .before .before .before .before .before .before .before .args in
     let w = c .before .before .before .before .before .before .before .before .allowed in
     let s = c .before .before .before .known-step in
     λ th T y mem.
-    let z = slot-stage (a .p) (a .work .now) (a .slot) (c .before .before .before .before .before .before .before .before .before .before .before .wide .ensures) y in
-    let told = w .ensures th T z mem in
-    let played = s .ensures th T (a .k .0) (stage-same z (told .low) (w .kept .1 .1 .1 .0)) (told .memory) in
+    let told = w .ensures th T y mem in
+    let played = s .ensures th T (a .k .0) (slot-same (a .slot) y (told .low) (w .kept .1 .1 .1 .0)) (told .memory) in
     told-no (λ q l. played .low q l ∙ told .low q l) (λ q l. played .high q l ∙ told .high q l) (played .memory) (λ g. played .none (c .if2 .taken) (g .0) (g .1))
 
 via-add-extends : (t : ℕ) → via-lts.Need-add-extends (via-calls t) (via-at t) via.Post
-via-add-extends t c = omega (arith, c .before .before .before .before .before .before .before .before .before .before .before .before .before .before .before .before .before .pre .1 .5)
+via-add-extends t c = omega (arith, c .before .before .before .before .before .before .before .before .before .before .before .before .before .before .pre .1 .5)
 
 via-extends-requires : (t : ℕ) → via-lts.Need-extends-requires (via-calls t) (via-at t) via.Post
-via-extends-requires t c κs = let (m, P) = c .before .before .before .before .before .before .before .before .before .before .before .before .before .before .before .before .before .pre in
-    let a = c .before .before .before .before .before .before .before .before .before .before .before .before .before .before .before .before .before .args in
+via-extends-requires t c κs = let (m, P) = c .before .before .before .before .before .before .before .before .before .before .before .before .before .before .pre in
+    let a = c .before .before .before .before .before .before .before .before .before .before .before .before .before .before .args in
     let (th, (T, (y, mem))) = P .0 in
     let w = c .before .before .before .before .before .before .before .before .before .allowed in
     let s = c .before .before .before .before .known-step in
-    let z = slot-stage (a .p) (a .work .now) (a .slot) (c .before .before .before .before .before .before .before .before .before .before .before .before .wide .ensures) y in
-    let told = w .ensures th T z mem in
-    let z′ = stage-same z (told .low) (w .kept .1 .1 .1 .0) in
+    let told = w .ensures th T y mem in
+    let z′ = slot-same (a .slot) y (told .low) (w .kept .1 .1 .1 .0) in
     let f : Free (a .slot + 961) 1 = omega (arith, P .5) in
     let long = s .kept .1 .1 .1 .1 .0 in
     let played = s .ensures th T (a .k .0) z′ (told .memory) in
@@ -717,17 +708,16 @@ via-same-length-3 : (t : ℕ) → via-lts.Need-same-length-3 (via-calls t) (via-
 via-same-length-3 t c = c .before .before .extends .kept .1 .1 .1 .0 ∙ c .before .before .before .before .before .before .before .known-step .kept .1 .1 .1 .1 .0 ∙ c .before .before .before .before .before .before .before .before .before .before .before .before .allowed .kept .1 .1 .1 .0
 
 via-returns-3 : (t : ℕ) → via-lts.Need-returns-3 (via-calls t) (via-at t) via.Post
-via-returns-3 t c = let P = c .before .before .before .before .before .before .before .before .before .before .before .before .before .before .before .before .before .before .before .before .pre .1 in
-    let a = c .before .before .before .before .before .before .before .before .before .before .before .before .before .before .before .before .before .before .before .before .args in
+via-returns-3 t c = let P = c .before .before .before .before .before .before .before .before .before .before .before .before .before .before .before .before .before .pre .1 in
+    let a = c .before .before .before .before .before .before .before .before .before .before .before .before .before .before .before .before .before .args in
     let w = c .before .before .before .before .before .before .before .before .before .before .before .before .allowed in
     let s = c .before .before .before .before .before .before .before .known-step in
     let zero : s .result ≡ 0 = omega (arith, c .before .before .before .before .if2 .left) in
     let f : Free (a .slot + 961) 1 = omega (arith, P .5) in
     let long = s .kept .1 .1 .1 .1 .0 in
     λ th T y mem.
-    let z = slot-stage (a .p) (a .work .now) (a .slot) (c .before .before .before .before .before .before .before .before .before .before .before .before .before .before .before .wide .ensures) y in
-    let told = w .ensures th T z mem in
-    let z′ = stage-same z (told .low) (w .kept .1 .1 .1 .0) in
+    let told = w .ensures th T y mem in
+    let z′ = slot-same (a .slot) y (told .low) (w .kept .1 .1 .1 .0) in
     let played = s .ensures th T (a .k .0) z′ (told .memory) in
     let plays = next-plays z′ 0 played f long zero in
     told-by (omega arith) (memory-fewer (a .p) (omega arith)) (λ q l. played .low q l ∙ told .low q l) (λ q l. played .high q l ∙ told .high q l) (c .before .before .extends .ensures th (nextTable z′ 0 played f long zero) (next-stage z′ 0 played f long zero) (played .further zero))
@@ -775,7 +765,6 @@ pub +allowed+explained+explains+extends+extends-by+fine+via-spec : {M : Type 1} 
     (λ t. explains-lts.spec (explains-calls t)
     (explains-at t)
     explains.Post
-    (explains-mul-wide t)
     (explains-add-wide t)
     (explains-add-wide-2 t)
     (explains-add-wide-3 t)
@@ -785,11 +774,16 @@ pub +allowed+explained+explains+extends+extends-by+fine+via-spec : {M : Type 1} 
     (explains-same-length t)
     (explains-returns t)
     (explains-add-utility t)
+    (explains-slice-read-wide-2 t)
+    (explains-wide-requires-2 t)
+    (explains-add-utility-2 t)
+    (explains-add-utility-3 t)
     (explains-mul-utility t)
     (explains-shared-slice-read-utility t)
     (explains-cast-utility t)
     (explains-utility-requires t)
-    (explains-sub-t18 t)
+    (explains-add-extends t)
+    (explains-sub-t15 t)
     (explains-sub-extends t)
     (explains-extends-requires t)
     (explains-same-length-2 t)
@@ -850,15 +844,9 @@ pub +allowed+explained+explains+extends+extends-by+fine+via-spec : {M : Type 1} 
     λ t. via-lts.spec (via-calls t)
     (via-at t)
     via.Post
-    (via-add-allowed t)
-    (via-slice-read-wide t)
-    (via-wide-requires t)
-    (via-add-known-step t)
-    (via-add-allowed-2 t)
     (via-allowed-requires t)
     (via-same-length t)
     (via-returns t)
-    (via-add-known-step-2 t)
     (via-known-step-requires t)
     (via-same-length-2 t)
     (via-returns-2 t)
