@@ -394,9 +394,19 @@ module _ {th : Theory} {T : List Node} {pack places : List ℕ} {h : Shape} {was
         let e = f (dims (th .characters) (th .domains)) (x .theorized .small) consentersOf (stand .end) (stand .reads) in
         (e, omega (arith, e, consenter-below (dims (th .characters) (th .domains)) pack (getD places (9 * a + 2) 0) consentersOf (stand .end) (stand .reads) i li, x .tabled .over .characters))
 
--- the table in a slot, its count read
-pub slot-stage : (h : Shape) (work : List ℕ) (slot : ℕ) {n : ℕ} (e : getD work slot 0 ≡ n) {th : Theory} {T : List Node} {pack places : List ℕ} {free : ℕ} → Stage th T pack places h work (slotTable h work slot) free → Stage th T pack places h work (counted h slot n) free
-slot-stage h work slot e {th} {T} {pack} {places} {free} x = subst (λ (n : ℕ). Stage th T pack places h work (counted h slot n) free) e x
+-- of the table that was read
+pub table-stage : {t t′ : Table} → t ≡ t′ → {th : Theory} {T : List Node} {pack places : List ℕ} {h : Shape} {work : List ℕ} {free : ℕ} → Stage th T pack places h work t′ free → Stage th T pack places h work t free
+table-stage e {th} {T} {pack} {places} {h} {work} {free} x = subst (λ (t : Table). Stage th T pack places h work t free) (sym e) x
+
+-- rules judged in it
+pub rules-in : (pack : List ℕ) (at : ℕ) (was : List ℕ) (root : ℕ) {t t′ : Table} → t ≡ t′ → Judged rulesAt pack at t′ was root → Judged rulesAt pack at t was root
+rules-in pack at was root e j = subst (λ (t : Table). Judged rulesAt pack at t was root) (sym e) j
+
+abbrev pub UtilityIs : (pack : List ℕ) (at : ℕ) (was : List ℕ) (root r : ℕ) → Table → Type 0
+UtilityIs pack at was root r t = (d : Dimensions) → Over d t → (rules : List Rule) (n : ℕ) → rulesAt d pack at ≡ done rules n → r ≡ condition.utility (stateOf t was root) rules
+
+pub utility-in : (pack : List ℕ) (at : ℕ) (was : List ℕ) (root r : ℕ) {t t′ : Table} → t ≡ t′ → UtilityIs pack at was root r t → UtilityIs pack at was root r t′
+utility-in pack at was root r e f = subst (UtilityIs pack at was root r) e f
 
 -- the table in a slot stays where its bytes do
 pub slot-same : {th : Theory} {T : List Node} {pack places : List ℕ} {h : Shape} {was now : List ℕ} (slot : ℕ) → Stage th T pack places h was (slotTable h was slot) (slot + 961) → Below was now (slot + 961) → length now ≡ length was

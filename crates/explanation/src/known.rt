@@ -5,6 +5,7 @@ use crate::layout::STEPS;
 use crate::memory::Shape;
 use crate::memory::name_anew;
 use crate::memory::name_of;
+use crate::memory::table_in;
 use partition::bytes::copy_part;
 use reading::number::wide;
 use state::table::Table;
@@ -109,13 +110,7 @@ pub fn known_step(
     requires { ⌜ Steppable (now pack) (now places) p action (now work) (slotTable p (now work) slot) root (slot + 961) ⌝ }
     ensures { λ r. ⌜ ((th : Theory) (T : List Node) (foresight : ℕ) → Stage th T (now (pack .entry)) (now (places .entry)) p (now (work .entry)) (slotTable p (now (work .entry)) slot) (slot + 961) → Memory th foresight p (slot + 961) (now (work .entry)) → Advanced th foresight p (meaning (p .characters) T root) action (slotTable p (now (work .entry)) slot) (now (work .entry)) (now (work .exit)) (slot + 961) r) ⌝ }
 {
-    let t = Table {
-        rows: slot + 1,
-        nodes: wide(work[slot]),
-        fluents: p.fluents,
-        characters: p.characters,
-        width: p.fluents + p.characters,
-    };
+    let t = table_in(work, p, slot);
     let name = name_of(work, p, slot);
     let at = step_at(name, root, action);
     if step_is(work, at, name, root, action) {

@@ -26,6 +26,20 @@ pub struct Shape {
     pub characters: usize,
 }
 
+// The table in a slot.
+pub fn table_in(work: &[u8], p: Shape, slot: usize) -> Table
+    requires { ⌜ (slot < length (now work)) × (p .fluents + p .characters ≤ 30) ⌝ }
+    ensures { λ r. ⌜ r ≡ slotTable p (now (work .entry)) slot ⌝ }
+{
+    Table {
+        rows: slot + 1,
+        nodes: wide(work[slot]),
+        fluents: p.fluents,
+        characters: p.characters,
+        width: p.fluents + p.characters,
+    }
+}
+
 // A number below 128 made of n bytes. Nothing depends on which.
 pub fn hash(work: &[u8], from: usize, n: usize) -> usize
     requires { ⌜ from + n ≤ length (now work) ⌝ }
@@ -109,15 +123,9 @@ pub fn name_anew(work: &mut [u8], p: Shape, slot: usize) -> usize
     requires { ⌜ Before p (now work) (slotTable p (now work) slot) ⌝ }
     ensures { λ r. ⌜ Naming p (slotTable p (now (work .entry)) slot) (now (work .entry)) (now (work .exit)) r ⌝ }
 {
-    let t = Table {
-        rows: slot + 1,
-        nodes: wide(work[slot]),
-        fluents: p.fluents,
-        characters: p.characters,
-        width: p.fluents + p.characters,
-    };
+    let t = table_in(work, p, slot);
     let name = look_up(work, p, t);
-    work[NAMES + t.rows / SLOT] = name as u8;
+    work[NAMES + (slot + 1) / SLOT] = name as u8;
     name
 }
 

@@ -44,11 +44,10 @@ use Rattle.planner.specs.Answers.{searchTable}
 use Rattle.planner.specs.Replies.{storyLimit, foresightLimit, nestingLimit, Plan, answerReply, searchReply}
 use Rattle.planner.specs.Promises.{summary, Searching}
 use Rattle.planner.specs.Laws.Answers.{search-table-iff}
-use Rattle.explanation.specs.Inner.Lists.{counted, slotTable, Ends}
+use Rattle.explanation.specs.Inner.Lists.{slotTable, Ends}
 use Rattle.explanation.specs.Inner.Explain.{Stage}
 use Rattle.explanation.specs.Inner.Memory.{Memory}
 use Rattle.explanation.proofs.Remembering.{memory-clear}
-use Rattle.explanation.proofs.Telling.{slot-stage}
 use Rattle.planner.specs.Inner.Search.{Laying, LaidStart, Chosen, Best, Shortest, Seeking, Seekable, SearchPut}
 
 module _ {Good : List ℕ → ℕ → Type 0} where
@@ -120,16 +119,12 @@ module _ {th : Theory} {T : List Node} {pack places : List ℕ} {h : Shape} {fir
     seek-means = y .starts .1
 
     -- the author's utility there
-    module _ {n : ℕ} (count : getD then 0 0 ≡ n) where
-      pub seek-ready : Stage th seekTable pack places h then (counted h 0 n) 961
-      seek-ready = slot-stage h then 0 count seek-slot
+    module _ {base : ℕ} (is : base ≡ authorUtility th (meaning C seekTable 0)) where
+      pub seek-base : authorUtility th (meaning C seekTable 0) ≤ base
+      seek-base = omega (arith, is)
 
-      module _ {base : ℕ} (is : base ≡ authorUtility th (meaning C seekTable 0)) where
-        pub seek-base : authorUtility th (meaning C seekTable 0) ≤ base
-        seek-base = omega (arith, is)
-
-        pub seek-from : base ≡ authorUtility th (meaning C T 0)
-        seek-from = is ∙ ap (authorUtility th) seek-means
+      pub seek-from : base ≡ authorUtility th (meaning C T 0)
+      seek-from = is ∙ ap (authorUtility th) seek-means
 
     pub seek-same : {base : ℕ} {list′ work′ : List ℕ} {r : Ended} → Shortest (Ends th foresight nesting base (meaning C seekTable 0)) story list list′ then work′ r → Shortest (Ends th foresight nesting base (meaning C T 0)) story list list′ then work′ r
     seek-same {base} {list′} {work′} {r} z = subst (λ (s : State). Shortest (Ends th foresight nesting base s) story list list′ then work′ r) seek-means z

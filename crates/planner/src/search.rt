@@ -15,6 +15,7 @@ use explanation::layout::LISTS;
 use explanation::layout::NAMES;
 use explanation::layout::OF_LISTS;
 use explanation::memory::Shape;
+use explanation::memory::table_in;
 use pack::contents::read_pack;
 use pack::places::PLACES;
 use pack::places::UTILITIES;
@@ -29,7 +30,6 @@ use reason::explain::allowed;
 use reason::look::next_promising;
 use state::copy::copy_table;
 use state::judge::utility;
-use state::table::Table;
 use transition::layout::SLOT;
 ghost use mathlib.Core.Path.{_≡_};
 ghost use mathlib.Core.Bool.{true, _&&_};
@@ -165,13 +165,7 @@ pub fn ends(pack: &[u8], places: &[u16], p: Shape, work: &[u8], slot: usize, bas
     requires { ⌜ Staged (now pack) (now places) p (now work) (slotTable p (now work) slot) (slot + 961) × Free slot 1 ⌝ }
     ensures { λ r. ⌜ ((th : Theory) (T : List Node) → Stage th T (now (pack .entry)) (now (places .entry)) p (now (work .entry)) (slotTable p (now (work .entry)) slot) (slot + 961) → (base < authorUtility th (meaning (p .characters) T 0) → r ≡ authorUtility th (meaning (p .characters) T 0)) × (authorUtility th (meaning (p .characters) T 0) ≤ base → r ≡ 0)) ⌝ }
 {
-    let t = Table {
-        rows: slot + 1,
-        nodes: wide(work[slot]),
-        fluents: p.fluents,
-        characters: p.characters,
-        width: p.fluents + p.characters,
-    };
+    let t = table_in(work, p, slot);
     let worth = utility(pack, places[UTILITIES] as usize, work, t, 0);
     if base < worth { worth } else { 0 }
 }
@@ -297,13 +291,7 @@ pub fn search_nodes(
     ensures { λ r. ⌜ ((th : Theory) (T : List Node) → Seeking th T (now (pack .entry)) (now (places .entry)) p first nodes (s .0) (e .0) (k .0) (now (list .entry)) (now (work .entry)) → SearchPut th (k .0) (s .0) (e .0) (meaning (p .characters) T 0) (now (list .entry)) (now (list .exit)) (now (work .entry)) (now (work .exit)) r) ⌝ }
 {
     lay_start(pack, first, nodes, p, work);
-    let t = Table {
-        rows: 1,
-        nodes: wide(work[0]),
-        fluents: p.fluents,
-        characters: p.characters,
-        width: p.fluents + p.characters,
-    };
+    let t = table_in(work, p, 0);
     let base = utility(pack, places[UTILITIES] as usize, work, t, 0);
     let found = shortest(pack, places, p, work, list, s, e, k, base);
     clear(work, 0, WORK_ROOM);

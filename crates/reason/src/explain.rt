@@ -5,10 +5,10 @@ use explanation::fact::recall;
 use explanation::fact::remember;
 use explanation::known::known_step;
 use explanation::memory::Shape;
+use explanation::memory::table_in;
 use pack::places::CHARACTERS;
 use reading::number::wide;
 use state::judge::utility;
-use state::table::Table;
 use state::write::consenter;
 use state::write::consenters;
 use transition::layout::SLOT;
@@ -84,20 +84,15 @@ pub fn explains(
     if number != 0 {
         return false;
     }
-    let t = Table {
-        rows: slot + 1,
-        nodes: wide(work[slot]),
-        fluents: p.fluents,
-        characters: p.characters,
-        width: p.fluents + p.characters,
-    };
-    let base = utility(pack, places[CHARACTERS + c] as usize, work, t, q);
+    let next = slot + SLOT;
+    let before = table_in(work, p, slot);
+    let base = utility(pack, places[CHARACTERS + c] as usize, work, before, q);
     extends(
         pack,
         places,
         p,
         work,
-        slot + SLOT,
+        next,
         c,
         Nesting(e.0 - 1),
         k,
@@ -122,13 +117,7 @@ pub fn extends(
     requires { ⌜ Prepared (k .0) (now pack) (now places) p (now work) (slotTable p (now work) slot) (slot + 961) × (c < p .characters) × (0 < k .0) × (k .0 ≤ 6) × Free slot (1 + left + k .0 * e .0) ⌝ }
     ensures { λ r. ⌜ ((th : Theory) (T : List Node) → Stage th T (now (pack .entry)) (now (places .entry)) p (now (work .entry)) (slotTable p (now (work .entry)) slot) (slot + 961) → Memory th (k .0) p (slot + 961) (now (work .entry)) → Told (Memory th (k .0) p (slot + 961)) (slot + 961) (now (work .entry)) (now (work .exit)) r (Above th (k .0) (e .0) c base (suc left) (meaning (p .characters) T 0))) ⌝ }
 {
-    let t = Table {
-        rows: slot + 1,
-        nodes: wide(work[slot]),
-        fluents: p.fluents,
-        characters: p.characters,
-        width: p.fluents + p.characters,
-    };
+    let t = table_in(work, p, slot);
     if base < utility(pack, places[CHARACTERS + c] as usize, work, t, 0) {
         return true;
     }

@@ -1,5 +1,6 @@
 // A look before an action is tried: no step is made for one whose condition fails, nor for a last one after which no rule above some utility could hold. What effects may write, and what is believed, is left open.
 use explanation::memory::Shape;
+use explanation::memory::table_in;
 use pack::places::TRIGGER_EFFECTS;
 use pack::places::UTILITIES;
 use reading::number::Number;
@@ -232,13 +233,7 @@ pub fn next_promising(
     requires { ⌜ Trying (now pack) (now places) p (now work) slot whose × (x ≤ p .actions) ⌝ }
     ensures { λ r. ⌜ Skipped (now (pack .entry)) (now (places .entry)) p (now (work .entry)) slot whose left base x r ⌝ }
 {
-    let t = Table {
-        rows: slot + 1,
-        nodes: wide(work[slot]),
-        fluents: p.fluents,
-        characters: p.characters,
-        width: p.fluents + p.characters,
-    };
+    let t = table_in(work, p, slot);
     let mut y = x;
     while y < p.actions {
         if promising(pack, places, p, work, t, y, whose, left, base) {

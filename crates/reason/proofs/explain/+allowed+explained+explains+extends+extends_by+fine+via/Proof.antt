@@ -14,13 +14,13 @@ use Rattle.chart.specs.Call.{workRoom}
 use Rattle.change.specs.Happening.{Plays}
 use Rattle.change.proofs.Changing.{small}
 use Rattle.explanation.specs.Ending.{Explained, utilityTo}
-use Rattle.explanation.specs.Inner.Lists.{counted, slotTable, AboveBy}
+use Rattle.explanation.specs.Inner.Lists.{slotTable, AboveBy}
 use Rattle.explanation.specs.Inner.Lists as inner
 use Rattle.explanation.specs.Inner.Memory.{Memory}
 use Rattle.explanation.specs.Inner.Explain.{Stage, Free}
 use Rattle.explanation.proofs.Remembering.{memory-fewer}
 use Rattle.reason.proofs.Looking.{below-far, stage-trying, stage-skipped}
-use Rattle.explanation.proofs.Telling.{Content, told-none, told-by, told-no, told-yes, stage-rules, stage-utility, nextTable, next-plays, next-stage, reach-here, reach-no-more, by-hopeless, by-from, by-to, explained-from, explained-to, explained-zero, explained-plays, agreed-all, content-of, content-more, one-less, stage-row, stage-believed, consentersOf, consent-place, consent-readable, consent-count, consent-each, slot-stage, slot-same, stage-before, known, note, verdict, extended, noted}
+use Rattle.explanation.proofs.Telling.{Content, told-none, told-by, told-no, told-yes, stage-rules, stage-utility, nextTable, next-plays, next-stage, reach-here, reach-no-more, by-hopeless, by-from, by-to, explained-from, explained-to, explained-zero, explained-plays, agreed-all, content-of, content-more, one-less, stage-row, stage-believed, consentersOf, consent-place, consent-readable, consent-count, consent-each, slot-same, stage-before, known, note, verdict, extended, noted, rules-in, utility-in}
 use borrow.Fn.Kinds.{In}
 use borrow.Fn.PlainCycle.{Measures, is, falls, and}
 use Rattle.reason.proofs.explain.allowed.Reads as allowed
@@ -50,6 +50,7 @@ use Rattle.state.proofs.write.consenter.Reads as consenter-reads
 use Rattle.state.proofs.write.consenters.Reads as consenters-reads
 use Rattle.reason.proofs.explain.mark.Reads as mark-reads
 use Rattle.reason.proofs.look.next_promising.Reads as next-promising-reads
+use Rattle.explanation.proofs.memory.table_in.Reads as table-in-reads
 use Rattle.explanation.proofs.fact.recall.Reads as recall-reads
 use Rattle.explanation.proofs.fact.remember.Reads as remember-reads
 use Rattle.explanation.proofs.known.known_step.Reads as known-step-reads
@@ -131,10 +132,10 @@ abbrev explained-calls : ℕ → explained-lts.Claims
 explained-calls t = (recall-reads.Asked, recall-reads.Learnt, explains-below t, explains.Post, mark-reads.Asked, mark-reads.Learnt, remember-reads.Asked, remember-reads.Learnt)
 
 abbrev explains-calls : ℕ → explains-lts.Claims
-explains-calls t = (wide-reads.Asked, wide-reads.Learnt, known-step-reads.Asked, known-step-reads.Learnt, utility-reads.Asked, utility-reads.Learnt, extends-below t, extends.Post)
+explains-calls t = (wide-reads.Asked, wide-reads.Learnt, known-step-reads.Asked, known-step-reads.Learnt, table-in-reads.Asked, table-in-reads.Learnt, utility-reads.Asked, utility-reads.Learnt, extends-below t, extends.Post)
 
 abbrev extends-calls : ℕ → extends-lts.Claims
-extends-calls t = (wide-reads.Asked, wide-reads.Learnt, utility-reads.Asked, utility-reads.Learnt, recall-reads.Asked, recall-reads.Learnt, extends-by-below t, extends-by.Post, mark-reads.Asked, mark-reads.Learnt, remember-reads.Asked, remember-reads.Learnt)
+extends-calls t = (table-in-reads.Asked, table-in-reads.Learnt, utility-reads.Asked, utility-reads.Learnt, recall-reads.Asked, recall-reads.Learnt, extends-by-below t, extends-by.Post, mark-reads.Asked, mark-reads.Learnt, remember-reads.Asked, remember-reads.Learnt)
 
 abbrev allowed-calls : ℕ → allowed-lts.Claims
 allowed-calls t = (consenters-reads.Asked, consenters-reads.Learnt, consenter-reads.Asked, consenter-reads.Learnt, fine-below t, fine.Post)
@@ -344,84 +345,75 @@ explains-returns t c = let a = c .before .before .before .before .before .before
     let played = c .before .before .before .known-step .ensures th T (a .k .0) y mem in
     told-no (played .low) (played .high) (played .memory) (explained-plays th (a .k .0) (a .e .0) (a .c) (a .a) (meaning (a .p .characters) T 0) (λ t q. played .none (c .if1 .taken) t (subst (λ (s : State). Plays th s (a .a) t) same q)))
 
+explains-add-next : (t : ℕ) → explains-lts.Need-add-next (explains-calls t) (explains-at t) explains.Post
+explains-add-next t c = omega (arith, c .before .before .before .before .before .before .before .before .before .before .before .pre .1 .5)
+
+explains-table-in-requires : (t : ℕ) → explains-lts.Need-table-in-requires (explains-calls t) (explains-at t) explains.Post
+explains-table-in-requires t c κs = let (th, (T, (y, mem))) = c .before .before .before .before .before .before .before .before .before .before .before .before .pre .1 .0 in (omega (arith, c .before .before .before .before .before .before .before .before .before .before .before .before .pre .1 .5, y .room, c .before .before .before .before .known-step .kept .1 .1 .1 .1 .0), omega (arith, small (y .tabled)))
+
 explains-add-utility : (t : ℕ) → explains-lts.Need-add-utility (explains-calls t) (explains-at t) explains.Post
-explains-add-utility t c = omega (arith, c .before .before .before .before .before .before .before .before .before .before .before .pre .1 .5)
-
-explains-slice-read-wide-2 : (t : ℕ) → explains-lts.Need-slice-read-wide-2 (explains-calls t) (explains-at t) explains.Post
-explains-slice-read-wide-2 t c = let (th, (T, (y, mem))) = c .before .before .before .before .before .before .before .before .before .before .before .before .pre .1 .0 in omega (arith, c .before .before .before .before .before .before .before .before .before .before .before .before .pre .1 .5, y .room, c .before .before .before .before .known-step .kept .1 .1 .1 .1 .0)
-
-explains-wide-requires-2 : (t : ℕ) → explains-lts.Need-wide-requires-2 (explains-calls t) (explains-at t) explains.Post
-explains-wide-requires-2 t c κs = search needs
-
-explains-add-utility-2 : (t : ℕ) → explains-lts.Need-add-utility-2 (explains-calls t) (explains-at t) explains.Post
-explains-add-utility-2 t c = let (th, (T, (y, mem))) = c .before .before .before .before .before .before .before .before .before .before .before .before .before .before .pre .1 .0 in omega (arith, small (y .tabled))
-
-explains-add-utility-3 : (t : ℕ) → explains-lts.Need-add-utility-3 (explains-calls t) (explains-at t) explains.Post
-explains-add-utility-3 t c = let (th, (T, (y, mem))) = c .before .before .before .before .before .before .before .before .before .before .before .before .before .before .pre .1 .0 in omega (arith, small (y .tabled), c .before .before .before .before .before .before .before .before .before .before .before .before .before .before .pre .1 .1)
+explains-add-utility t c = let (th, (T, (y, mem))) = c .before .before .before .before .before .before .before .before .before .before .before .before .before .pre .1 .0 in omega (arith, small (y .tabled), c .before .before .before .before .before .before .before .before .before .before .before .before .before .pre .1 .1)
 
 explains-mul-utility : (t : ℕ) → explains-lts.Need-mul-utility (explains-calls t) (explains-at t) explains.Post
-explains-mul-utility t c = let (th, (T, (y, mem))) = c .before .before .before .before .before .before .before .before .before .before .before .before .before .before .pre .1 .0 in omega (arith, small (y .tabled), c .before .before .before .before .before .before .before .before .before .before .before .before .before .before .pre .1 .1)
+explains-mul-utility t c = let (th, (T, (y, mem))) = c .before .before .before .before .before .before .before .before .before .before .before .before .before .pre .1 .0 in omega (arith, small (y .tabled), c .before .before .before .before .before .before .before .before .before .before .before .before .before .pre .1 .1)
 
 explains-shared-slice-read-utility : (t : ℕ) → explains-lts.Need-shared-slice-read-utility (explains-calls t) (explains-at t) explains.Post
-explains-shared-slice-read-utility t c = let (th, (T, (y, mem))) = c .before .before .before .before .before .before .before .before .before .before .before .before .before .before .before .pre .1 .0 in omega (arith, y .theorized .marked, small (y .tabled), c .before .before .before .before .before .before .before .before .before .before .before .before .before .before .before .pre .1 .1)
+explains-shared-slice-read-utility t c = let (th, (T, (y, mem))) = c .before .before .before .before .before .before .before .before .before .before .before .before .before .before .pre .1 .0 in omega (arith, y .theorized .marked, small (y .tabled), c .before .before .before .before .before .before .before .before .before .before .before .before .before .before .pre .1 .1)
 
 explains-cast-utility : (t : ℕ) → explains-lts.Need-cast-utility (explains-calls t) (explains-at t) explains.Post
-explains-cast-utility t c = omega (arith, c .shared-slice-known3 .given (321 + c .before .before .before .before .before .before .before .before .before .before .before .before .before .before .before .args .c))
+explains-cast-utility t c = omega (arith, c .shared-slice-known3 .given (321 + c .before .before .before .before .before .before .before .before .before .before .before .before .before .before .args .c))
 
--- the table in the slot after the step, its count read
-explains-stays : (t : ℕ) (c : explains-lts.After-wide2 (explains-calls t) (explains-at t) explains.Post) {th : Theory} {T : List Node} → let a = c .before .before .before .before .before .before .before .before .before .before .before .before .before .args in Stage th T (a .pack .now) (a .places .now) (a .p) (a .work .now) (slotTable (a .p) (a .work .now) (a .slot)) (a .slot + 961) → Memory th (a .k .0) (a .p) (a .slot + 961) (a .work .now)
-    → Stage th T (a .pack .now) (a .places .now) (a .p) (c .before .before .before .before .before .known-step .last .1 .1 .1 .1 .0) (counted (a .p) (a .slot) (c .wide2 .result)) (a .slot + 961) × (c .before .before .before .before .before .before .before .wide .result < c .wide2 .result)
+-- the table in the slot after the step
+explains-stays : (t : ℕ) (c : explains-lts.After-known-step (explains-calls t) (explains-at t) explains.Post) {th : Theory} {T : List Node} → let a = c .before .before .before .before .before .before .before .before .args in Stage th T (a .pack .now) (a .places .now) (a .p) (a .work .now) (slotTable (a .p) (a .work .now) (a .slot)) (a .slot + 961) → Memory th (a .k .0) (a .p) (a .slot + 961) (a .work .now)
+    → Stage th T (a .pack .now) (a .places .now) (a .p) (c .known-step .last .1 .1 .1 .1 .0) (slotTable (a .p) (c .known-step .last .1 .1 .1 .1 .0) (a .slot)) (a .slot + 961) × (c .before .before .wide .result < getD (c .known-step .last .1 .1 .1 .1 .0) (a .slot) 0)
 explains-stays t c {th} {T} y mem =
-    let a = c .before .before .before .before .before .before .before .before .before .before .before .before .before .args in
-    let s = c .before .before .before .before .before .known-step in
+    let a = c .before .before .before .before .before .before .before .before .args in
+    let s = c .known-step in
     let low = s .ensures th T (a .k .0) y mem .low in
-    (slot-stage (a .p) (s .last .1 .1 .1 .1 .0) (a .slot) (c .wide2 .ensures) (slot-same (a .slot) y low (s .kept .1 .1 .1 .1 .0)), omega (arith, explains-believed t (c .before .before .before .before .before .before .before) y .1, low (a .slot) (omega arith), c .wide2 .ensures))
+    (slot-same (a .slot) y low (s .kept .1 .1 .1 .1 .0), omega (arith, explains-believed t (c .before .before) y .1, low (a .slot) (omega arith)))
 
 explains-utility-requires : (t : ℕ) → explains-lts.Need-utility-requires (explains-calls t) (explains-at t) explains.Post
-explains-utility-requires t c κs = let P = c .before .before .before .before .before .before .before .before .before .before .before .before .before .before .before .before .pre .1 in
+explains-utility-requires t c κs = let P = c .before .before .before .before .before .before .before .before .before .before .before .before .before .before .before .pre .1 in
     let (th, (T, (y, mem))) = P .0 in
-    let (z, inside) = explains-stays t (c .before .before .before) y mem in
-    stage-rules z _ _ (P .1) inside .0
-
-explains-add-extends : (t : ℕ) → explains-lts.Need-add-extends (explains-calls t) (explains-at t) explains.Post
-explains-add-extends t c = omega (arith, c .before .before .before .before .before .before .before .before .before .before .before .before .before .before .before .before .before .before .pre .1 .5)
+    let (z, inside) = explains-stays t (c .before .before .before .before .before .before .before) y mem in
+    rules-in _ _ _ (c .before .before .before .before .before .before .before .before .before .wide .result) (c .before .before .table-in .ensures) (stage-rules z _ _ (P .1) inside .0)
 
 explains-sub-t15 : (t : ℕ) → explains-lts.Need-sub-t15 (explains-calls t) (explains-at t) explains.Post
-explains-sub-t15 t c = omega (arith, c .before .before .before .before .before .before .before .before .before .before .before .before .before .before .before .before .before .before .before .pre .1 .6)
+explains-sub-t15 t c = omega (arith, c .before .before .before .before .before .before .before .before .before .before .before .before .before .before .before .before .before .before .pre .1 .6)
 
 explains-sub-extends : (t : ℕ) → explains-lts.Need-sub-extends (explains-calls t) (explains-at t) explains.Post
-explains-sub-extends t c = omega (arith, c .before .before .before .before .before .before .before .before .before .before .before .before .before .before .before .before .before .before .before .before .pre .1 .3)
+explains-sub-extends t c = omega (arith, c .before .before .before .before .before .before .before .before .before .before .before .before .before .before .before .before .before .before .before .pre .1 .3)
 
 explains-extends-requires : (t : ℕ) → explains-lts.Need-extends-requires (explains-calls t) (explains-at t) explains.Post
-explains-extends-requires t c κs = let (m, P) = c .before .before .before .before .before .before .before .before .before .before .before .before .before .before .before .before .before .before .before .before .pre in
-    let a = c .before .before .before .before .before .before .before .before .before .before .before .before .before .before .before .before .before .before .before .before .args in
+explains-extends-requires t c κs = let (m, P) = c .before .before .before .before .before .before .before .before .before .before .before .before .before .before .before .before .before .before .before .pre in
+    let a = c .before .before .before .before .before .before .before .before .before .before .before .before .before .before .before .before .before .before .before .args in
     let (th, (T, (y, mem))) = P .0 in
-    let s = c .before .before .before .before .before .before .before .before .before .before .before .before .known-step in
+    let s = c .before .before .before .before .before .before .before .before .before .before .before .known-step in
     let less = one-less (a .k .0) (a .e .0) (P .6) in
     let f : Free (a .slot + 961) 1 = omega (arith, P .5, P .3, less) in
     let played = s .ensures th T (a .k .0) y mem in
     let long = s .kept .1 .1 .1 .1 .0 in
-    let zero : s .result ≡ 0 = omega (arith, c .before .before .before .before .before .before .before .before .before .if1 .left) in
+    let zero : s .result ≡ 0 = omega (arith, c .before .before .before .before .before .before .before .before .if1 .left) in
     (omega (arith, m, P .4, P .6), ((th, (nextTable y _ played f long zero, (next-stage y _ played f long zero, played .further zero))), P .1, P .3, P .4, omega (arith, P .5, P .3, less)))
 
 explains-same-length-2 : (t : ℕ) → explains-lts.Need-same-length-2 (explains-calls t) (explains-at t) explains.Post
-explains-same-length-2 t c = c .before .before .extends .kept .1 .1 .1 .0 ∙ c .before .before .before .before .before .before .before .before .before .before .before .before .before .before .before .known-step .kept .1 .1 .1 .1 .0
+explains-same-length-2 t c = c .before .before .extends .kept .1 .1 .1 .0 ∙ c .before .before .before .before .before .before .before .before .before .before .before .before .before .before .known-step .kept .1 .1 .1 .1 .0
 
 explains-returns-2 : (t : ℕ) → explains-lts.Need-returns-2 (explains-calls t) (explains-at t) explains.Post
-explains-returns-2 t c = let P = c .before .before .before .before .before .before .before .before .before .before .before .before .before .before .before .before .before .before .before .before .before .before .before .pre .1 in
-    let a = c .before .before .before .before .before .before .before .before .before .before .before .before .before .before .before .before .before .before .before .before .before .before .before .args in
-    let s = c .before .before .before .before .before .before .before .before .before .before .before .before .before .before .before .known-step in
+explains-returns-2 t c = let P = c .before .before .before .before .before .before .before .before .before .before .before .before .before .before .before .before .before .before .before .before .before .before .pre .1 in
+    let a = c .before .before .before .before .before .before .before .before .before .before .before .before .before .before .before .before .before .before .before .before .before .before .args in
+    let s = c .before .before .before .before .before .before .before .before .before .before .before .before .before .before .known-step in
     let some : 0 < a .e .0 = P .6 in
     let less = one-less (a .k .0) (a .e .0) some in
     let f : Free (a .slot + 961) 1 = omega (arith, P .5, P .3, less) in
     let long = s .kept .1 .1 .1 .1 .0 in
-    let zero : s .result ≡ 0 = omega (arith, c .before .before .before .before .before .before .before .before .before .before .before .before .if1 .left) in
+    let zero : s .result ≡ 0 = omega (arith, c .before .before .before .before .before .before .before .before .before .before .before .if1 .left) in
     let up : suc (a .e .0 - 1) ≡ a .e .0 = omega (arith, some) in
     let all : suc (a .k .0 - 1) ≡ a .k .0 = omega (arith, P .3) in
     λ th T y mem.
-    let (same, inside) = explains-believed t (c .before .before .before .before .before .before .before .before .before .before .before .before .before .before .before .before .before) y in
+    let (same, inside) = explains-believed t (c .before .before .before .before .before .before .before .before .before .before .before .before .before .before .before .before) y in
     let played = s .ensures th T (a .k .0) y mem in
-    let base = stage-utility (explains-stays t (c .before .before .before .before .before .before .before .before .before .before) y mem .0) (a .c) (c .before .before .before .before .before .before .before .before .before .before .before .before .before .before .before .before .before .wide .result) (P .1) (c .before .before .before .before .before .before .utility .ensures) in
+    let base = stage-utility (explains-stays t (c .before .before .before .before .before .before .before .before .before .before .before .before .before .before) y mem .0) (a .c) (c .before .before .before .before .before .before .before .before .before .before .before .before .before .before .before .before .wide .result) (P .1) (utility-in (a .pack .now) (getD (a .places .now) (321 + a .c) 0) (s .last .1 .1 .1 .1 .0) (c .before .before .before .before .before .before .before .before .before .before .before .before .before .before .before .before .wide .result) (c .before .before .before .before .before .before .utility .result) (c .before .before .before .before .before .before .before .before .before .table-in .ensures) (c .before .before .before .before .before .before .utility .ensures)) in
     let b = base ∙ ap (utilityTo th (a .c)) (sym same) in
     let plays = subst (λ (s : State). Plays th s (a .a) (meaning (a .p .characters) (nextTable y _ played f long zero) 0)) (sym same) (next-plays y _ played f long zero) in
     let told = c .before .before .extends .ensures th (nextTable y _ played f long zero) (next-stage y _ played f long zero) (played .further zero) in
@@ -429,56 +421,45 @@ explains-returns-2 t c = let P = c .before .before .before .before .before .befo
     (λ z. subst (λ (e : ℕ). Explained th (a .k .0) e (a .c) (a .a) (meaning (a .p .characters) T 0)) up (explained-from th (a .k .0) (a .e .0 - 1) (a .c) (a .a) (meaning (a .p .characters) T 0) _ _ b plays (a .k .0 - 1) all z))
     (λ z. explained-to th (a .k .0) (a .e .0 - 1) (a .c) (a .a) (meaning (a .p .characters) T 0) _ _ b plays (a .k .0 - 1) all (subst (λ (e : ℕ). Explained th (a .k .0) e (a .c) (a .a) (meaning (a .p .characters) T 0)) (sym up) z))
 
-extends-add-if1 : (t : ℕ) → extends-lts.Need-add-if1 (extends-calls t) (extends-at t) extends.Post
-extends-add-if1 t c = omega (arith, c .before .before .before .pre .1 .4)
-
-extends-slice-read-wide : (t : ℕ) → extends-lts.Need-slice-read-wide (extends-calls t) (extends-at t) extends.Post
-extends-slice-read-wide t c = let (th, (T, (y, mem))) = c .before .before .before .before .pre .1 .0 in omega (arith, c .before .before .before .before .pre .1 .4, y .room)
-
-extends-wide-requires : (t : ℕ) → extends-lts.Need-wide-requires (extends-calls t) (extends-at t) extends.Post
-extends-wide-requires t c κs = search needs
+extends-table-in-requires : (t : ℕ) → extends-lts.Need-table-in-requires (extends-calls t) (extends-at t) extends.Post
+extends-table-in-requires t c κs = let (th, (T, (y, mem))) = c .before .before .before .before .pre .1 .0 in (omega (arith, c .before .before .before .before .pre .1 .4, y .room), omega (arith, small (y .tabled)))
 
 extends-add-utility : (t : ℕ) → extends-lts.Need-add-utility (extends-calls t) (extends-at t) extends.Post
-extends-add-utility t c = let (th, (T, (y, mem))) = c .before .before .before .before .before .before .pre .1 .0 in omega (arith, small (y .tabled))
-
-extends-add-utility-2 : (t : ℕ) → extends-lts.Need-add-utility-2 (extends-calls t) (extends-at t) extends.Post
-extends-add-utility-2 t c = let (th, (T, (y, mem))) = c .before .before .before .before .before .before .pre .1 .0 in omega (arith, small (y .tabled), c .before .before .before .before .before .before .pre .1 .1)
+extends-add-utility t c = let (th, (T, (y, mem))) = c .before .before .before .before .before .pre .1 .0 in omega (arith, small (y .tabled), c .before .before .before .before .before .pre .1 .1)
 
 extends-mul-utility : (t : ℕ) → extends-lts.Need-mul-utility (extends-calls t) (extends-at t) extends.Post
-extends-mul-utility t c = let (th, (T, (y, mem))) = c .before .before .before .before .before .before .pre .1 .0 in omega (arith, small (y .tabled), c .before .before .before .before .before .before .pre .1 .1)
+extends-mul-utility t c = let (th, (T, (y, mem))) = c .before .before .before .before .before .pre .1 .0 in omega (arith, small (y .tabled), c .before .before .before .before .before .pre .1 .1)
 
 extends-shared-slice-read-utility : (t : ℕ) → extends-lts.Need-shared-slice-read-utility (extends-calls t) (extends-at t) extends.Post
-extends-shared-slice-read-utility t c = let (th, (T, (y, mem))) = c .before .before .before .before .before .before .before .pre .1 .0 in omega (arith, y .theorized .marked, small (y .tabled), c .before .before .before .before .before .before .before .pre .1 .1)
+extends-shared-slice-read-utility t c = let (th, (T, (y, mem))) = c .before .before .before .before .before .before .pre .1 .0 in omega (arith, y .theorized .marked, small (y .tabled), c .before .before .before .before .before .before .pre .1 .1)
 
 extends-cast-utility : (t : ℕ) → extends-lts.Need-cast-utility (extends-calls t) (extends-at t) extends.Post
-extends-cast-utility t c = omega (arith, c .shared-slice-known3 .given (321 + c .before .before .before .before .before .before .before .args .c))
+extends-cast-utility t c = omega (arith, c .shared-slice-known3 .given (321 + c .before .before .before .before .before .before .args .c))
 
 extends-utility-requires : (t : ℕ) → extends-lts.Need-utility-requires (extends-calls t) (extends-at t) extends.Post
-extends-utility-requires t c κs = let P = c .before .before .before .before .before .before .before .before .pre .1 in
-    let a = c .before .before .before .before .before .before .before .before .args in
+extends-utility-requires t c κs = let P = c .before .before .before .before .before .before .before .pre .1 in
     let (th, (T, (y, mem))) = P .0 in
-    let z = slot-stage (a .p) (a .work .now) (a .slot) (c .before .before .before .wide .ensures) y in
-    stage-rules z _ 0 (P .1) (z .tabled .some) .0
+    rules-in _ _ _ 0 (c .before .before .table-in .ensures) (stage-rules y _ 0 (P .1) (y .tabled .some) .0)
 
 extends-same-length : (t : ℕ) → extends-lts.Need-same-length (extends-calls t) (extends-at t) extends.Post
 extends-same-length t c = search needs
 
 extends-returns : (t : ℕ) → extends-lts.Need-returns (extends-calls t) (extends-at t) extends.Post
-extends-returns t c = let P = c .before .before .before .before .before .before .before .before .before .before .pre .1 in
-    let a = c .before .before .before .before .before .before .before .before .before .before .args in
-    λ th T y mem. told-yes (λ q l. refl) (λ q l. refl) mem (reach-here th (a .k .0) (a .e .0) (a .c) (a .base) (a .left) (meaning (a .p .characters) T 0) (omega (arith, stage-utility (slot-stage (a .p) (a .work .now) (a .slot) (c .before .before .before .before .before .wide .ensures) y) (a .c) 0 (P .1) (c .before .utility .ensures), c .if1 .taken)))
+extends-returns t c = let P = c .before .before .before .before .before .before .before .before .before .pre .1 in
+    let a = c .before .before .before .before .before .before .before .before .before .args in
+    λ th T y mem. told-yes (λ q l. refl) (λ q l. refl) mem (reach-here th (a .k .0) (a .e .0) (a .c) (a .base) (a .left) (meaning (a .p .characters) T 0) (omega (arith, stage-utility y (a .c) 0 (P .1) (utility-in (a .pack .now) (getD (a .places .now) (321 + a .c) 0) (a .work .now) 0 (c .before .utility .result) (c .before .before .before .before .table-in .ensures) (c .before .utility .ensures)), c .if1 .taken)))
 
 extends-same-length-2 : (t : ℕ) → extends-lts.Need-same-length-2 (extends-calls t) (extends-at t) extends.Post
 extends-same-length-2 t c = search needs
 
 extends-returns-2 : (t : ℕ) → extends-lts.Need-returns-2 (extends-calls t) (extends-at t) extends.Post
-extends-returns-2 t c = let P = c .before .before .before .before .before .before .before .before .before .before .before .pre .1 in
-    let a = c .before .before .before .before .before .before .before .before .before .before .before .args in
+extends-returns-2 t c = let P = c .before .before .before .before .before .before .before .before .before .before .pre .1 in
+    let a = c .before .before .before .before .before .before .before .before .before .before .args in
     let none : 1 ≡ suc (a .left) = omega (arith, c .if2 .taken) in
-    λ th T y mem. told-none _ mem (λ z. reach-no-more th (a .k .0) (a .e .0) (a .c) (a .base) (meaning (a .p .characters) T 0) (λ b. omega (arith, stage-utility (slot-stage (a .p) (a .work .now) (a .slot) (c .before .before .before .before .before .before .wide .ensures) y) (a .c) 0 (P .1) (c .before .before .utility .ensures), c .before .if1 .left)) (subst (λ (n : ℕ). inner.Above th (a .k .0) (a .e .0) (a .c) (a .base) n (meaning (a .p .characters) T 0)) (sym none) z))
+    λ th T y mem. told-none _ mem (λ z. reach-no-more th (a .k .0) (a .e .0) (a .c) (a .base) (meaning (a .p .characters) T 0) (λ b. omega (arith, stage-utility y (a .c) 0 (P .1) (utility-in (a .pack .now) (getD (a .places .now) (321 + a .c) 0) (a .work .now) 0 (c .before .before .utility .result) (c .before .before .before .before .before .table-in .ensures) (c .before .before .utility .ensures)), c .before .if1 .left)) (subst (λ (n : ℕ). inner.Above th (a .k .0) (a .e .0) (a .c) (a .base) n (meaning (a .p .characters) T 0)) (sym none) z))
 
 extends-recall-requires : (t : ℕ) → extends-lts.Need-recall-requires (extends-calls t) (extends-at t) extends.Post
-extends-recall-requires t c κs = let P = c .before .before .before .before .before .before .before .before .before .before .before .before .pre .1 in
+extends-recall-requires t c κs = let P = c .before .before .before .before .before .before .before .before .before .before .before .pre .1 in
     let (th, (T, (y, mem))) = P .0 in
     stage-before y (omega (arith, P .4))
 
@@ -486,8 +467,8 @@ extends-same-length-3 : (t : ℕ) → extends-lts.Need-same-length-3 (extends-ca
 extends-same-length-3 t c = search needs
 
 extends-returns-3 : (t : ℕ) → extends-lts.Need-returns-3 (extends-calls t) (extends-at t) extends.Post
-extends-returns-3 t c = let P = c .before .before .before .before .before .before .before .before .before .before .before .before .before .before .before .before .pre .1 in
-    let a = c .before .before .before .before .before .before .before .before .before .before .before .before .before .before .before .before .args in
+extends-returns-3 t c = let P = c .before .before .before .before .before .before .before .before .before .before .before .before .before .before .before .pre .1 in
+    let a = c .before .before .before .before .before .before .before .before .before .before .before .before .before .before .before .args in
     let r = c .before .before .before .recall in
     λ th T y mem.
     let (m, fact) = r .ensures .told th (a .k .0) (a .slot + 961) (omega (arith, P .4)) (y .slotted) mem in
@@ -497,8 +478,8 @@ extends-same-length-4 : (t : ℕ) → extends-lts.Need-same-length-4 (extends-ca
 extends-same-length-4 t c = search needs
 
 extends-returns-4 : (t : ℕ) → extends-lts.Need-returns-4 (extends-calls t) (extends-at t) extends.Post
-extends-returns-4 t c = let P = c .before .before .before .before .before .before .before .before .before .before .before .before .before .before .before .before .before .pre .1 in
-    let a = c .before .before .before .before .before .before .before .before .before .before .before .before .before .before .before .before .before .args in
+extends-returns-4 t c = let P = c .before .before .before .before .before .before .before .before .before .before .before .before .before .before .before .before .pre .1 in
+    let a = c .before .before .before .before .before .before .before .before .before .before .before .before .before .before .before .before .args in
     let r = c .before .before .before .before .recall in
     λ th T y mem.
     let (m, fact) = r .ensures .told th (a .k .0) (a .slot + 961) (omega (arith, P .4)) (y .slotted) mem in
@@ -508,8 +489,8 @@ extends-sub-extends-by : (t : ℕ) → extends-lts.Need-sub-extends-by (extends-
 extends-sub-extends-by t c = omega (arith, c .before .before .before .before .before .before .before .if2 .left)
 
 extends-extends-by-requires : (t : ℕ) → extends-lts.Need-extends-by-requires (extends-calls t) (extends-at t) extends.Post
-extends-extends-by-requires t c κs = let (m, P) = c .before .before .before .before .before .before .before .before .before .before .before .before .before .before .before .before .before .before .pre in
-    let a = c .before .before .before .before .before .before .before .before .before .before .before .before .before .before .before .before .before .before .args in
+extends-extends-by-requires t c κs = let (m, P) = c .before .before .before .before .before .before .before .before .before .before .before .before .before .before .before .before .before .pre in
+    let a = c .before .before .before .before .before .before .before .before .before .before .before .before .before .before .before .before .before .args in
     let (th, (T, (y, mem))) = P .0 in
     let r = c .before .before .before .before .before .recall in
     (omega (arith, m, c .before .before .before .before .before .before .before .if2 .left), ((th, (T, (slot-same (a .slot) y (λ q l. r .ensures .only .low q (omega (arith, l, P .4))) (r .kept .0), r .ensures .told th (a .k .0) (a .slot + 961) (omega (arith, P .4)) (y .slotted) mem .0))), P .1, P .2, P .3, omega (arith, P .4, c .before .before .before .before .before .before .before .if2 .left)))
@@ -518,8 +499,8 @@ extends-mark-requires : (t : ℕ) → extends-lts.Need-mark-requires (extends-ca
 extends-mark-requires t c κs = search needs
 
 extends-remember-requires : (t : ℕ) → extends-lts.Need-remember-requires (extends-calls t) (extends-at t) extends.Post
-extends-remember-requires t c κs = let P = c .before .before .before .before .before .before .before .before .before .before .before .before .before .before .before .before .before .before .before .before .before .before .before .pre .1 in
-    let a = c .before .before .before .before .before .before .before .before .before .before .before .before .before .before .before .before .before .before .before .before .before .before .before .args in
+extends-remember-requires t c κs = let P = c .before .before .before .before .before .before .before .before .before .before .before .before .before .before .before .before .before .before .before .before .before .before .pre .1 in
+    let a = c .before .before .before .before .before .before .before .before .before .before .before .before .before .before .before .before .before .before .before .before .before .before .args in
     let (th, (T, (y, mem))) = P .0 in
     let r = c .before .before .before .before .before .before .before .before .before .before .recall in
     let x = c .before .before .before .before .extends-by in
@@ -530,8 +511,8 @@ extends-same-length-5 : (t : ℕ) → extends-lts.Need-same-length-5 (extends-ca
 extends-same-length-5 t c = c .before .before .remember .kept .0 ∙ c .before .before .before .before .before .before .before .extends-by .kept .1 .1 .1 .0 ∙ c .before .before .before .before .before .before .before .before .before .before .before .before .before .recall .kept .0
 
 extends-returns-5 : (t : ℕ) → extends-lts.Need-returns-5 (extends-calls t) (extends-at t) extends.Post
-extends-returns-5 t c = let P = c .before .before .before .before .before .before .before .before .before .before .before .before .before .before .before .before .before .before .before .before .before .before .before .before .before .before .pre .1 in
-    let a = c .before .before .before .before .before .before .before .before .before .before .before .before .before .before .before .before .before .before .before .before .before .before .before .before .before .before .args in
+extends-returns-5 t c = let P = c .before .before .before .before .before .before .before .before .before .before .before .before .before .before .before .before .before .before .before .before .before .before .before .before .before .pre .1 in
+    let a = c .before .before .before .before .before .before .before .before .before .before .before .before .before .before .before .before .before .before .before .before .before .before .before .before .before .args in
     let some : 0 < a .left = omega (arith, c .before .before .before .before .before .before .before .before .before .before .before .before .before .before .before .if2 .left) in
     let rem = c .before .before .remember .ensures in
     let r = c .before .before .before .before .before .before .before .before .before .before .before .before .before .recall in
@@ -539,9 +520,8 @@ extends-returns-5 t c = let P = c .before .before .before .before .before .befor
     λ th T y mem.
     let s = meaning (a .p .characters) T 0 in
     let states : ℕ → State = λ root. meaning (a .p .characters) T root in
-    let z = slot-stage (a .p) (a .work .now) (a .slot) (c .before .before .before .before .before .before .before .before .before .before .before .before .before .before .before .before .before .before .before .before .before .wide .ensures) y in
     let told = x .ensures th T (slot-same (a .slot) y (λ q l. r .ensures .only .low q (omega (arith, l, P .4))) (r .kept .0)) (r .ensures .told th (a .k .0) (a .slot + 961) (omega (arith, P .4)) (y .slotted) mem .0) in
-    let here : a .base < utilityTo th (a .c) s → ⊥ = (λ b. omega (arith, stage-utility z (a .c) 0 (P .1) (c .before .before .before .before .before .before .before .before .before .before .before .before .before .before .before .before .before .utility .ensures), c .before .before .before .before .before .before .before .before .before .before .before .before .before .before .before .before .if1 .left, b)) in
+    let here : a .base < utilityTo th (a .c) s → ⊥ = (λ b. omega (arith, stage-utility y (a .c) 0 (P .1) (utility-in (a .pack .now) (getD (a .places .now) (321 + a .c) 0) (a .work .now) 0 (c .before .before .before .before .before .before .before .before .before .before .before .before .before .before .before .before .before .utility .result) (c .before .before .before .before .before .before .before .before .before .before .before .before .before .before .before .before .before .before .before .before .table-in .ensures) (c .before .before .before .before .before .before .before .before .before .before .before .before .before .before .before .before .before .utility .ensures)), c .before .before .before .before .before .before .before .before .before .before .before .before .before .before .before .before .if1 .left, b)) in
     let whole = extended th (a .k .0) (a .e .0) (a .c) (a .base) (a .left) states some here told in
     let z′ = slot-same (a .slot) (slot-same {now = r .last .0} (a .slot) y (λ q l. r .ensures .only .low q (omega (arith, l, P .4))) (r .kept .0)) (told .low) (x .kept .1 .1 .1 .0) in
     record {
@@ -773,16 +753,13 @@ pub +allowed+explained+explains+extends+extends-by+fine+via-spec : {M : Type 1} 
     (explains-known-step-requires t)
     (explains-same-length t)
     (explains-returns t)
+    (explains-add-next t)
+    (explains-table-in-requires t)
     (explains-add-utility t)
-    (explains-slice-read-wide-2 t)
-    (explains-wide-requires-2 t)
-    (explains-add-utility-2 t)
-    (explains-add-utility-3 t)
     (explains-mul-utility t)
     (explains-shared-slice-read-utility t)
     (explains-cast-utility t)
     (explains-utility-requires t)
-    (explains-add-extends t)
     (explains-sub-t15 t)
     (explains-sub-extends t)
     (explains-extends-requires t)
@@ -791,11 +768,8 @@ pub +allowed+explained+explains+extends+extends-by+fine+via-spec : {M : Type 1} 
     (λ t. extends-lts.spec (extends-calls t)
     (extends-at t)
     extends.Post
-    (extends-add-if1 t)
-    (extends-slice-read-wide t)
-    (extends-wide-requires t)
+    (extends-table-in-requires t)
     (extends-add-utility t)
-    (extends-add-utility-2 t)
     (extends-mul-utility t)
     (extends-shared-slice-read-utility t)
     (extends-cast-utility t)

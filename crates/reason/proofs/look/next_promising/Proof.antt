@@ -1,8 +1,9 @@
 -- The actions from x on so far are hopeless. Assumes nothing.
-use Prim.Native.Nat.{ℕ, _+_, _-_}
+use Prim.Native.Nat.{_-_}
 use mathlib.Core.Path.{sym, subst}
 use native.Mathlib.Omega.{arith}
 use borrow.Author.Needs.{needs}
+use Rattle.state.specs.declared.table.Table.{Table}
 use Rattle.reason.specs.Inner.Look.{Tryable, Hopeless, Skipped}
 use Rattle.reason.proofs.Looking.{skipped-none, skipped-more}
 use Rattle.reason.proofs.look.next_promising.Statement.{statement}
@@ -16,24 +17,21 @@ abbrev μ-loop : tie.MeasureT-loop
 
 promising-requires : tie.Need-promising-requires Inv-loop μ-loop
 promising-requires c κs =
-    let a = c .before .before .before .before .before .before .before .before .before .args in
-    subst (λ (n : ℕ). Tryable (a .pack .now) (a .places .now) (a .p .triggers) (c .before .before .loop .y) (a .work .now) (record { rows = a .slot + 1; nodes = n; fluents = a .p .fluents; characters = a .p .characters; width = a .p .fluents + a .p .characters }) (a .whose)) (c .before .before .before .before .wide .ensures) (c .before .before .before .before .before .before .before .before .before .pre .0 .each (c .before .before .loop .y) (c .if1 .taken))
+    let a = c .before .before .before .before .before .before .before .args in
+    subst (λ (t : Table). Tryable (a .pack .now) (a .places .now) (a .p .triggers) (c .before .before .loop .y) (a .work .now) t (a .whose)) (sym (c .before .before .before .table-in .ensures)) (c .before .before .before .before .before .before .before .pre .0 .each (c .before .before .loop .y) (c .if1 .taken))
 
 loop-again : tie.Need-loop-again Inv-loop μ-loop
 loop-again c =
-    let a = c .before .before .before .before .before .before .before .before .before .before .before .args in
+    let a = c .before .before .before .before .before .before .before .before .before .args in
     skipped-more (c .before .before .before .before .loop .inv) (c .before .before .if1 .taken)
-    (subst (λ (n : ℕ). Hopeless (a .pack .now) (a .places .now) (a .p .triggers) (c .before .before .before .before .loop .y) (a .work .now) (record { rows = a .slot + 1; nodes = n; fluents = a .p .fluents; characters = a .p .characters; width = a .p .fluents + a .p .characters }) (a .whose) (a .left) (a .base)) (sym (c .before .before .before .before .before .before .wide .ensures)) (c .before .promising .ensures (c .if2 .left)))
+    (subst (λ (t : Table). Hopeless (a .pack .now) (a .places .now) (a .p .triggers) (c .before .before .before .before .loop .y) (a .work .now) t (a .whose) (a .left) (a .base)) (c .before .before .before .before .before .table-in .ensures) (c .before .promising .ensures (c .if2 .left)))
 
 pub next-promising-spec : {M : Type 1} → statement M
 next-promising-spec =
     tie.close
     (tie.spec Inv-loop μ-loop
-    (λ c. omega (arith, c .before .before .before .pre .0 .before))
-    (λ c. omega (arith, c .before .before .before .before .pre .0 .before, c .before .before .before .before .pre .0 .room))
-    (λ c κs. search needs)
-    (λ c. omega (arith, c .before .before .before .before .before .before .pre .0 .narrow))
-    (λ c. skipped-none (c .before .before .before .before .before .before .pre .1))
+    (λ c κs. let b = c .before .before .before .pre .0 in (omega (arith, b .before, b .room), b .narrow))
+    (λ c. skipped-none (c .before .before .before .before .pre .1))
     promising-requires
     (λ c. c .before .before .before .before .loop .inv)
     (λ c. search needs)
