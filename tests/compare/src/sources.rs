@@ -39,7 +39,7 @@ pub const OFF: [Off; 8] = [
     },
     Off {
         name: "memory of the author's lists",
-        edits: &[("planner/search.rs", "if recall(work, p, t, key) == 3 {", "if false {")],
+        edits: &[("planner/search.rs", "if recall(work, p, slot, key) == 3 {", "if false {")],
     },
     Off {
         name: "repeats on the author's path",
@@ -55,7 +55,7 @@ pub const OFF: [Off; 8] = [
             ("reason/explain.rs", "if known == 5 {", "if known == 9 {"),
             ("reason/explain.rs", "if known == 1 {", "if known == 9 {"),
             ("reason/explain.rs", "if known == 2 {", "if known == 9 {"),
-            ("planner/search.rs", "if recall(work, p, t, key) == 3 {", "if false {"),
+            ("planner/search.rs", "if recall(work, p, slot, key) == 3 {", "if false {"),
             ("planner/search.rs", "if repeats(work, p, slot, done) {", "if false {"),
             ("reason/look.rs", "if !may {", "if false {"),
             ("reason/look.rs", "if 0 < left {", "if true {"),
@@ -143,5 +143,22 @@ fn compile(folder: &Path, source: &str, name: &str, over: &[&str], library: bool
     match rustc.arg(source).status()?.success() {
         true => Ok(()),
         false => Err(Error::other(format!("rustc does not take {source}"))),
+    }
+}
+
+#[cfg(test)]
+mod tests {
+    use super::*;
+
+    /// What is turned off for counting is still in the sources, each text once in its file.
+    #[test]
+    fn the_edits_fit() {
+        let crates = Path::new(env!("CARGO_MANIFEST_DIR")).join("../../crates");
+        for (file, old, _) in OFF.iter().flat_map(|off| off.edits) {
+            let (name, module) = file.split_once('/').expect("a crate and a file");
+            let source = crates.join(name).join("src").join(module).with_extension("rt");
+            let text = fs::read_to_string(&source).expect("a source file");
+            assert_eq!(text.matches(old).count(), 1, "{}: '{old}'", source.display());
+        }
     }
 }
