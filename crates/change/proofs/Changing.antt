@@ -22,7 +22,7 @@ use Rattle.partition.specs.Inner.Put.{PartCopied}
 use Rattle.change.specs.declared.change.Change.{Change}
 use Rattle.change.specs.Laws.Changed.{Member, acted, edge, old, There}
 use Rattle.change.specs.Inner.Cause.{told, EffectsAt, Telling, Tellable, ToldWritten, Tabled, Watched, Took}
-use Rattle.change.specs.Inner.Change.{Scene, Stands, at, tells, believed, took, state, next, valuesOf, memberOf, SlotIs, SlotsPut, RowRoom, Puts}
+use Rattle.change.specs.Inner.Change.{Scene, Stands, at, tells, believed, took, rowAfter, next, valuesOf, memberOf, SlotIs, SlotsPut, RowRoom, Puts}
 
 -- what a slot stands for
 module _ (h : Change) (n m : ℕ) (l : m < n) where
@@ -191,12 +191,9 @@ module _ {s : Scene} {pack places effects was : List ℕ} {h : Change} {t : Tabl
   n = target (s .table) m c
 
   module _ {q : ℕ} {b : Bool} (f : Took pack places (h .observed) was t m c b) (e : q ≡ n) where
-    is : (k : Member) → cond b (acted n) (old n) ≡ k → took s (t .characters) m c ≡ k
-    is k g = ap (λ (b : Bool). cond b (acted n) (old n)) (took-is x m c f) ∙ g
-
     -- the row believed in, having taken part or as it was
-    pub believed-state : state q b ≡ took s (t .characters) m c
-    believed-state = ap (λ (q : ℕ). state q b) e ∙ sym (is (state n b) refl)
+    pub believed-row : rowAfter q b ≡ took s (t .characters) m c
+    believed-row = ap₂ rowAfter e (sym (took-is x m c f))
 
     -- a belief that does not take part leaves a slot for rows as they were
     pub believed-keeps : c < t .characters → b ≡ false → h .old < 7

@@ -41,7 +41,7 @@ pub fn write_told(pack: &[u8], at: usize, whom: usize, work: &mut [u8], row: usi
     }
 }
 
-// Whether what character c believes in row m takes part: every belief does where `observed` is 327, else those whose observation condition holds there.
+// Whether what character c believes in row m takes part: every belief does where `observed` is `PLACES`, else those whose observation condition holds there.
 pub fn takes(
     pack: &[u8],
     places: &[u16],

@@ -19,7 +19,7 @@ ghost use lib.ListN.{length};
 ghost use Rattle.partition.specs.Inner.Numbers.{Numbering, keyAt};
 ghost use Rattle.change.specs.Laws.Changed.{acted, old, There};
 ghost use Rattle.change.specs.Inner.Cause.{Tabled};
-ghost use Rattle.change.specs.Inner.Change.{Scene, Stands, Scened, Seen, believed, state, memberOf, Sourced, SlotIs, SlotsPut, RowRoom, Puts, Laid, RowMade, ChangeMade};
+ghost use Rattle.change.specs.Inner.Change.{Scene, Stands, Scened, Seen, believed, rowAfter, memberOf, Sourced, SlotIs, SlotsPut, RowRoom, Puts, Laid, RowMade, ChangeMade};
 
 // Which of a row's seven slots stand for the row having taken part and for the row as it was, the others being its characters'; where the observation conditions are; and the
 // row in which it happens.
@@ -156,7 +156,7 @@ pub fn made_of(pack: &[u8], places: &[u16], h: Change, work: &[u8], t: Table, sl
 }
 
 // Writes row m, having taken part or as it was.
-pub fn put_state(
+pub fn put_row(
     pack: &[u8],
     places: &[u16],
     effects: &[u16],
@@ -168,7 +168,7 @@ pub fn put_state(
     to: usize,
 )
     requires { ⌜ Scened (now pack) (now places) (now effects) h (now work) t × (m < t .nodes) × (took ≡ false → h .old < 7) × RowRoom (now work) t to ⌝ }
-    ensures { λ _. ⌜ ((s : Scene) → Stands s (now (pack .entry)) (now (places .entry)) (now (effects .entry)) h (now (work .entry)) t → Puts s h t (state m took) (now (work .entry)) (now (work .exit)) to) ⌝ }
+    ensures { λ _. ⌜ ((s : Scene) → Stands s (now (pack .entry)) (now (places .entry)) (now (effects .entry)) h (now (work .entry)) t → Puts s h t (rowAfter m took) (now (work .entry)) (now (work .exit)) to) ⌝ }
 {
     if took {
         put_acted(pack, places, effects, h, work, t, m, to)
@@ -192,7 +192,7 @@ pub fn put_member(
     ensures { λ _. ⌜ ((s : Scene) → Stands s (now (pack .entry)) (now (places .entry)) (now (effects .entry)) h (now (work .entry)) t → Puts s h t (memberOf h (t .nodes) slot) (now (work .entry)) (now (work .exit)) to) ⌝ }
 {
     let from = made_of(pack, places, h, work, t, slot);
-    put_state(pack, places, effects, h, work, t, from.row, from.took, to);
+    put_row(pack, places, effects, h, work, t, from.row, from.took, to);
     if from.told {
         let at = effects[slot / 7] as usize;
         write_told(pack, at, slot % 7 + 1, work, to, t.fluents)

@@ -209,17 +209,20 @@ refusal-bounded s g x k p h e = subst (Bounded s) e (mapped-bounded s g x h) .1
 
 -- what is read from a place within the bytes on ends within them
 module _ (s : List ℕ) (at : ℕ) (w : Within s at) (n : ℕ) where
+  read-within : {A : Type 0} (x : Reading A) (a : A) → Bounded s x → x ≡ done a n → Within s n
+  read-within x a h e = (subst (Bounded s) e h, w .1)
+
   reads-within : {A B : Type 0} (p : Reader A) (g : A → B) (b : B) → Bounds p → mapped g (p s at) ≡ done b n → Within s n
-  reads-within p g b h e = (subst (Bounded s) e (mapped-bounded s g (p s at) (h s at (w .0))), w .1)
+  reads-within p g b h e = read-within (mapped g (p s at)) b (mapped-bounded s g (p s at) (h s at (w .0))) e
 
   pub ends-within : {A : Type 0} (p : Reader A) → Bounds p → Ends p s at n → Within s n
   ends-within p h e = reads-within p forget tt h e
 
   pub count-within : (low limit k : ℕ) → between low limit 3 s at ≡ done k n → Within s n
-  count-within low limit k e = (subst (Bounded s) e (between-bounded low limit 3 (omega arith) s at (w .0)), w .1)
+  count-within low limit k e = read-within (between low limit 3 s at) k (between-bounded low limit 3 (omega arith) s at (w .0)) e
 
   pub head-within : (d : Dimensions) → headAt s at ≡ done d n → Within s n
-  head-within d e = (subst (Bounded s) e (head-bounded s at (w .0)), w .1)
+  head-within d e = read-within (headAt s at) d (head-bounded s at (w .0)) e
 
   module _ (d : Dimensions) where
     pub rows-within : (nodes : ℕ) → Ends (many (nodeAt d nodes) nodes) s at n → Within s n

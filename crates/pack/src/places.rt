@@ -9,7 +9,7 @@ pub const TRIGGER_EFFECTS: usize = 289;
 // The author's utility, and the first character's.
 pub const UTILITIES: usize = 320;
 
-pub const CHARACTERS: usize = 321;
+pub const CHARACTER_UTILITIES: usize = 321;
 
 // How many places there are.
 pub const PLACES: usize = 327;

@@ -6,7 +6,7 @@ use explanation::fact::remember;
 use explanation::known::known_step;
 use explanation::memory::Shape;
 use explanation::memory::table_in;
-use pack::places::CHARACTERS;
+use pack::places::CHARACTER_UTILITIES;
 use reading::number::wide;
 use state::judge::utility;
 use state::write::consenter;
@@ -86,7 +86,13 @@ pub fn explains(
     }
     let next = slot + SLOT;
     let before = table_in(work, p, slot);
-    let base = utility(pack, places[CHARACTERS + c] as usize, work, before, q);
+    let base = utility(
+        pack,
+        places[CHARACTER_UTILITIES + c] as usize,
+        work,
+        before,
+        q,
+    );
     extends(
         pack,
         places,
@@ -118,7 +124,7 @@ pub fn extends(
     ensures { λ r. ⌜ ((th : Theory) (T : List Node) → Stage th T (now (pack .entry)) (now (places .entry)) p (now (work .entry)) (slotTable p (now (work .entry)) slot) (slot + 961) → Memory th (k .0) p (slot + 961) (now (work .entry)) → Told (Memory th (k .0) p (slot + 961)) (slot + 961) (now (work .entry)) (now (work .exit)) r (Above th (k .0) (e .0) c base (suc left) (meaning (p .characters) T 0))) ⌝ }
 {
     let t = table_in(work, p, slot);
-    if base < utility(pack, places[CHARACTERS + c] as usize, work, t, 0) {
+    if base < utility(pack, places[CHARACTER_UTILITIES + c] as usize, work, t, 0) {
         return true;
     }
     if left == 0 {

@@ -28,6 +28,10 @@ pub record Scene : Type 0 where
   pub causes : State → List Effect
   pub takes : State → ℕ → Bool
 
+-- row m, having taken part or as it was
+abbrev pub rowAfter : ℕ → Bool → Member
+rowAfter m b = cond b (acted m) (old m)
+
 module _ (s : Scene) (C : ℕ) where
   -- what row m means
   abbrev pub at : ℕ → State
@@ -42,17 +46,13 @@ module _ (s : Scene) (C : ℕ) where
 
   -- what c believes in row m, having taken part or as it was
   abbrev pub took : ℕ → ℕ → Member
-  took m c = cond (s .takes (at m) c) (acted (target (s .table) m c)) (old (target (s .table) m c))
+  took m c = rowAfter (target (s .table) m c) (s .takes (at m) c)
 
   abbrev pub next : Member → ℕ → Member
   next = changed.next (s .causes) (s .takes) C (s .table) tells
 
   abbrev pub valuesOf : Member → List ℕ
   valuesOf = changed.valuesOf (s .causes) (s .takes) C (s .table) tells
-
--- row m, having taken part or as it was
-abbrev pub state : ℕ → Bool → Member
-state m b = cond b (acted m) (old m)
 
 -- which of a row's seven slots stand for what: one that a character is told something by is that character's
 pub record Kinds (s : Scene) (n C : ℕ) (h : Change) : Type 0 where
@@ -86,8 +86,8 @@ Seen work t = (s : Scene) × Tabled (s .dimensions) (s .table) work t
 pub record Sourced (s : Scene) (h : Change) (t : Table) (slot : ℕ) (r : Source) : Type 0 where
   pub inside : r .row < t .nodes
   pub keeps : r .took ≡ false → h .old < 7
-  pub plain : r .told ≡ false → state (r .row) (r .took) ≡ memberOf h (t .nodes) slot
-  pub told : r .told ≡ true → (slot / 7 < t .nodes) × (slot % 7 < t .characters) × (edge (slot / 7) (slot % 7) ≡ memberOf h (t .nodes) slot) × (state (r .row) (r .took) ≡ took s (t .characters) (slot / 7) (slot % 7))
+  pub plain : r .told ≡ false → rowAfter (r .row) (r .took) ≡ memberOf h (t .nodes) slot
+  pub told : r .told ≡ true → (slot / 7 < t .nodes) × (slot % 7 < t .characters) × (edge (slot / 7) (slot % 7) ≡ memberOf h (t .nodes) slot) × (rowAfter (r .row) (r .took) ≡ took s (t .characters) (slot / 7) (slot % 7))
 
 -- a slot stands for a member
 pub record SlotIs (h : Change) (n : ℕ) (k : Member) (slot : ℕ) : Type 0 where

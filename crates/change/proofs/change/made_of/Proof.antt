@@ -6,7 +6,7 @@ use lib.ListN.{length}
 use native.Mathlib.Omega.{arith}
 use borrow.Author.Needs.{needs}
 use Rattle.state.specs.State.{target}
-use Rattle.change.proofs.Changing.{row-inside, watched, belief-is, belief-in, believed-state, believed-keeps, member-first, member-old, member-acted, member-edge, member-there}
+use Rattle.change.proofs.Changing.{row-inside, watched, belief-is, belief-in, believed-row, believed-keeps, member-first, member-old, member-acted, member-edge, member-there}
 use Rattle.change.proofs.change.made_of.Statement.{statement}
 use Rattle.change.proofs.change.made_of.Tie as tie
 
@@ -41,5 +41,5 @@ made-of-spec =
       inside = omega (arith, byte, belief-in (x .tabled) _ _ (here .0) (here .1));
       keeps = believed-keeps x _ _ 0 (here .0) (c .takes .ensures) byte (here .1);
       plain = λ e. absurd (true≢false e);
-      told = λ e. (here .0, here .1, member-edge _ _ _ (c .before .before .before .before .before .before .before .before .before .before .if1 .left) (c .before .before .before .before .before .before .before .before .if2 .left) (c .before .before .before .before .before .before .if3 .left), believed-state x _ _ 0 (here .0) (c .takes .ensures) byte);
+      told = λ e. (here .0, here .1, member-edge _ _ _ (c .before .before .before .before .before .before .before .before .before .before .if1 .left) (c .before .before .before .before .before .before .before .before .if2 .left) (c .before .before .before .before .before .before .if3 .left), believed-row x _ _ 0 (here .0) (c .takes .ensures) byte);
     }))

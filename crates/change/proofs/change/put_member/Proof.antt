@@ -20,10 +20,10 @@ put-member-spec =
     (λ c. omega (arith, inside (c .before), c .before .before .before .before .before .before .before .before .before .before .before .before .pre .0 .1 .long))
     (λ c. omega (arith, c .shared-slice-known4 .given (c .before .before .before .before .before .before .before .before .before .before .before .before .args .slot / 7)))
     (λ c. omega arith)
-    (λ c κs. let p = c .before .before .before .before .before .before .before .before .before .before .before .before .before .pre in tellable (p .0 .1) _ (inside (c .before .before)) (omega (arith, p .3 .room, c .before .before .before .before .before .put-state .kept .1 .1 .1 .1 .0)))
-    (λ c. c .before .before .write-told .kept .1 .1 .1 .0 ∙ c .before .before .before .before .before .before .before .before .put-state .kept .1 .1 .1 .1 .0)
+    (λ c κs. let p = c .before .before .before .before .before .before .before .before .before .before .before .before .before .pre in tellable (p .0 .1) _ (inside (c .before .before)) (omega (arith, p .3 .room, c .before .before .before .before .before .put-row .kept .1 .1 .1 .1 .0)))
+    (λ c. c .before .before .write-told .kept .1 .1 .1 .0 ∙ c .before .before .before .before .before .before .before .before .put-row .kept .1 .1 .1 .1 .0)
     (λ c. λ s x.
     let told = c .before .before .before .before .before .before .before .before .before .before .made-of .ensures s _ x .told (c .before .before .before .before .before .if1 .taken) in
-    put-is s _ _ (told .2) (edge-put x _ _ _ (told .0) (put-is s _ _ (told .3) (c .before .before .before .before .before .before .before .before .put-state .ensures s x)) (c .before .before .write-told .ensures)))
-    (λ c. c .before .before .before .put-state .kept .1 .1 .1 .1 .0)
-    (λ c. λ s x. put-is s _ _ (c .before .before .before .before .before .made-of .ensures s _ x .plain (c .if1 .left)) (c .before .before .before .put-state .ensures s x)))
+    put-is s _ _ (told .2) (edge-put x _ _ _ (told .0) (put-is s _ _ (told .3) (c .before .before .before .before .before .before .before .before .put-row .ensures s x)) (c .before .before .write-told .ensures)))
+    (λ c. c .before .before .before .put-row .kept .1 .1 .1 .1 .0)
+    (λ c. λ s x. put-is s _ _ (c .before .before .before .before .before .made-of .ensures s _ x .plain (c .if1 .left)) (c .before .before .before .put-row .ensures s x)))
