@@ -10,7 +10,6 @@ use borrow.Author.Needs.{needs}
 use Rattle.explanation.proofs.known.again.Statement.{statement}
 use Rattle.explanation.proofs.known.again.Tie as tie
 
--- src/known.rt:76:5
 copy-part-requires : tie.Need-copy-part-requires
 copy-part-requires c κs =
     let k = c .before .before .before .before .before .before .pre .2 (omega (arith, c .before .before .before .before .if1 .left)) in
@@ -21,7 +20,6 @@ copy-part-requires c κs =
     let taken = c .before .before .before .before .before .slice-known .given 43518 in
     (omega (arith, k .some, s .before, most), omega (arith, k .inside, size, taken, s .room), omega (arith, s .before, s .room, most))
 
--- src/known.rt:67:1
 returns-2 : tie.Need-returns-2
 returns-2 c =
     let k = c .before .before .before .before .before .before .before .before .before .pre .2 (omega (arith, c .before .before .before .before .before .before .before .if1 .left)) in

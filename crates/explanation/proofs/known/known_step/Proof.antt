@@ -16,7 +16,6 @@ use Rattle.explanation.proofs.known.known_step.Tie as tie
 named : (c : tie.After-name-of) → let a = c .before .before .before .before .before .before .before .args in Naming (a .p) (c .before .before .table-in .result) (a .work .now) (c .name-of .last .0) (c .name-of .result)
 named c = let a = c .before .before .before .before .before .before .before .args in subst (λ (t : Table). Naming (a .p) t (a .work .now) (c .name-of .last .0) (c .name-of .result)) (sym (c .before .before .table-in .ensures)) (c .name-of .ensures)
 
--- src/known.rt:119:9
 again-requires : tie.Need-again-requires
 again-requires c κs =
     let (K, ((th, (T, (x, m))), there, row, free)) = c .before .before .before .before .before .before .before .before .before .before .before .before .before .before .before .before .pre in
@@ -24,14 +23,12 @@ again-requires c κs =
     let fact = known-fact x free (c .before .before .before .before .before .before .before .before .before .before .before .before .before .before .before .before .args .root) (n .ensures) (n .kept .0) (c .before .before .before .before .step-is .ensures (c .before .before .before .if1 .taken)) (c .before .before .before .before .before .before .step-at .ensures) (c .before .wide .ensures) m in
     (stage-slot (stage-same x (λ q l. n .ensures .only .low q (omega (arith, l, free))) (n .kept .0)) free, omega (arith, c .before .wide .ensures, c .before .before .slice-known3 .given (c .before .before .before .before .before .before .step-at .result + 3)), λ z. fact .left z .0)
 
--- src/known.rt:119:9
 returns : tie.Need-returns
 returns c =
     let (K, ((th, (T, (x, m))), there, row, free)) = c .before .before .before .before .before .before .before .before .before .before .before .before .before .before .before .before .before .before .before .pre in
     let n = c .before .before .before .before .before .before .before .before .before .before .before .before .name-of in
     λ th T K x m. step-again x free (c .before .before .before .before .before .before .before .before .before .before .before .before .before .before .before .before .before .before .before .args .root) (n .ensures) (n .kept .0) (c .before .before .before .before .before .before .before .step-is .ensures (c .before .before .before .before .before .before .if1 .taken)) (c .before .before .before .before .before .before .before .before .before .step-at .ensures) (c .before .before .before .before .wide .ensures) m (c .before .before .again .ensures)
 
--- src/known.rt:121:9
 step-slot-requires : tie.Need-step-slot-requires
 step-slot-requires c κs =
     let a = c .before .before .before .before .before .before .before .before .before .before .before .before .before .before .args in
@@ -40,7 +37,6 @@ step-slot-requires c κs =
     let y = table-stage (c .before .before .before .before .before .before .before .before .before .table-in .ensures) x in
     (th, (T, (_, (stage-setting (stage-same y (λ q l. n .ensures .only .low q (omega (arith, l, free))) (n .kept .0)) free, there, subst (λ (t : Table). a .root < t .nodes) (sym (c .before .before .before .before .before .before .before .before .before .table-in .ensures)) row))))
 
--- src/known.rt:132:9
 note-left-requires : tie.Need-note-left-requires
 note-left-requires c κs =
     let a = c .before .before .before .before .before .before .before .before .before .before .before .before .before .before .before .before .before .before .before .args in
@@ -53,7 +49,6 @@ note-left-requires c κs =
     let y″ = stage-same y′ (z .only .low) (s .kept .1 .1 .1 .1 .0) in
     (stage-before y″ (omega (arith, free)), omega (arith, row, x .tabled .few), omega (arith, there, x .theorized .found .mostActions), stage-slot y″ free, z .plays (c .before .if2 .taken) .2 .few)
 
--- src/known.rt:134:9
 note-requires : tie.Need-note-requires
 note-requires c κs =
     let a = c .before .before .before .before .before .before .before .before .before .before .before .before .before .before .before .before .before .before .before .args in
@@ -66,7 +61,6 @@ note-requires c κs =
     let y″ = stage-same y′ (z .only .low) (s .kept .1 .1 .1 .1 .0) in
     (stage-before y″ (omega (arith, free)), omega (arith, row, x .tabled .few), omega (arith, there, x .theorized .found .mostActions), omega arith)
 
--- src/known.rt:100:1
 returns-2 : tie.Need-returns-2
 returns-2 c =
     let a = c .before .before .before .before .before .before .before .before .before .before .before .before .before .before .before .before .before .before .before .before .before .before .args in
@@ -79,7 +73,6 @@ returns-2 c =
     subst (λ (t : Table). Advanced th K (a .p) (meaning (t .characters) T (a .root)) (a .action) t (a .work .now) (c .before .before .note-left .last .0) (a .slot + 961) (s .result)) (c .before .before .before .before .before .before .before .before .before .before .before .before .before .before .before .before .before .table-in .ensures)
     (step-left y free (a .root) (named (c .before .before .before .before .before .before .before .before .before .before .before .before .before .before .before)) (s .ensures th T _ (stage-setting y′ free) there (subst (λ (t : Table). a .root < t .nodes) (sym (c .before .before .before .before .before .before .before .before .before .before .before .before .before .before .before .before .before .table-in .ensures)) row)) m (s .kept .1 .1 .1 .1 .0 ∙ n .kept .0) (c .before .before .before .before .if2 .taken) (c .before .before .note-left .ensures))
 
--- src/known.rt:100:1
 returns-3 : tie.Need-returns-3
 returns-3 c =
     let a = c .before .before .before .before .before .before .before .before .before .before .before .before .before .before .before .before .before .before .before .before .before .before .args in

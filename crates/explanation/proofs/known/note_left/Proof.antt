@@ -8,7 +8,6 @@ use borrow.Author.Needs.{needs}
 use Rattle.explanation.proofs.known.note_left.Statement.{statement}
 use Rattle.explanation.proofs.known.note_left.Tie as tie
 
--- src/known.rt:80:1
 returns : tie.Need-returns
 returns c =
     let a = c .before .before .before .before .before .before .before .before .before .before .args in
@@ -16,7 +15,6 @@ returns c =
     let n = c .before .before .before .before .before .before .before .name-anew in
     left-noted (a .p) (P .3) (P .4) (P .0) (n .kept .0 ∙ length-set (a .work .now) (43470 + a .slot / 961) 0) (n .ensures) (omega (arith, c .before .before .before .before .if1 .taken)) (c .before .before .note .ensures)
 
--- src/known.rt:80:1
 returns-2 : tie.Need-returns-2
 returns-2 c =
     let a = c .before .before .before .before .before .before .args in

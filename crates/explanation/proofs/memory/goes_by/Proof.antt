@@ -8,7 +8,6 @@ use borrow.Author.Needs.{needs}
 use Rattle.explanation.proofs.memory.goes_by.Statement.{statement}
 use Rattle.explanation.proofs.memory.goes_by.Tie as tie
 
--- src/memory.rt:29:1
 returns-4 : tie.Need-returns-4
 returns-4 c =
     λ e.

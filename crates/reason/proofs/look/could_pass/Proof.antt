@@ -6,13 +6,11 @@ use Rattle.reason.proofs.Looking.{test-inside, pass-open, pass-moved, p
 use Rattle.reason.proofs.look.could_pass.Statement.{statement}
 use Rattle.reason.proofs.look.could_pass.Tie as tie
 
--- src/look.rt:84:9
 returns-2 : tie.Need-returns-2
 returns-2 c =
     let zero : c .before .before .before .before .before .wide .result ≡ 0 = omega (arith, c .before .before .before .before .if1 .left) in
     pass-moved _ _ _ _ _ _ _ (c .before .before .before .before .before .wide .ensures ∙ zero) (c .before .before .wide2 .ensures) (c .before .moves .ensures) (c .if2 .taken)
 
--- src/look.rt:68:1
 returns-3 : tie.Need-returns-3
 returns-3 c =
     let zero : c .before .before .before .before .before .before .wide .result ≡ 0 = omega (arith, c .before .before .before .before .before .if1 .left) in
