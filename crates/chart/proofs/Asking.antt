@@ -6,14 +6,14 @@ use mathlib.Core.List.{List, [], _∷_, map}
 use lib.ListN.{length, getD}
 use lib.Dec.{ltb}
 use borrow.Author.Tests.{ltb-true, leb-true}
-use Rattle.state.specs.Syntax.{Theory, Node, Pack}
-use Rattle.state.specs.State.{meaning}
-use Rattle.reading.specs.Reading.{Reply, gives, with, told}
-use Rattle.state.specs.Grammar.{packOf}
+use Rattle.pack.specs.Syntax.{Theory, Node, Pack}
+use Rattle.pack.specs.State.{meaning}
+use Rattle.pack.specs.Reading.{Reply, gives, with, told}
+use Rattle.pack.specs.Grammar.{packOf}
 use Rattle.pack.specs.Contents.{PackRead, replied, repliedCount}
 use Rattle.pack.specs.declared.contents.Contents.{Contents}
-use Rattle.reading.specs.declared.number.Number.{Number}
-use Rattle.reading.specs.declared.number.Number.the-variants as numbers
+use Rattle.pack.specs.declared.number.Number.{Number}
+use Rattle.pack.specs.declared.number.Number.the-variants as numbers
 use Rattle.chart.specs.declared.Queried.the-variants as queried
 use Rattle.chart.specs.Call.{fits, workRoom, workAfter}
 use Rattle.chart.specs.Replies.{allBelow, firstOf, queryReply}

@@ -6,15 +6,15 @@ use mathlib.Core.List.{List, []}
 use native.Mathlib.Omega.{arith}
 use lib.ListN.{length}
 use borrow.Author.Tests.{leb-true}
-use Rattle.state.specs.Syntax.{Node, Pack}
-use Rattle.reading.specs.Reading.{Reply, gives, with, told}
-use Rattle.state.specs.Layout.{chartBytes, ChartFits}
+use Rattle.pack.specs.Syntax.{Node, Pack}
+use Rattle.pack.specs.Reading.{Reply, gives, with, told}
+use Rattle.pack.specs.Layout.{chartBytes, ChartFits}
 use Rattle.pack.specs.Contents.{PackRead, replied, repliedCount}
 use Rattle.pack.specs.Laws.Exact.{Bytes}
 use Rattle.pack.specs.Laws.PackExact.{pack-exactly}
 use Rattle.pack.specs.declared.contents.Contents.{Contents}
-use Rattle.reading.specs.declared.number.Number.{Number}
-use Rattle.reading.specs.declared.number.Number.the-variants as numbers
+use Rattle.pack.specs.declared.number.Number.{Number}
+use Rattle.pack.specs.declared.number.Number.the-variants as numbers
 use Rattle.chart.specs.declared.Charted.the-variants as charted
 use Rattle.chart.specs.Answers.{startTable}
 use Rattle.chart.specs.Call.{fits, chartRoom, workRoom, resultAfter, workAfter}

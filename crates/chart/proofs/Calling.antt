@@ -7,13 +7,13 @@ use native.Mathlib.Omega.{arith}
 use lib.ListN.{length, getD}
 use lib.Dec.{ltb}
 use borrow.Author.Tests.{lt-ltb, le-ltb, ltb-true}
-use Rattle.state.specs.State.{Valid}
-use Rattle.reading.specs.Reading.{Reply, gives, refuses, with, pick}
+use Rattle.pack.specs.State.{Valid}
+use Rattle.pack.specs.Reading.{Reply, gives, refuses, with, pick}
 use Rattle.pack.specs.Contents.{replied, repliedCount}
-use Rattle.reading.specs.declared.number.Checked.{Checked}
-use Rattle.reading.specs.declared.number.Checked.the-variants as checked
-use Rattle.reading.specs.declared.number.Number.{Number}
-use Rattle.reading.specs.declared.number.Number.the-variants as numbers
+use Rattle.pack.specs.declared.number.Checked.{Checked}
+use Rattle.pack.specs.declared.number.Checked.the-variants as checked
+use Rattle.pack.specs.declared.number.Number.{Number}
+use Rattle.pack.specs.declared.number.Number.the-variants as numbers
 use Rattle.chart.specs.Replies.{allBelow}
 
 -- a refusal is passed on

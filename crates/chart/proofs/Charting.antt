@@ -9,14 +9,14 @@ use native.Mathlib.Decide.{decLt}
 use native.Mathlib.Omega.{arith}
 use lib.ListN.{length, getD, set, drop, length-append, length-drop, length-map, List·getD-append}
 use lib.Seq.{getD-set-same, getD-set-other, getD-append-add, getD-drop, ext-getD}
-use Rattle.state.specs.Syntax.{Node}
-use Rattle.state.specs.Layout.{numberBytes, listBytes, nodeBytes, chartBytes, NodeFits, ChartFits}
-use Rattle.state.specs.Laws.Fits.{each-from, each-in, fits-node, values-small, plain-bytes, next-bytes, list-snoc}
-use Rattle.partition.specs.Laws.Merged.{getD-map}
-use Rattle.state.specs.Table.{cells, rowsAt, Above}
-use Rattle.partition.specs.Inner.Out.{RowsPut}
-use Rattle.state.proofs.Tables.{cells-at, rows-length}
-use Rattle.partition.proofs.Cells.{cells-length, cells-none, cells-more, cells-same, rows-node, rows-none, rows-more}
+use Rattle.pack.specs.Syntax.{Node}
+use Rattle.pack.specs.Layout.{numberBytes, listBytes, nodeBytes, chartBytes, NodeFits, ChartFits}
+use Rattle.pack.specs.Laws.Fits.{each-from, each-in, fits-node, values-small, plain-bytes, next-bytes, list-snoc}
+use Rattle.chart.specs.Laws.Merged.{getD-map}
+use Rattle.pack.specs.Table.{cells, rowsAt, Above}
+use Rattle.chart.specs.Inner.Out.{RowsPut}
+use Rattle.pack.proofs.Tables.{cells-at, rows-length}
+use Rattle.chart.proofs.Cells.{cells-length, cells-none, cells-more, cells-same, rows-node, rows-none, rows-more}
 
 -- a part and the part behind it
 cells-append : (bytes : List ℕ) (a k m : ℕ) → cells bytes a (k + m) ≡ cells bytes a k ++ cells bytes (a + k) m

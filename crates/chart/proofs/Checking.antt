@@ -7,19 +7,19 @@ use native.Mathlib.Omega.{arith}
 use lib.ListN.{length, take, getD}
 use lib.Dec.{ltb, leb}
 use borrow.Author.Tests.{lt-ltb, le-leb}
-use Rattle.state.specs.Syntax.{Theory, Node, Pack}
-use Rattle.reading.specs.Reading.{done, many, Reply, gives, refuses, with, told, pick, whole}
-use Rattle.reading.specs.Number.{between}
-use Rattle.state.specs.Grammar.{Dimensions, nodeAt, nodesAt, inChart, packOf, chartOf, dimensions}
-use Rattle.reading.specs.Said.{forget}
+use Rattle.pack.specs.Syntax.{Theory, Node, Pack}
+use Rattle.pack.specs.Reading.{done, many, Reply, gives, refuses, with, told, pick, whole}
+use Rattle.pack.specs.Number.{between}
+use Rattle.pack.specs.Grammar.{Dimensions, nodeAt, nodesAt, inChart, packOf, chartOf, dimensions}
+use Rattle.pack.specs.Said.{forget}
 use Rattle.pack.specs.Answer.{dims}
 use Rattle.pack.specs.Contents.{PackRead, PackFound, replied}
-use Rattle.reading.specs.Laws.Reading.{never-gives, same-gift, both}
+use Rattle.pack.specs.Laws.Reading.{never-gives, same-gift, both}
 use Rattle.pack.specs.declared.contents.Contents.{Contents}
 use Rattle.pack.specs.Laws.Exact.{Bytes}
 use Rattle.pack.specs.Laws.PackExact.{pack-exactly}
 use Rattle.pack.proofs.Bounded.{pack-refusal, chart-refusal}
-use Rattle.reading.specs.Laws.Number.{between-within}
+use Rattle.pack.specs.Laws.Number.{between-within}
 use Rattle.pack.proofs.Found.{many-length}
 use Rattle.pack.proofs.Ready.{nodes-first, chart-nodes, pack-shaped}
 use Rattle.chart.specs.Call.{chartsOf, call, byChecks, workAfter, cleared}

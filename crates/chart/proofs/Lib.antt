@@ -1,4 +1,14 @@
 -- The modules of `proofs/` that belong to no one function.
+pub mod Cells
+pub mod Numbering
+pub mod Passing
+pub mod Copying
+pub mod Merging
+pub mod Sorting
+pub mod Valuing
+pub mod Leveling
+pub mod Parting
+pub mod Outing
 pub mod Charting
 pub mod Calling
 pub mod Checking
@@ -7,3 +17,9 @@ pub mod Looking
 pub mod Asking
 pub mod Starting
 pub mod Beginning
+pub mod Joining
+pub mod Pairing
+pub mod Seeking
+pub mod Tracing
+pub mod Matching
+pub mod Comparing

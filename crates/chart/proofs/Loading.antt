@@ -5,13 +5,13 @@ use mathlib.Core.List.{List}
 use native.Mathlib.Nat.{mul-le-mul-right}
 use native.Mathlib.Omega.{arith}
 use lib.ListN.{length}
-use Rattle.state.specs.Syntax.{Node}
-use Rattle.state.specs.Table.{tableOf, TableFits}
-use Rattle.state.specs.Copy.{TableCopyable, TableCopied}
-use Rattle.state.specs.declared.table.Table.{Table}
+use Rattle.pack.specs.Syntax.{Node}
+use Rattle.pack.specs.Table.{tableOf, TableFits}
+use Rattle.pack.specs.Copy.{TableCopyable, TableCopied}
+use Rattle.pack.specs.declared.table.Table.{Table}
 use Rattle.pack.proofs.Ready.{copied-fits}
-use Rattle.state.proofs.Tables.{belief-in-table}
-use Rattle.partition.proofs.Cells.{rows-most}
+use Rattle.pack.proofs.Tables.{belief-in-table}
+use Rattle.chart.proofs.Cells.{rows-most}
 use Rattle.chart.specs.Call.{workRoom}
 use Rattle.chart.specs.Inner.Look.{NodesFrom}
 use Rattle.chart.specs.Inner.Start.{Mergeable, Merged}

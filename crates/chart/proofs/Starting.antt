@@ -6,27 +6,27 @@ use mathlib.Core.List.{List, _++_}
 use native.Mathlib.Decide.{decLt}
 use native.Mathlib.Omega.{arith}
 use lib.ListN.{length, drop, set}
-use Rattle.state.specs.Syntax.{Node}
-use Rattle.state.specs.State.{meaning, Closed}
-use Rattle.state.specs.Table.{rowsAt}
-use Rattle.state.specs.Layout.{chartBytes, ChartFits}
-use Rattle.state.specs.Copy.{TableCopied}
-use Rattle.state.proofs.Tables.{rows-length}
+use Rattle.pack.specs.Syntax.{Node}
+use Rattle.pack.specs.State.{meaning, Closed}
+use Rattle.pack.specs.Table.{rowsAt}
+use Rattle.pack.specs.Layout.{chartBytes, ChartFits}
+use Rattle.pack.specs.Copy.{TableCopied}
+use Rattle.pack.proofs.Tables.{rows-length}
 use Rattle.chart.specs.Answers.{startTable}
 use Rattle.chart.specs.Call.{workRoom}
-use Rattle.partition.specs.Inner.Numbers.{Laid, Copied, Sound}
-use Rattle.partition.specs.Inner.Put.{Cleared, PartCopied}
-use Rattle.partition.specs.Inner.Out.{RowsPut}
-use Rattle.partition.specs.Inner.Classed.{classAt, Room, Classed, WrittenOut}
-use Rattle.partition.specs.Inner.Level.{Levels, Parted}
+use Rattle.chart.specs.Inner.Numbers.{Laid, Copied, Sound}
+use Rattle.chart.specs.Inner.Put.{Cleared, PartCopied}
+use Rattle.chart.specs.Inner.Out.{RowsPut}
+use Rattle.chart.specs.Inner.Classed.{classAt, Room, Classed, WrittenOut}
+use Rattle.chart.specs.Inner.Level.{Levels, Parted}
 use Rattle.chart.specs.Inner.Start.{Mergeable, Merged, Startable, StartPut}
-use Rattle.partition.specs.States.{AtMost}
-use Rattle.partition.specs.Laws.Merged.{classes}
+use Rattle.chart.specs.States.{AtMost}
+use Rattle.chart.specs.Laws.Merged.{classes}
 use Rattle.chart.specs.Laws.Tabled.{tabled-at}
 use Rattle.chart.specs.Laws.Charted.{chart, few-rows}
 use Rattle.chart.specs.Laws.Answers.{written-short, start-table-iff, fits-table, start-fits}
-use Rattle.partition.proofs.Cells.{rows-same, rows-most}
-use Rattle.partition.proofs.Merging.{ordered-sound, copied-out}
+use Rattle.chart.proofs.Cells.{rows-same, rows-most}
+use Rattle.chart.proofs.Merging.{ordered-sound, copied-out}
 use Rattle.chart.proofs.Charting.{chart-out}
 use Rattle.chart.proofs.Loading.{read-small, read-same, merged-small}
 use Rattle.chart.proofs.Looking.{cleared-all}

@@ -2,7 +2,7 @@
 use Prim.Native.Nat.{ℕ}
 use mathlib.Core.Logic.{dite}
 use mathlib.Core.List.{List, []}
-use Rattle.state.specs.Syntax.{Node}
+use Rattle.pack.specs.Syntax.{Node}
 use Rattle.chart.specs.Compare.{Verdict, same}
 use Rattle.chart.specs.Laws.Charted.{chart}
 use Rattle.chart.specs.Laws.Tables.{onTable, full?, full}

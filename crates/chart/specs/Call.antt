@@ -4,9 +4,9 @@ use mathlib.Core.Bool.{Bool, _||_}
 use mathlib.Core.List.{List, [], _∷_, _++_}
 use lib.ListN.{length, drop, replicate}
 use lib.Dec.{leb, ltb}
-use Rattle.state.specs.Syntax.{Theory, Node, Pack}
-use Rattle.reading.specs.Reading.{Reply, gives, refuses, with, pick}
-use Rattle.state.specs.Grammar.{packOf, chartOf}
+use Rattle.pack.specs.Syntax.{Theory, Node, Pack}
+use Rattle.pack.specs.Reading.{Reply, gives, refuses, with, pick}
+use Rattle.pack.specs.Grammar.{packOf, chartOf}
 
 -- "Needed: 961 for a chart"
 abbrev pub chartRoom : ℕ

@@ -5,7 +5,7 @@ use mathlib.Core.Path.{_≡_}
 use mathlib.Core.Logic.{_≢_}
 use mathlib.Core.List.{List}
 use lib.ListN.{getD}
-use Rattle.state.specs.State.{State, Valid}
+use Rattle.pack.specs.State.{State, Valid}
 use Rattle.chart.specs.Earliest.{Earliest}
 
 -- where s and t differ: "the shortest chain that leads to a difference, the earliest by character numbers among those, and the lowest differing fluent there"

@@ -1,3 +1,13 @@
+pub mod Count
+pub mod Classes
+pub mod Moore
+pub mod Lists
+pub mod Built
+pub mod Counted
+pub mod Unique
+pub mod Merged
+pub mod Pass
+pub mod Bridge
 pub mod Earliest
 pub mod Tabled
 pub mod Reach
@@ -9,3 +19,4 @@ pub mod Answers
 pub mod Replies
 pub mod Needed
 pub mod NoVerdict
+pub mod Breadth

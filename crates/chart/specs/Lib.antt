@@ -1,8 +1,10 @@
+pub mod States
+pub mod Chart
+pub mod Laws
+pub mod Inner
 pub mod Earliest
 pub mod Compare
-pub mod Laws
 pub mod Answers
 pub mod Call
 pub mod Replies
 pub mod Promises
-pub mod Inner

@@ -4,7 +4,7 @@ use Prim.Native.Nat.{ℕ}
 use mathlib.Core.Path.{_≡_}
 use mathlib.Core.List.{List}
 use lib.ListN.{length}
-use Rattle.reading.specs.Reading.{Reply, gives, refuses, told}
+use Rattle.pack.specs.Reading.{Reply, gives, refuses, told}
 use Rattle.chart.specs.declared.Charted.{Charted}
 use Rattle.chart.specs.declared.Charted.the-variants as charted
 use Rattle.chart.specs.declared.Queried.{Queried}

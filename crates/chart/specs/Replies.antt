@@ -4,10 +4,10 @@ use mathlib.Core.Bool.{Bool, true, _&&_}
 use mathlib.Core.List.{List, [], _∷_}
 use lib.ListN.{getD}
 use lib.Dec.{ltb}
-use Rattle.state.specs.Syntax.{Node, fluents}
-use Rattle.state.specs.State.{meaning}
-use Rattle.reading.specs.Reading.{Reply, gives}
-use Rattle.state.specs.Layout.{chartBytes}
+use Rattle.pack.specs.Syntax.{Node, fluents}
+use Rattle.pack.specs.State.{meaning}
+use Rattle.pack.specs.Reading.{Reply, gives}
+use Rattle.pack.specs.Layout.{chartBytes}
 use Rattle.chart.specs.Compare.{Verdict, same, differ}
 use Rattle.chart.specs.Answers.{startTable, compareTable}
 use Rattle.chart.specs.Call.{chartRoom, chainRoom, workRoom, fits, call}

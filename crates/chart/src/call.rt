@@ -1,14 +1,14 @@
 // The checks that the public calls share, in their order: pack, first chart, second chart, 8, 9. Each takes what the checks before it said; the first refusal stays.
 use pack::node::check_chart;
-use reading::number::Checked;
-use reading::number::Number;
-use reading::number::wide;
+use pack::number::Checked;
+use pack::number::Number;
+use pack::number::wide;
 ghost use mathlib.Core.Path.{_≡_};
 ghost use mathlib.Core.Bool.{_&&_};
 ghost use lib.ListN.{length};
 ghost use lib.Dec.{ltb, leb};
-ghost use Rattle.reading.specs.Reading.{gives, refuses, with, told, pick, whole};
-ghost use Rattle.state.specs.Grammar.{nodesAt, inChart};
+ghost use Rattle.pack.specs.Reading.{gives, refuses, with, told, pick, whole};
+ghost use Rattle.pack.specs.Grammar.{nodesAt, inChart};
 ghost use Rattle.pack.specs.Answer.{dims};
 ghost use Rattle.pack.specs.Contents.{replied, repliedCount};
 ghost use Rattle.chart.specs.Replies.{allBelow};

@@ -1,7 +1,16 @@
-// The chart layer: states of nested belief, written as charts. What its public calls promise stands in specs/; here are the answers that they hand back. Compare itself is crate difference.
+// The chart layer: states of nested belief, written as charts. What its public calls promise stands in specs/; here are the answers that they hand back.
+pub mod bytes;
 pub mod call;
+pub mod compare;
+pub mod copy;
+pub mod merge;
+pub mod number;
+pub mod pairs;
+pub mod partition;
 pub mod query;
 pub mod start;
+pub mod values;
+pub mod write;
 
 // What Start hands back, and Step above it: the length of the chart that was written, or a refusal's number and place.
 pub enum Charted {

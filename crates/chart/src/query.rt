@@ -1,15 +1,15 @@
 // Query: a fluent's value where a chain of beliefs leads.
 use crate::Queried;
+use crate::bytes::clear;
 use crate::call::WORK_ROOM;
 use crate::call::chain_there;
 use crate::call::check_lent;
 use crate::call::check_under;
 use pack::contents::read_contents;
-use partition::bytes::clear;
-use reading::number::Number;
-use state::copy::copy_table;
-use state::table::Table;
-use state::table::follow;
+use pack::copy::copy_table;
+use pack::number::Number;
+use pack::table::Table;
+use pack::table::follow;
 ghost use Prim.Native.Nat.{_<_};
 ghost use Rattle.chart.specs.Inner.Look.{Lookable, Looked};
 ghost use Rattle.chart.specs.Promises.{Asked};

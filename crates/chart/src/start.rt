@@ -1,18 +1,18 @@
 // Start: the chart of node 0. The nodes stand from the start of the work buffer on, count first.
 use crate::Charted;
+use crate::bytes::clear;
+use crate::bytes::copy_part;
 use crate::call::CHART_ROOM;
 use crate::call::WORK_ROOM;
 use crate::call::both_at_most;
 use crate::call::check_lent;
 use crate::call::unless_refused;
+use crate::merge::write_merged;
+use crate::partition::partition;
+use crate::write::write_chart;
 use pack::contents::read_contents;
-use partition::bytes::clear;
-use partition::bytes::copy_part;
-use partition::merge::write_merged;
-use partition::partition::partition;
-use partition::write::write_chart;
-use reading::number::Number;
-use state::copy::copy_table;
+use pack::copy::copy_table;
+use pack::number::Number;
 ghost use Rattle.chart.specs.Promises.{Started};
 ghost use Rattle.chart.specs.Inner.Start.{Mergeable, Merged, Startable, StartPut};
 
@@ -36,7 +36,7 @@ pub fn merge_table(work: &mut [u8], n: usize, w: usize, f: usize, c: usize) -> u
     requires { ⌜ Mergeable (now work) n w f c ⌝ }
     ensures { λ r. ⌜ Merged (now (work .entry)) (now (work .exit)) n w f c r ⌝ }
 {
-    let reached = partition::copy::copy_table(work, n, w, f, c, 1, NUMBERS, REACHED);
+    let reached = crate::copy::copy_table(work, n, w, f, c, 1, NUMBERS, REACHED);
     let classes = partition(work, reached, w, f, c, REACHED, LEVEL, CLASSES, FIRSTS, 32);
     if reached <= classes {
         copy_part(work, REACHED, MERGED, reached * w);

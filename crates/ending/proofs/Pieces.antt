@@ -9,7 +9,7 @@ use lib.Seq.{sets, sets-eq, take-append-seam, take-suc, take-all, length-sets, l
 use borrow.Author.Tests.{lt-ltb, le-ltb}
 use lib.Dec.{ltb}
 use mathlib.Core.Bool.{Bool, true, false}
-use Rattle.reading.specs.Reading.{pick}
+use Rattle.pack.specs.Reading.{pick}
 use Rattle.ending.specs.Text.{digits, decimal, line, steps}
 use Rattle.ending.specs.Put.{Put}
 

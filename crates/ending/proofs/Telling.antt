@@ -6,7 +6,7 @@ use native.Mathlib.Omega.{arith}
 use lib.ListN.{length, take, drop, length-append}
 use lib.Seq.{take-append-seam}
 use borrow.Author.Tests.{le-leb}
-use Rattle.reading.specs.Reading.{Reply, gives, refuses, told}
+use Rattle.pack.specs.Reading.{Reply, gives, refuses, told}
 use Rattle.chart.specs.Call.{listRoom, workRoom, resultAfter}
 use Rattle.planner.specs.declared.Found.{Found}
 use Rattle.planner.specs.declared.Found.the-variants as found

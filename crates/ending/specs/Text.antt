@@ -3,8 +3,8 @@
 use Prim.Native.Nat.{ℕ, zero, suc, _+_, _/_, _%_}
 use mathlib.Core.List.{List, [], _∷_, _++_}
 use lib.Dec.{ltb}
-use Rattle.reading.specs.Reading.{Reply, gives, refuses, with, pick}
-use Rattle.state.specs.Grammar.{packOf}
+use Rattle.pack.specs.Reading.{Reply, gives, refuses, with, pick}
+use Rattle.pack.specs.Grammar.{packOf}
 use Rattle.planner.specs.Answers.{searchTable}
 use Rattle.planner.specs.Replies.{Plan, answerReply}
 

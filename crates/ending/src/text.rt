@@ -1,6 +1,6 @@
 // The text that the program prints, put into a lent buffer piece by piece. Each function is handed the place to begin at and hands back the place after what it put.
+use pack::number::wide;
 use planner::Found;
-use reading::number::wide;
 ghost use mathlib.Core.Path.{_≡_};
 ghost use mathlib.Core.List.{[], _∷_};
 ghost use Prim.Native.Nat.{_+_, _*_, _%_, _≤_};

@@ -5,7 +5,7 @@ use mathlib.Core.Bool.{Bool, true, false}
 use mathlib.Core.List.{List, [], _∷_, _++_}
 use native.Mathlib.Omega.{arith}
 use lib.ListN.{length, take, drop, set, replicate, length-append, length-replicate}
-use Rattle.reading.specs.Reading.{Reply, gives, refuses, pick, told}
+use Rattle.pack.specs.Reading.{Reply, gives, refuses, pick, told}
 use Rattle.chart.specs.declared.Charted.{Charted}
 use Rattle.chart.specs.declared.Queried.{Queried}
 use Rattle.chart.specs.declared.Matched.{Matched}

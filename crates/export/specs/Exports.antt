@@ -4,7 +4,7 @@ use mathlib.Core.Path.{_≡_}
 use mathlib.Core.Bool.{Bool}
 use mathlib.Core.List.{List, [], _∷_}
 use lib.ListN.{length}
-use Rattle.reading.specs.Reading.{pick, told}
+use Rattle.pack.specs.Reading.{pick, told}
 use Rattle.chart.specs.Call.{resultAfter}
 use Rattle.chart.specs.Replies.{startReply, queryReply, compareReply, chainOf}
 use Rattle.chart.specs.Promises.{Difference, nowhere, after, difference}

@@ -2,7 +2,7 @@
 use Prim.Native.Nat.{ℕ}
 use mathlib.Core.Path.{_≡_}
 use mathlib.Core.List.{List, [], _∷_}
-use Rattle.reading.specs.Reading.{Reply, gives, refuses, pick}
+use Rattle.pack.specs.Reading.{Reply, gives, refuses, pick}
 use Rattle.chart.specs.Call.{fits, workAfter}
 
 -- a report has at least three numbers; one that has fewer is a "lent buffer too short", 8

@@ -7,12 +7,12 @@ use native.Mathlib.Omega.{arith}
 use lib.ListN.{length, getD}
 use lib.Dec.{ltb, leb, eqb}
 use borrow.Author.Tests.{leb-false}
-use Rattle.state.specs.Syntax.{Theory, Node}
-use Rattle.reading.specs.Reading.{Reading, done, refused, Reader, pick, bind, mapped, runs, many, Reply, gives, refuses, ended, whole}
-use Rattle.reading.specs.Number.{numberAt, between, item, counted, beliefAt, risingAt}
-use Rattle.state.specs.Grammar.{Dimensions, headAt, fluentAt, valueAt, nodeAt, nodesAt, testAt, conditionAt, effectAt, effectsAt, consentersAt, actionAt, triggerAt, ruleAt, rulesAt, theoryAt, packAt, packOf, inChart, dimensions, chartOf}
-use Rattle.reading.specs.Said.{forget}
-use Rattle.reading.specs.Laws.Reading.{never-gives, same-number}
+use Rattle.pack.specs.Syntax.{Theory, Node}
+use Rattle.pack.specs.Reading.{Reading, done, refused, Reader, pick, bind, mapped, runs, many, Reply, gives, refuses, ended, whole}
+use Rattle.pack.specs.Number.{numberAt, between, item, counted, beliefAt, risingAt}
+use Rattle.pack.specs.Grammar.{Dimensions, headAt, fluentAt, valueAt, nodeAt, nodesAt, testAt, conditionAt, effectAt, effectsAt, consentersAt, actionAt, triggerAt, ruleAt, rulesAt, theoryAt, packAt, packOf, inChart, dimensions, chartOf}
+use Rattle.pack.specs.Said.{forget}
+use Rattle.pack.specs.Laws.Reading.{never-gives, same-number}
 use Rattle.pack.specs.Places.{Within, Ends}
 
 abbrev pub Bounded : {A : Type 0} → List ℕ → Reading A → Type 0

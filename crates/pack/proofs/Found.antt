@@ -8,21 +8,21 @@ use lib.Seq.{length-take-le}
 use lib.Dec.{eqb}
 use borrow.Author.Tests.{lt-ltb, le-ltb, eq-eqb, ne-eqb}
 use mathlib.Core.Bool.{Bool, true, false}
-use Rattle.state.specs.Syntax.{Action, Trigger, Theory, Pack}
-use Rattle.reading.specs.Reading.{Reading, done, refused, Reader, pick, bind, mapped, runs, many, gives, refuses, told, ended}
-use Rattle.reading.specs.Number.{between, counted}
-use Rattle.state.specs.Grammar.{Dimensions, headAt, nodeAt, nodesAt, conditionAt, effectsAt, consentersAt, actionAt, triggerAt, rulesAt, theoryAt, packAt, packOf, inChart}
-use Rattle.reading.specs.Said.{said, shown, forget, whenIs}
+use Rattle.pack.specs.Syntax.{Action, Trigger, Theory, Pack}
+use Rattle.pack.specs.Reading.{Reading, done, refused, Reader, pick, bind, mapped, runs, many, gives, refuses, told, ended}
+use Rattle.pack.specs.Number.{between, counted}
+use Rattle.pack.specs.Grammar.{Dimensions, headAt, nodeAt, nodesAt, conditionAt, effectsAt, consentersAt, actionAt, triggerAt, rulesAt, theoryAt, packAt, packOf, inChart}
+use Rattle.pack.specs.Said.{said, shown, forget, whenIs}
 use Rattle.pack.specs.Answer.{dims}
 use Rattle.pack.specs.Places.{Ends, Marked, KeptBelow, ActionParts, Actions, ActionsRead, TriggerParts, Triggers, TriggersRead, UtilitiesRead}
-use Rattle.reading.specs.declared.number.Number.{Number}
-use Rattle.reading.specs.declared.number.Number.the-variants.{Is}
-use Rattle.reading.specs.declared.number.Checked.{Checked}
-use Rattle.reading.specs.declared.number.Checked.the-variants.{Passed, Refused}
+use Rattle.pack.specs.declared.number.Number.{Number}
+use Rattle.pack.specs.declared.number.Number.the-variants.{Is}
+use Rattle.pack.specs.declared.number.Checked.{Checked}
+use Rattle.pack.specs.declared.number.Checked.the-variants.{Passed, Refused}
 use Rattle.pack.specs.Contents.{Gives, ActionStands, TriggerStands, TheoryFound, TheoryRead, PackFound, bodyAt, replied}
 use Rattle.pack.specs.declared.contents.Counts.{Counts}
-use Rattle.reading.specs.Laws.Reading.{mapped-mapped, mapped-bind, bind-mapped, bind-bind, never, never-gives, ended-gives, same-value, same-place, both, unmapped}
-use Rattle.reading.specs.Laws.Number.{between-within}
+use Rattle.pack.specs.Laws.Reading.{mapped-mapped, mapped-bind, bind-mapped, bind-bind, never, never-gives, ended-gives, same-value, same-place, both, unmapped}
+use Rattle.pack.specs.Laws.Number.{between-within}
 use Rattle.pack.proofs.Laws.{runs-length}
 use Rattle.pack.proofs.Marks.{many-suc, action-stays, trigger-stays}
 

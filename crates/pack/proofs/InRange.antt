@@ -6,10 +6,10 @@ use mathlib.Core.List.{List}
 use native.Mathlib.Omega.{arith}
 use lib.ListN.{length, getD}
 use borrow.Author.Tests.{lt-ltb, le-ltb}
-use Rattle.reading.specs.Reading.{done, mapped, many}
-use Rattle.reading.specs.Number.{between, item}
-use Rattle.state.specs.Grammar.{testAt}
-use Rattle.reading.specs.Said.{forget}
+use Rattle.pack.specs.Reading.{done, mapped, many}
+use Rattle.pack.specs.Number.{between, item}
+use Rattle.pack.specs.Grammar.{testAt}
+use Rattle.pack.specs.Said.{forget}
 use Rattle.pack.specs.Answer.{dims, claimAt}
 use Rattle.pack.specs.Laws.Accepts.{one}
 use Rattle.pack.proofs.Laws.{many-forget, test-forget}

@@ -7,15 +7,15 @@ use native.Mathlib.Omega.{arith}
 use lib.ListN.{length, take, set}
 use lib.Seq.{take-suc-set}
 use lib.Dec.{ltb}
-use Rattle.reading.specs.Reading.{Reading, done, refused, Reader, pick, bind, mapped, runs, many}
-use Rattle.reading.specs.Number.{numberAt, between, item, counted, beliefAt, risingAt}
-use Rattle.state.specs.Grammar.{Dimensions, testAt, conditionAt, effectAt, effectsAt, consentersAt, actionAt, triggerAt, ruleAt, rulesAt, theoryAt, nodeAt, nodesAt}
-use Rattle.reading.specs.Said.{forget, answered}
+use Rattle.pack.specs.Reading.{Reading, done, refused, Reader, pick, bind, mapped, runs, many}
+use Rattle.pack.specs.Number.{numberAt, between, item, counted, beliefAt, risingAt}
+use Rattle.pack.specs.Grammar.{Dimensions, testAt, conditionAt, effectAt, effectsAt, consentersAt, actionAt, triggerAt, ruleAt, rulesAt, theoryAt, nodeAt, nodesAt}
+use Rattle.pack.specs.Said.{forget, answered}
 use Rattle.pack.specs.Answer.{claimAt, valuesAt}
-use Rattle.reading.specs.declared.number.Checked.{Checked}
-use Rattle.reading.specs.declared.number.Checked.the-variants.{Passed, Refused}
-use Rattle.reading.specs.Laws.Number.{between-within}
-use Rattle.reading.specs.Laws.Reading.{mapped-mapped, mapped-bind, bind-mapped, bind-bind, both, failed, same-value}
+use Rattle.pack.specs.declared.number.Checked.{Checked}
+use Rattle.pack.specs.declared.number.Checked.the-variants.{Passed, Refused}
+use Rattle.pack.specs.Laws.Number.{between-within}
+use Rattle.pack.specs.Laws.Reading.{mapped-mapped, mapped-bind, bind-mapped, bind-bind, both, failed, same-value}
 
 -- nothing is left to read
 pub runs-none : {S A B : Type 0} (p : S → Reader A) (next : S → A → S) (z : S) (g : List A → B) (k : ℕ) (s : List ℕ) (at : ℕ) → k ≤ 0 → mapped g (runs p next z k s at) ≡ done (g []) at

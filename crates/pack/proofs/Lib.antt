@@ -1,3 +1,9 @@
+pub mod Tests
+pub mod Tables
+pub mod OneByte
+pub mod Judging
+pub mod Writing
+pub mod Copying
 pub mod Laws
 pub mod Marks
 pub mod Found

@@ -8,13 +8,13 @@ use native.Mathlib.Decide.{decLt}
 use native.Mathlib.Omega.{arith}
 use lib.ListN.{length, getD, set, length-set}
 use lib.Seq.{getD-set-same, getD-set-other}
-use Rattle.reading.specs.Reading.{Reading, done, refused, Reader, bind, mapped, runs, many}
-use Rattle.state.specs.Grammar.{Dimensions, conditionAt, effectsAt, consentersAt}
-use Rattle.reading.specs.Said.{forget, whenPassed}
+use Rattle.pack.specs.Reading.{Reading, done, refused, Reader, bind, mapped, runs, many}
+use Rattle.pack.specs.Grammar.{Dimensions, conditionAt, effectsAt, consentersAt}
+use Rattle.pack.specs.Said.{forget, whenPassed}
 use Rattle.pack.specs.Places.{Within, Ends, Marked, KeptBelow, ActionParts, TriggerParts}
-use Rattle.reading.specs.declared.number.Checked.{Checked}
-use Rattle.reading.specs.declared.number.Checked.the-variants.{Passed, Refused}
-use Rattle.reading.specs.Laws.Reading.{mapped-mapped, mapped-bind, bind-mapped, both, same-place}
+use Rattle.pack.specs.declared.number.Checked.{Checked}
+use Rattle.pack.specs.declared.number.Checked.the-variants.{Passed, Refused}
+use Rattle.pack.specs.Laws.Reading.{mapped-mapped, mapped-bind, bind-mapped, both, same-place}
 use Rattle.pack.proofs.Laws.{runs-none, many-forget}
 use Rattle.pack.proofs.Bounded.{Bounds, many-bounded, ends-within}
 

@@ -3,18 +3,18 @@ use Prim.Native.Nat.{ℕ, _≤_}
 use mathlib.Core.Path.{_≡_, ap, _∙_}
 use mathlib.Core.List.{List}
 use native.Mathlib.Omega.{arith}
-use Rattle.reading.specs.Reading.{done, bind, mapped, many}
-use Rattle.reading.specs.Number.{between}
-use Rattle.state.specs.Grammar.{headAt}
-use Rattle.reading.specs.Said.{said, behind, answered}
+use Rattle.pack.specs.Reading.{done, bind, mapped, many}
+use Rattle.pack.specs.Number.{between}
+use Rattle.pack.specs.Grammar.{headAt}
+use Rattle.pack.specs.Said.{said, behind, answered}
 use Rattle.pack.specs.Answer.{dims, inTurn, openingAt}
-use Rattle.reading.specs.declared.number.Number.{Number}
-use Rattle.reading.specs.declared.number.Number.the-variants.{Is, Refused}
-use Rattle.reading.specs.declared.number.Checked.{Checked}
-use Rattle.reading.specs.declared.number.Checked.the-variants.{Passed}
+use Rattle.pack.specs.declared.number.Number.{Number}
+use Rattle.pack.specs.declared.number.Number.the-variants.{Is, Refused}
+use Rattle.pack.specs.declared.number.Checked.{Checked}
+use Rattle.pack.specs.declared.number.Checked.the-variants.{Passed}
 use Rattle.pack.specs.declared.head.Opening.{Opening}
-use Rattle.reading.specs.Laws.Reading.{mapped-bind, bind-mapped, bind-bind, both, unmapped}
-use Rattle.reading.specs.Laws.Number.{between-within}
+use Rattle.pack.specs.Laws.Reading.{mapped-bind, bind-mapped, bind-bind, both, unmapped}
+use Rattle.pack.specs.Laws.Number.{between-within}
 
 -- each number is read behind the one before it; behind a refusal it does not matter where
 pub opening-turns : (v c f : Number) (s : List ℕ) (at : ℕ) → between 1 2 3 s at ≡ said v → between 1 7 3 s (behind v at) ≡ said c → between 1 25 3 s (behind c (behind v at)) ≡ said f

@@ -10,22 +10,22 @@ use native.Mathlib.Omega.{arith}
 use lib.ListN.{length, getD, List·getD-eq-default}
 use lib.Dec.{ltb, leb, eqb}
 use borrow.Author.Tests.{eqb-false, leb-true}
-use Rattle.state.specs.Syntax.{Node, Theory, Pack}
-use Rattle.reading.specs.Reading.{done, refused, Reader, pick, mapped, runs, many, Reply, gives, refuses, told, whole}
-use Rattle.reading.specs.Number.{numberAt, between, counted, beliefAt}
-use Rattle.state.specs.Grammar.{Dimensions, dimensions, headAt, valueAt, nodeAt, nodesAt, theoryAt, packAt, packOf, chartOf, inChart}
-use Rattle.state.specs.State.{Closed, nowhere}
+use Rattle.pack.specs.Syntax.{Node, Theory, Pack}
+use Rattle.pack.specs.Reading.{done, refused, Reader, pick, mapped, runs, many, Reply, gives, refuses, told, whole}
+use Rattle.pack.specs.Number.{numberAt, between, counted, beliefAt}
+use Rattle.pack.specs.Grammar.{Dimensions, dimensions, headAt, valueAt, nodeAt, nodesAt, theoryAt, packAt, packOf, chartOf, inChart}
+use Rattle.pack.specs.State.{Closed, nowhere}
 use Rattle.pack.specs.Answer.{dims}
 use Rattle.pack.specs.Contents.{Gives, PackFound, bodyAt}
-use Rattle.state.specs.Table.{tableOf, TableFits}
-use Rattle.state.specs.Judge.{Small}
-use Rattle.state.specs.Copy.{Shaped, TableCopied}
+use Rattle.pack.specs.Table.{tableOf, TableFits}
+use Rattle.pack.specs.Judge.{Small}
+use Rattle.pack.specs.Copy.{Shaped, TableCopied}
 use Rattle.pack.specs.declared.contents.Contents.{Contents}
-use Rattle.state.specs.declared.table.Table.{Table}
-use Rattle.reading.specs.Laws.Reading.{never-gives, ended-gives, same-value, same-place, same-gift, both, unmapped, passed, failed}
-use Rattle.reading.specs.Laws.Number.{between-within}
-use Rattle.state.proofs.OneByte.{between-byte}
-use Rattle.state.proofs.Copying.{node-bytes}
+use Rattle.pack.specs.declared.table.Table.{Table}
+use Rattle.pack.specs.Laws.Reading.{never-gives, ended-gives, same-value, same-place, same-gift, both, unmapped, passed, failed}
+use Rattle.pack.specs.Laws.Number.{between-within}
+use Rattle.pack.proofs.OneByte.{between-byte}
+use Rattle.pack.proofs.Copying.{node-bytes}
 use Rattle.pack.proofs.Found.{many-length, parts-body, theory-dims}
 
 -- each of k things has what its reader gives it

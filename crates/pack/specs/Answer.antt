@@ -3,10 +3,10 @@ use Prim.Native.Nat.{ℕ, _+_, _≤_}
 use mathlib.Core.Path.{_≡_}
 use mathlib.Core.List.{List}
 use lib.ListN.{length, getD, take}
-use Rattle.reading.specs.Reading.{Reading, Reader, bind, mapped, runs, many}
-use Rattle.reading.specs.Number.{between, item}
-use Rattle.reading.specs.Said.{answered, forget}
-use Rattle.state.specs.Grammar.{Dimensions, headAt}
+use Rattle.pack.specs.Reading.{Reading, Reader, bind, mapped, runs, many}
+use Rattle.pack.specs.Number.{between, item}
+use Rattle.pack.specs.Said.{answered, forget}
+use Rattle.pack.specs.Grammar.{Dimensions, headAt}
 use Rattle.pack.specs.declared.head.Domains.{Domains}
 use Rattle.pack.specs.declared.head.Head.{Head}
 

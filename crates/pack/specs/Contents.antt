@@ -4,15 +4,15 @@ use Prim.Native.Nat.{ℕ, _+_, _*_, _<_, _≤_}
 use mathlib.Core.Path.{_≡_}
 use mathlib.Core.List.{List, []}
 use lib.ListN.{length, getD, take}
-use Rattle.state.specs.Syntax.{Action, Trigger, Theory, Pack}
-use Rattle.reading.specs.Reading.{done, Reader, bind, mapped, many, Reply, gives, refuses, told}
-use Rattle.state.specs.Grammar.{Dimensions, nodeAt, nodesAt, packAt, conditionAt, effectsAt, consentersAt, rulesAt, theoryAt, packOf}
-use Rattle.reading.specs.Said.{shown, forget}
+use Rattle.pack.specs.Syntax.{Action, Trigger, Theory, Pack}
+use Rattle.pack.specs.Reading.{done, Reader, bind, mapped, many, Reply, gives, refuses, told}
+use Rattle.pack.specs.Grammar.{Dimensions, nodeAt, nodesAt, packAt, conditionAt, effectsAt, consentersAt, rulesAt, theoryAt, packOf}
+use Rattle.pack.specs.Said.{shown, forget}
 use Rattle.pack.specs.Answer.{dims}
-use Rattle.reading.specs.declared.number.Number.{Number}
-use Rattle.reading.specs.declared.number.Number.the-variants as numbers
-use Rattle.reading.specs.declared.number.Checked.{Checked}
-use Rattle.reading.specs.declared.number.Checked.the-variants.{Passed, Refused}
+use Rattle.pack.specs.declared.number.Number.{Number}
+use Rattle.pack.specs.declared.number.Number.the-variants as numbers
+use Rattle.pack.specs.declared.number.Checked.{Checked}
+use Rattle.pack.specs.declared.number.Checked.the-variants.{Passed, Refused}
 use Rattle.pack.specs.declared.contents.Counts.{Counts}
 use Rattle.pack.specs.declared.contents.Contents.{Contents}
 

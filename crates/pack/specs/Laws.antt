@@ -1,3 +1,7 @@
+pub mod Reading
+pub mod Number
+pub mod Table
+pub mod Fits
 pub mod Accepts
 pub mod PackBack
 pub mod Exact

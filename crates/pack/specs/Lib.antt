@@ -1,4 +1,16 @@
+pub mod Reading
+pub mod Number
+pub mod Said
+pub mod Laws
+pub mod Syntax
+pub mod State
+pub mod Condition
+pub mod Grammar
+pub mod Layout
+pub mod Table
+pub mod Judge
+pub mod Write
+pub mod Copy
 pub mod Answer
 pub mod Places
 pub mod Contents
-pub mod Laws

@@ -3,12 +3,12 @@ use Prim.Native.Nat.{ℕ, _+_, _*_, _<_, _≤_}
 use mathlib.Core.Path.{_≡_}
 use mathlib.Core.List.{List}
 use lib.ListN.{length, getD}
-use Rattle.reading.specs.Reading.{done, Reader, mapped, many}
-use Rattle.reading.specs.Number.{between, counted}
-use Rattle.state.specs.Grammar.{Dimensions, conditionAt, effectsAt, consentersAt, actionAt, triggerAt, rulesAt}
-use Rattle.reading.specs.Said.{said, shown, forget, whenPassed, whenIs}
-use Rattle.reading.specs.declared.number.Number.{Number}
-use Rattle.reading.specs.declared.number.Checked.{Checked}
+use Rattle.pack.specs.Reading.{done, Reader, mapped, many}
+use Rattle.pack.specs.Number.{between, counted}
+use Rattle.pack.specs.Grammar.{Dimensions, conditionAt, effectsAt, consentersAt, actionAt, triggerAt, rulesAt}
+use Rattle.pack.specs.Said.{said, shown, forget, whenPassed, whenIs}
+use Rattle.pack.specs.declared.number.Number.{Number}
+use Rattle.pack.specs.declared.number.Checked.{Checked}
 
 -- a place in bytes that are few enough for a pack, so that the place fits 16 bits
 abbrev pub Within : List ℕ → ℕ → Type 0

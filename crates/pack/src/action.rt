@@ -3,9 +3,9 @@
 use crate::condition::check_condition;
 use crate::effect::check_consenters;
 use crate::effect::check_effects;
-use reading::number::Checked;
-use reading::number::Number;
-use reading::number::read_between;
+use crate::number::Checked;
+use crate::number::Number;
+use crate::number::read_between;
 ghost use Prim.Native.Nat.{_+_, _≤_};
 ghost use lib.ListN.{length};
 ghost use Rattle.pack.specs.Answer.{dims};

@@ -1,15 +1,15 @@
 // Conditions: alternatives of tests, checked against the pack's characters and domains.
+use crate::number::Checked;
+use crate::number::Number;
+use crate::number::read_between;
+use crate::number::read_kind;
+use crate::number::wide;
 use crate::plain::plain_test;
-use reading::number::Checked;
-use reading::number::Number;
-use reading::number::read_between;
-use reading::number::read_kind;
-use reading::number::wide;
 ghost use mathlib.Core.Path.{_≡_};
-ghost use Rattle.reading.specs.Reading.{mapped, many};
-ghost use Rattle.reading.specs.Number.{item, counted};
-ghost use Rattle.state.specs.Grammar.{testAt, conditionAt};
-ghost use Rattle.reading.specs.Said.{shown, forget};
+ghost use Rattle.pack.specs.Reading.{mapped, many};
+ghost use Rattle.pack.specs.Number.{item, counted};
+ghost use Rattle.pack.specs.Grammar.{testAt, conditionAt};
+ghost use Rattle.pack.specs.Said.{shown, forget};
 ghost use Rattle.pack.specs.Answer.{dims, claimAt};
 
 // A chain's characters: count of them, from a position on.

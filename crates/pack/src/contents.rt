@@ -2,12 +2,12 @@
 use crate::action::read_actions;
 use crate::head::read_head;
 use crate::node::check_rows;
+use crate::number::Checked;
+use crate::number::Number;
+use crate::number::read_between;
 use crate::places::PLACES;
 use crate::trigger::read_triggers;
 use crate::utility::read_utilities;
-use reading::number::Checked;
-use reading::number::Number;
-use reading::number::read_between;
 ghost use Prim.Native.Nat.{_≤_};
 ghost use lib.ListN.{length, take};
 ghost use mathlib.Core.Path.{_≡_};

@@ -1,14 +1,14 @@
 // Effects and consenters of an action.
 use crate::condition::check_claim;
-use reading::number::Checked;
-use reading::number::Number;
-use reading::number::read_between;
-use reading::number::read_rising;
+use crate::number::Checked;
+use crate::number::Number;
+use crate::number::read_between;
+use crate::number::read_rising;
 ghost use mathlib.Core.Path.{_≡_};
 ghost use Prim.Native.Nat.{_+_, _≤_};
-ghost use Rattle.reading.specs.Reading.{mapped};
-ghost use Rattle.state.specs.Grammar.{effectAt, effectsAt, consentersAt};
-ghost use Rattle.reading.specs.Said.{shown, forget};
+ghost use Rattle.pack.specs.Reading.{mapped};
+ghost use Rattle.pack.specs.Grammar.{effectAt, effectsAt, consentersAt};
+ghost use Rattle.pack.specs.Said.{shown, forget};
 ghost use Rattle.pack.specs.Answer.{dims};
 
 // Whom an effect is for, a fluent, a value.

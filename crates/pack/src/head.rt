@@ -1,13 +1,13 @@
 // The head of a pack: version, characters, fluents and their domain sizes.
+use crate::number::Checked;
+use crate::number::Number;
+use crate::number::read_between;
 use crate::reader::moved;
 use crate::reader::new;
 use crate::reader::next;
-use reading::number::Checked;
-use reading::number::Number;
-use reading::number::read_between;
 ghost use mathlib.Core.Path.{_≡_};
 ghost use Prim.Native.Nat.{_≤_};
-ghost use Rattle.reading.specs.Said.{said, answered};
+ghost use Rattle.pack.specs.Said.{said, answered};
 ghost use Rattle.pack.specs.Answer.{inTurn, openingAt, DomainsRead, HeadRead};
 
 // What a head begins with: how many characters and fluents there are.

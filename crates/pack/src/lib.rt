@@ -1,13 +1,18 @@
 // The pack layer: the bytes of a story pack are read or refused, and the places of its parts are found.
-// What each function reads is said by a parser: see state/specs/Grammar.antt. What is in which module:
-pub mod places; // where the places of its parts stand among those that are marked
-pub mod reader; // a reader that holds the bytes and a position, and hands out number after number
-pub mod head; // version, characters, domains
-pub mod node; // nodes, as a pack or a chart has them, and a whole chart
-pub mod plain; // tests with one byte a number, passed over at once
-pub mod condition; // conditions, checked
-pub mod effect; // effects and consenters, checked
+// What each function reads is said by a parser: see pack/specs/Grammar.antt. What is in which module:
 pub mod action; // actions, with the places of their parts
+pub mod condition; // conditions, checked
+pub mod contents; // a whole pack
+pub mod copy; // nodes copied into a table
+pub mod effect; // effects and consenters, checked
+pub mod head; // version, characters, domains
+pub mod judge; // conditions and utilities judged in place
+pub mod node; // nodes, as a pack or a chart has them, and a whole chart
+pub mod number; // numbers, and numbers with their limits
+pub mod places; // where the places of its parts stand among those that are marked
+pub mod plain; // tests with one byte a number, passed over at once
+pub mod reader; // a reader that holds the bytes and a position, and hands out number after number
+pub mod table; // a table of states in a buffer, and where a chain leads
 pub mod trigger; // triggers, with the places of their parts
 pub mod utility; // rules, checked, with their places
-pub mod contents; // a whole pack
+pub mod write; // effects written in place, and consenters

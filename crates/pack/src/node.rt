@@ -1,16 +1,16 @@
 // The node part of a pack, a count and for each node its values and its beliefs; and a chart, which is that part by itself.
-use reading::number::Checked;
-use reading::number::Number;
-use reading::number::read_belief;
-use reading::number::read_between;
-use reading::number::wide;
+use crate::number::Checked;
+use crate::number::Number;
+use crate::number::read_belief;
+use crate::number::read_between;
+use crate::number::wide;
 ghost use mathlib.Core.Path.{_≡_};
 ghost use lib.ListN.{length};
 ghost use Prim.Native.Nat.{_+_};
-ghost use Rattle.reading.specs.Reading.{mapped, many, told, whole};
-ghost use Rattle.reading.specs.Number.{beliefAt};
-ghost use Rattle.state.specs.Grammar.{nodeAt, nodesAt, inChart};
-ghost use Rattle.reading.specs.Said.{shown, said, forget};
+ghost use Rattle.pack.specs.Reading.{mapped, many, told, whole};
+ghost use Rattle.pack.specs.Number.{beliefAt};
+ghost use Rattle.pack.specs.Grammar.{nodeAt, nodesAt, inChart};
+ghost use Rattle.pack.specs.Said.{shown, said, forget};
 ghost use Rattle.pack.specs.Answer.{dims, valuesAt};
 ghost use Rattle.pack.specs.Contents.{repliedCount};
 

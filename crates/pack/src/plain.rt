@@ -1,14 +1,14 @@
 // Plain tests: each number is one byte and in range. Every test of an accepted pack is plain, and is passed over at once. Any other is read
 // number by number, which finds the fault, so only where these functions say yes do they promise something.
-use reading::number::wide;
+use crate::number::wide;
 ghost use Prim.Native.Nat.{_+_, _<_, _≤_};
 ghost use lib.ListN.{length};
 ghost use mathlib.Core.Path.{_≡_};
 ghost use mathlib.Core.Bool.{true};
-ghost use Rattle.reading.specs.Reading.{done, mapped, many};
-ghost use Rattle.reading.specs.Number.{item};
-ghost use Rattle.state.specs.Grammar.{testAt};
-ghost use Rattle.reading.specs.Said.{forget};
+ghost use Rattle.pack.specs.Reading.{done, mapped, many};
+ghost use Rattle.pack.specs.Number.{item};
+ghost use Rattle.pack.specs.Grammar.{testAt};
+ghost use Rattle.pack.specs.Said.{forget};
 ghost use Rattle.pack.specs.Answer.{dims, claimAt};
 
 // The limit for a byte: below 128 it is a number by itself.

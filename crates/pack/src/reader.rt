@@ -1,11 +1,11 @@
 // A pack reader: the bytes that were lent and a position in them. It hands out number after number; the work is done by
-// functions of crate `reading` on the slice and the position.
-use reading::number::Number;
-use reading::number::place_after;
-use reading::number::read_between;
+// functions of `number` on the slice and the position.
+use crate::number::Number;
+use crate::number::place_after;
+use crate::number::read_between;
 ghost use mathlib.Core.Path.{_≡_};
-ghost use Rattle.reading.specs.Number.{between};
-ghost use Rattle.reading.specs.Said.{said, behind};
+ghost use Rattle.pack.specs.Number.{between};
+ghost use Rattle.pack.specs.Said.{said, behind};
 
 // The bytes, and the place of the number that comes next.
 pub struct Reader<'a> {

@@ -1,10 +1,10 @@
 // Triggers: checked, with the places of their parts. Trigger i has two places from 288 + 2 * i on: its condition and its effects.
 use crate::condition::check_condition;
 use crate::effect::check_effects;
+use crate::number::Checked;
+use crate::number::Number;
+use crate::number::read_between;
 use crate::places::TRIGGERS;
-use reading::number::Checked;
-use reading::number::Number;
-use reading::number::read_between;
 ghost use Prim.Native.Nat.{_+_, _≤_};
 ghost use lib.ListN.{length};
 ghost use Rattle.pack.specs.Answer.{dims};

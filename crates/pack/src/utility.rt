@@ -1,16 +1,16 @@
 // Utilities ("worths"): rules, each a condition and a number. The rules of the author and of each character have a place each, from 320 on.
 use crate::condition::check_condition;
+use crate::number::Checked;
+use crate::number::Number;
+use crate::number::read_between;
+use crate::number::read_number;
 use crate::places::UTILITIES;
-use reading::number::Checked;
-use reading::number::Number;
-use reading::number::read_between;
-use reading::number::read_number;
 ghost use Prim.Native.Nat.{_≤_};
 ghost use mathlib.Core.Path.{_≡_};
 ghost use lib.ListN.{length};
-ghost use Rattle.reading.specs.Reading.{mapped};
-ghost use Rattle.state.specs.Grammar.{ruleAt, rulesAt};
-ghost use Rattle.reading.specs.Said.{shown, forget};
+ghost use Rattle.pack.specs.Reading.{mapped};
+ghost use Rattle.pack.specs.Grammar.{ruleAt, rulesAt};
+ghost use Rattle.pack.specs.Said.{shown, forget};
 ghost use Rattle.pack.specs.Answer.{dims};
 ghost use Rattle.pack.specs.Places.{Within, UtilitiesRead};
 

@@ -6,29 +6,29 @@ use mathlib.Core.List.{List, [], _∷_}
 use native.Mathlib.Decide.{decLe, ℕ-discrete}
 use native.Mathlib.Omega.{arith}
 use lib.ListN.{length, getD}
-use Rattle.state.specs.Syntax.{Node, Theory, Rule}
-use Rattle.state.specs.State.{State, meaning}
-use Rattle.reading.specs.Reading.{done}
+use Rattle.pack.specs.Syntax.{Node, Theory, Rule}
+use Rattle.pack.specs.State.{State, meaning}
+use Rattle.pack.specs.Reading.{done}
 use Rattle.pack.specs.Answer.{dims}
-use Rattle.state.specs.Grammar.{Dimensions, rulesAt}
-use Rattle.state.specs.Condition as condition
-use Rattle.state.specs.Judge.{Over, Judged}
-use Rattle.state.specs.Table.{stateOf, Below, Above}
-use Rattle.state.specs.declared.table.Table.{Table}
+use Rattle.pack.specs.Grammar.{Dimensions, rulesAt}
+use Rattle.pack.specs.Condition as condition
+use Rattle.pack.specs.Judge.{Over, Judged}
+use Rattle.pack.specs.Table.{stateOf, Below, Above}
+use Rattle.pack.specs.declared.table.Table.{Table}
 use Rattle.chart.specs.Call.{workRoom}
 use Rattle.chart.specs.Earliest.{Before}
-use Rattle.partition.specs.Laws.Lists.{place}
-use Rattle.change.specs.Happening.{nothing, Plays, actionOf}
+use Rattle.chart.specs.Laws.Lists.{place}
+use Rattle.transition.specs.Happening.{nothing, Plays, actionOf}
 use Rattle.transition.specs.Laws.Settled.{plays-one}
-use Rattle.explanation.specs.declared.memory.Shape.{Shape}
-use Rattle.explanation.specs.Ending.{Leads, Explained, authorUtility}
-use Rattle.explanation.specs.Inner.Lists.{slotTable, Agreed, All, Ends, EndsBy}
-use Rattle.explanation.specs.Inner.Memory.{memoryAt, Fact}
-use Rattle.explanation.specs.Inner.Explain.{Stage}
+use Rattle.planner.specs.declared.memory.Shape.{Shape}
+use Rattle.planner.specs.Ending.{Leads, Explained, authorUtility}
+use Rattle.planner.specs.Inner.Lists.{slotTable, Agreed, All, Ends, EndsBy}
+use Rattle.planner.specs.Inner.Memory.{memoryAt, Fact}
+use Rattle.planner.specs.Inner.Explain.{Stage}
 use Rattle.planner.specs.Inner.Search.{Dry, Trail, Repeated, Put, Chosen, Best}
-use Rattle.explanation.specs.Laws.Explaining.{Agreeing}
-use Rattle.explanation.proofs.Remembering.{state-moved}
-use Rattle.explanation.proofs.Telling.{consenter-below, slot-same, stage-extent, stage-state}
+use Rattle.planner.specs.Laws.Explaining.{Agreeing}
+use Rattle.planner.proofs.Remembering.{state-moved}
+use Rattle.planner.proofs.Telling.{consenter-below, slot-same, stage-extent, stage-state}
 
 -- none found
 pub best-none : {M : List ℕ → Type 0} {Good : List ℕ → ℕ → Type 0} {n : ℕ} (was : List ℕ) {done slot : ℕ} {work work′ : List ℕ} → Below work work′ slot → Above work work′ workRoom → M work′ → ((list : List ℕ) (v : ℕ) → length list ≡ n → ¬ Good list v) → Best M Good n was was done slot work work′ 0

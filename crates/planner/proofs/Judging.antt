@@ -8,25 +8,25 @@ use native.Mathlib.Omega.{arith}
 use lib.ListN.{length, getD}
 use lib.Dec.{ltb, leb}
 use borrow.Author.Tests.{ltb-true, leb-true}
-use Rattle.state.specs.Syntax.{Theory, Node, Pack}
-use Rattle.state.specs.State.{meaning}
-use Rattle.reading.specs.Reading.{Reply, gives, with, told}
-use Rattle.state.specs.Grammar.{packOf}
-use Rattle.state.specs.Copy.{TableCopied}
+use Rattle.pack.specs.Syntax.{Theory, Node, Pack}
+use Rattle.pack.specs.State.{meaning}
+use Rattle.pack.specs.Reading.{Reply, gives, with, told}
+use Rattle.pack.specs.Grammar.{packOf}
+use Rattle.pack.specs.Copy.{TableCopied}
 use Rattle.pack.specs.Contents.{PackRead, replied, repliedCount}
-use Rattle.state.specs.Table.{Above}
+use Rattle.pack.specs.Table.{Above}
 use Rattle.pack.specs.Laws.Exact.{Bytes}
 use Rattle.pack.specs.declared.contents.Contents.{Contents}
-use Rattle.reading.specs.declared.number.Number.{Number}
-use Rattle.reading.specs.declared.number.Number.the-variants as numbers
-use Rattle.state.specs.declared.table.Table.{Table}
+use Rattle.pack.specs.declared.number.Number.{Number}
+use Rattle.pack.specs.declared.number.Number.the-variants as numbers
+use Rattle.pack.specs.declared.table.Table.{Table}
 use Rattle.pack.proofs.Ready.{small-pack}
 use Rattle.chart.specs.Call.{fits, workRoom, workAfter}
 use Rattle.chart.specs.Replies.{firstOf}
 use Rattle.chart.specs.Laws.Answers.{fits-table}
 use Rattle.chart.specs.Laws.Replies.{chart-fits}
 use Rattle.chart.specs.Inner.Look.{NodesRead}
-use Rattle.partition.specs.Inner.Put.{Cleared}
+use Rattle.chart.specs.Inner.Put.{Cleared}
 use Rattle.chart.proofs.Calling.{and-true}
 use Rattle.chart.proofs.Loading.{read-small}
 use Rattle.chart.proofs.Looking.{cleared-all}
@@ -34,18 +34,18 @@ use Rattle.chart.proofs.Checking.{counted, lent, checks, Accepted, FirstRead, f
 use Rattle.transition.proofs.Loaded.{read-tabled}
 use Rattle.transition.proofs.Loaded.{short-pack}
 use Rattle.planner.specs.declared.Judged.the-variants as judged
-use Rattle.explanation.specs.declared.memory.Shape.{Shape}
-use Rattle.explanation.specs.Ending.{Explained}
+use Rattle.planner.specs.declared.memory.Shape.{Shape}
+use Rattle.planner.specs.Ending.{Explained}
 use Rattle.planner.specs.Answers.{explainedTable}
 use Rattle.planner.specs.Replies.{foresightLimit, nestingLimit, explainedReply}
 use Rattle.planner.specs.Promises.{Judgement}
 use Rattle.planner.specs.Laws.Answers.{explained-table-iff}
-use Rattle.explanation.specs.Inner.Lists as slots
-use Rattle.explanation.specs.Inner.Lists.{slotTable}
-use Rattle.explanation.specs.Inner.Memory.{memoryAt, Memory}
-use Rattle.explanation.proofs.Remembering.{emptied, memory-clear}
-use Rattle.explanation.proofs.Telling.{stage-same}
-use Rattle.explanation.specs.Inner.Explain.{Stage, Free, Told, Judging, Judgeable, Verdict}
+use Rattle.planner.specs.Inner.Lists as slots
+use Rattle.planner.specs.Inner.Lists.{slotTable}
+use Rattle.planner.specs.Inner.Memory.{memoryAt, Memory}
+use Rattle.planner.proofs.Remembering.{emptied, memory-clear}
+use Rattle.planner.proofs.Telling.{stage-same}
+use Rattle.planner.specs.Inner.Explain.{Stage, Free, Told, Judging, Judgeable, Verdict}
 
 module _ {th : Theory} {T : List Node} {pack places : List ℕ} {h : Shape} {chart : List ℕ} {nodes c a K e : ℕ} {work : List ℕ} (x : Judging th T pack places h chart nodes c a K e work) where
   abbrev f : ℕ

@@ -6,19 +6,19 @@ use native.Mathlib.Decide.{decLt}
 use native.Mathlib.Omega.{arith}
 use lib.ListN.{length, getD, set, length-set}
 use lib.Seq.{getD-set-same, getD-set-other}
-use Rattle.state.specs.Syntax.{Node}
-use Rattle.state.specs.State.{meaning}
-use Rattle.state.specs.Copy.{TableCopied}
-use Rattle.state.specs.Table.{rowsAt}
-use Rattle.partition.specs.Chart.{Starts}
-use Rattle.partition.specs.Inner.Put.{Cleared, Apart, PartCopied}
+use Rattle.pack.specs.Syntax.{Node}
+use Rattle.pack.specs.State.{meaning}
+use Rattle.pack.specs.Copy.{TableCopied}
+use Rattle.pack.specs.Table.{rowsAt}
+use Rattle.chart.specs.Chart.{Starts}
+use Rattle.chart.specs.Inner.Put.{Cleared, Apart, PartCopied}
 use Rattle.chart.specs.Inner.Start.{Merged}
-use Rattle.partition.proofs.Cells.{rows-same}
+use Rattle.chart.proofs.Cells.{rows-same}
 use Rattle.chart.proofs.Loading.{read-small, read-same, merged-small}
-use Rattle.explanation.specs.declared.memory.Shape.{Shape}
-use Rattle.explanation.specs.Inner.Memory.{memoryAt}
+use Rattle.planner.specs.declared.memory.Shape.{Shape}
+use Rattle.planner.specs.Inner.Memory.{memoryAt}
 use Rattle.planner.specs.Inner.Search.{Laying, LaidStart}
-use Rattle.explanation.proofs.Remembering.{emptied}
+use Rattle.planner.proofs.Remembering.{emptied}
 
 module _ {T : List Node} {pack : List ℕ} {first nodes : ℕ} {h : Shape} {work : List ℕ} (x : Laying T pack first nodes h work) where
   abbrev f : ℕ

@@ -1,4 +1,7 @@
 -- The modules of `proofs/` that belong to no one function.
+pub mod Remembering
+pub mod Telling
+pub mod Looking
 pub mod Judging
 pub mod Laying
 pub mod Completing

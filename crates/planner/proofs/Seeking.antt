@@ -10,25 +10,25 @@ use lib.ListN.{length, getD, drop}
 use lib.Dec.{leb}
 use borrow.Author.Tests.{leb-true}
 use lib.Seq.{ext-getD}
-use Rattle.state.specs.Syntax.{Node, Theory, Pack}
-use Rattle.state.specs.State.{State, meaning}
-use Rattle.reading.specs.Reading.{Reply, gives, with, told}
-use Rattle.state.specs.Layout.{ChartFits}
+use Rattle.pack.specs.Syntax.{Node, Theory, Pack}
+use Rattle.pack.specs.State.{State, meaning}
+use Rattle.pack.specs.Reading.{Reply, gives, with, told}
+use Rattle.pack.specs.Layout.{ChartFits}
 use Rattle.pack.specs.Contents.{PackRead, replied, repliedCount}
 use Rattle.pack.specs.Laws.Exact.{Bytes}
 use Rattle.pack.specs.Laws.PackExact.{pack-exactly}
 use Rattle.pack.specs.declared.contents.Contents.{Contents}
-use Rattle.reading.specs.declared.number.Number.{Number}
-use Rattle.reading.specs.declared.number.Number.the-variants as numbers
-use Rattle.state.specs.Table.{tableOf, Below, Above, cells}
+use Rattle.pack.specs.declared.number.Number.{Number}
+use Rattle.pack.specs.declared.number.Number.the-variants as numbers
+use Rattle.pack.specs.Table.{tableOf, Below, Above, cells}
 use Rattle.pack.proofs.Ready.{small-pack}
-use Rattle.state.proofs.Tables.{cells-at, rows-length}
+use Rattle.pack.proofs.Tables.{cells-at, rows-length}
 use Rattle.chart.specs.Call.{fits, listRoom, workRoom, cleared, resultAfter, workAfter}
 use Rattle.chart.specs.Laws.Answers.{fits-table}
-use Rattle.partition.specs.Laws.Unique.{some}
-use Rattle.partition.specs.Inner.Put.{Cleared}
+use Rattle.chart.specs.Laws.Unique.{some}
+use Rattle.chart.specs.Inner.Put.{Cleared}
 use Rattle.chart.proofs.Calling.{and-true}
-use Rattle.partition.proofs.Cells.{cells-length, rows-most}
+use Rattle.chart.proofs.Cells.{cells-length, rows-most}
 use Rattle.chart.proofs.Charting.{front-back}
 use Rattle.chart.proofs.Checking.{nodes-packed, lent, checks, Accepted, refused-by, accepted-by, left-alone, check-none}
 use Rattle.chart.proofs.Loading.{read-slim}
@@ -36,18 +36,18 @@ use Rattle.chart.proofs.Looking.{cleared-all}
 use Rattle.transition.proofs.Loaded.{short-pack}
 use Rattle.planner.specs.declared.Found.{Found}
 use Rattle.planner.specs.declared.Found.the-variants as found
-use Rattle.explanation.specs.declared.memory.Shape.{Shape}
+use Rattle.planner.specs.declared.memory.Shape.{Shape}
 use Rattle.planner.specs.declared.search.Ended.{Ended}
-use Rattle.explanation.specs.Ending.{Ending, authorUtility}
+use Rattle.planner.specs.Ending.{Ending, authorUtility}
 use Rattle.planner.specs.Search.{Answer, ending, none, Sought, Searched}
 use Rattle.planner.specs.Answers.{searchTable}
 use Rattle.planner.specs.Replies.{storyLimit, foresightLimit, nestingLimit, Plan, answerReply, searchReply}
 use Rattle.planner.specs.Promises.{summary, Searching}
 use Rattle.planner.specs.Laws.Answers.{search-table-iff}
-use Rattle.explanation.specs.Inner.Lists.{slotTable, Ends}
-use Rattle.explanation.specs.Inner.Explain.{Stage}
-use Rattle.explanation.specs.Inner.Memory.{Memory}
-use Rattle.explanation.proofs.Remembering.{memory-clear}
+use Rattle.planner.specs.Inner.Lists.{slotTable, Ends}
+use Rattle.planner.specs.Inner.Explain.{Stage}
+use Rattle.planner.specs.Inner.Memory.{Memory}
+use Rattle.planner.proofs.Remembering.{memory-clear}
 use Rattle.planner.specs.Inner.Search.{Laying, LaidStart, Chosen, Best, Shortest, Seeking, Seekable, SearchPut}
 
 module _ {Good : List ℕ → ℕ → Type 0} where

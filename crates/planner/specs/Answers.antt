@@ -2,11 +2,11 @@
 use Prim.Native.Nat.{ℕ}
 use mathlib.Core.Bool.{Bool, true, false}
 use mathlib.Core.List.{List}
-use Rattle.state.specs.Syntax.{Node, Theory}
-use Rattle.state.specs.State.{meaning}
+use Rattle.pack.specs.Syntax.{Node, Theory}
+use Rattle.pack.specs.State.{meaning}
 use Rattle.chart.specs.Laws.Tables.{onTable}
 use Rattle.planner.specs.Search.{Answer, none}
-use Rattle.explanation.specs.Laws.Explaining.{explained?}
+use Rattle.planner.specs.Laws.Explaining.{explained?}
 use Rattle.planner.specs.Laws.Searching.{searchOf}
 
 -- a decision as a Bool

@@ -1,3 +1,4 @@
+pub mod Explaining
 pub mod Leads
 pub mod Searching
 pub mod Answers

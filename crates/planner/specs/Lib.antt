@@ -1,8 +1,9 @@
-pub mod Search
+pub mod Ending
 pub mod Laws
+pub mod Inner
+pub mod Search
 pub mod Answers
 pub mod Replies
 pub mod Promises
 pub mod Readings
 pub mod Theorems
-pub mod Inner

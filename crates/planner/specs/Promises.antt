@@ -4,7 +4,7 @@ use mathlib.Core.Path.{_≡_}
 use mathlib.Core.Bool.{Bool}
 use mathlib.Core.List.{List}
 use lib.ListN.{length}
-use Rattle.reading.specs.Reading.{Reply, gives, refuses, told}
+use Rattle.pack.specs.Reading.{Reply, gives, refuses, told}
 use Rattle.chart.specs.Call.{resultAfter, workAfter}
 use Rattle.planner.specs.declared.Judged.{Judged}
 use Rattle.planner.specs.declared.Judged.the-variants as judged

@@ -4,8 +4,8 @@ use mathlib.Core.Path.{_≡_}
 use mathlib.Core.Bool.{Bool, true, false}
 use mathlib.Core.List.{List, [], _∷_}
 use lib.ListN.{length}
-use Rattle.reading.specs.Reading.{Reply, gives, refuses}
-use Rattle.state.specs.Grammar.{packOf}
+use Rattle.pack.specs.Reading.{Reply, gives, refuses}
+use Rattle.pack.specs.Grammar.{packOf}
 use Rattle.chart.specs.Compare.{Verdict, same, differ}
 use Rattle.chart.specs.Call.{chartRoom, chainRoom, listRoom, workRoom}
 use Rattle.chart.specs.Replies.{startReply, compareReply}

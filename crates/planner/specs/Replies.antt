@@ -4,7 +4,7 @@ use mathlib.Core.Bool.{Bool, _&&_}
 use mathlib.Core.List.{List, [], _∷_}
 use lib.ListN.{length}
 use lib.Dec.{ltb, leb}
-use Rattle.reading.specs.Reading.{Reply, gives, refuses}
+use Rattle.pack.specs.Reading.{Reply, gives, refuses}
 use Rattle.chart.specs.Call.{listRoom, workRoom, fits, call}
 use Rattle.chart.specs.Replies.{firstOf}
 use Rattle.planner.specs.Search.{Answer, ending, none}

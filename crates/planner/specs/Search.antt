@@ -3,10 +3,10 @@
 use Prim.Native.Nat.{ℕ}
 use mathlib.Core.Path.{_≡_}
 use mathlib.Core.List.{List}
-use Rattle.state.specs.Syntax.{Theory}
-use Rattle.state.specs.State.{State}
+use Rattle.pack.specs.Syntax.{Theory}
+use Rattle.pack.specs.State.{State}
 use Rattle.chart.specs.Earliest.{Earliest}
-use Rattle.explanation.specs.Ending.{Ending, authorUtility}
+use Rattle.planner.specs.Ending.{Ending, authorUtility}
 
 -- what is true of a list that is found: the shortest ending, then the earliest, with the author's utility "at the start and at the end of that list"
 pub record Sought (p : Theory) (foresight story nesting : ℕ) (s : State) (list : List ℕ) (before after : ℕ) : Type 0 where

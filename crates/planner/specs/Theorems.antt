@@ -5,28 +5,28 @@ use mathlib.Core.Bool.{Bool, true, false, _&&_}
 use mathlib.Core.Logic.{_↔_, _⊎_, ⊎-elim}
 use mathlib.Core.List.{List}
 use lib.ListN.{length, getD}
-use Rattle.state.specs.Syntax.{Theory, Node, Pack, fluents}
-use Rattle.state.specs.State.{State, Valid, meaning}
-use Rattle.reading.specs.Reading.{gives, refuses, pick}
-use Rattle.state.specs.Grammar.{packOf, chartOf}
-use Rattle.state.specs.Layout.{packBytes, PackFits, Each}
+use Rattle.pack.specs.Syntax.{Theory, Node, Pack, fluents}
+use Rattle.pack.specs.State.{State, Valid, meaning}
+use Rattle.pack.specs.Reading.{gives, refuses, pick}
+use Rattle.pack.specs.Grammar.{packOf, chartOf}
+use Rattle.pack.specs.Layout.{packBytes, PackFits, Each}
 use Rattle.pack.specs.Laws.PackBack.{pack-back}
 use Rattle.pack.specs.Laws.Exact.{Bytes}
 use Rattle.pack.specs.Laws.PackExact.{pack-exactly}
-use Rattle.reading.specs.Laws.Reading.{never-gives}
-use Rattle.partition.specs.Chart.{ChartOf}
+use Rattle.pack.specs.Laws.Reading.{never-gives}
+use Rattle.chart.specs.Chart.{ChartOf}
 use Rattle.chart.specs.Compare.{Verdict, differ, Compared}
 use Rattle.chart.specs.Call.{fits}
 use Rattle.chart.specs.Replies.{startReply, queryReply, compareReply}
 use Rattle.chart.specs.Laws.Answers.{one-meaning, fits-table}
 use Rattle.chart.specs.Laws.Replies.{Given, Chart, given-fits, both-true, long-enough, call-ranged, start-writes, query-says, compare-says, compare-chain, charts-equal, chart-means, chart-bounded}
-use Rattle.change.specs.Happening.{Plays, Refuses}
+use Rattle.transition.specs.Happening.{Plays, Refuses}
 use Rattle.transition.specs.Step.{Outcome, Steps}
 use Rattle.transition.specs.Replies.{stepReply}
 use Rattle.transition.specs.Laws.Settled.{plays-refuses, plays-one}
 use Rattle.transition.specs.Laws.Stepping.{steps-one}
 use Rattle.transition.specs.Laws.Replies.{step-writes}
-use Rattle.explanation.specs.Ending.{Explained, Ending}
+use Rattle.planner.specs.Ending.{Explained, Ending}
 use Rattle.planner.specs.Search.{Sought, Answer, ending, none, Searched}
 use Rattle.planner.specs.Answers.{searchTable}
 use Rattle.planner.specs.Replies.{storyLimit, foresightLimit, nestingLimit, explainedReply, answerReply, searchReply}

@@ -1,31 +1,31 @@
 // Explained: the checks, and the verdict on a chart.
 use crate::Judged;
+use crate::explain::Foresight;
+use crate::explain::Nesting;
+use crate::explain::explained;
+use crate::layout::BEFORE_TABLES;
+use crate::layout::NAMES;
+use crate::memory::Shape;
+use chart::bytes::clear;
+use chart::bytes::sweep;
 use chart::call::WORK_ROOM;
 use chart::call::both_at_most;
 use chart::call::check_lent;
 use chart::call::check_under;
-use explanation::layout::BEFORE_TABLES;
-use explanation::layout::NAMES;
-use explanation::memory::Shape;
 use pack::contents::read_pack;
+use pack::copy::copy_table;
+use pack::number::Number;
 use pack::places::PLACES;
-use partition::bytes::clear;
-use partition::bytes::sweep;
-use reading::number::Number;
-use reason::explain::Foresight;
-use reason::explain::Nesting;
-use reason::explain::explained;
-use state::copy::copy_table;
 ghost use mathlib.Core.Path.{_≡_};
 ghost use mathlib.Core.Bool.{_&&_};
 ghost use mathlib.Core.List.{List};
 ghost use lib.Dec.{ltb};
-ghost use Rattle.state.specs.Syntax.{Node, Theory};
-ghost use Rattle.state.specs.State.{meaning};
-ghost use Rattle.explanation.specs.Ending.{Explained};
+ghost use Rattle.pack.specs.Syntax.{Node, Theory};
+ghost use Rattle.pack.specs.State.{meaning};
+ghost use Rattle.planner.specs.Ending.{Explained};
 ghost use Rattle.planner.specs.Replies.{foresightLimit, nestingLimit};
 ghost use Rattle.planner.specs.Promises.{Judgement};
-ghost use Rattle.explanation.specs.Inner.Explain.{Judging, Judgeable, Verdict};
+ghost use Rattle.planner.specs.Inner.Explain.{Judging, Judgeable, Verdict};
 
 // Whether the numbers handed to Explained are those of something there.
 pub fn in_range(

@@ -4,15 +4,15 @@ use mathlib.Core.Path.{_≡_, refl, sym, ap, _∙_}
 use mathlib.Core.List.{List}
 use native.Mathlib.Omega.{arith}
 use lib.ListN.{length, take, length-take}
-use Rattle.state.specs.Syntax.{Pack}
-use Rattle.reading.specs.Reading.{Reply, gives, refuses, with, told, whole}
-use Rattle.state.specs.Grammar.{nodesAt, packOf, chartOf, inChart}
-use Rattle.reading.specs.Said.{forget}
+use Rattle.pack.specs.Syntax.{Pack}
+use Rattle.pack.specs.Reading.{Reply, gives, refuses, with, told, whole}
+use Rattle.pack.specs.Grammar.{nodesAt, packOf, chartOf, inChart}
+use Rattle.pack.specs.Said.{forget}
 use Rattle.pack.specs.Answer.{dims}
 use Rattle.pack.specs.Contents.{replied, PackRead, PackFound}
-use Rattle.reading.specs.Laws.Reading.{never-gives}
-use Rattle.reading.specs.declared.number.Checked.{Checked}
-use Rattle.reading.specs.declared.number.Checked.the-variants.{Passed, Refused}
+use Rattle.pack.specs.Laws.Reading.{never-gives}
+use Rattle.pack.specs.declared.number.Checked.{Checked}
+use Rattle.pack.specs.declared.number.Checked.the-variants.{Passed, Refused}
 use Rattle.pack.specs.declared.contents.Contents.{Contents}
 use Rattle.probe.specs.Report.{chartCount}
 

@@ -5,9 +5,9 @@ use mathlib.Core.Bool.{Bool}
 use mathlib.Core.List.{List}
 use lib.ListN.{length, set}
 use borrow.Author.Tests.{lt-ltb, le-ltb}
-use Rattle.state.specs.Syntax.{Pack}
-use Rattle.reading.specs.Reading.{pick, Reply, gives, refuses}
-use Rattle.state.specs.Grammar.{packOf}
+use Rattle.pack.specs.Syntax.{Pack}
+use Rattle.pack.specs.Reading.{pick, Reply, gives, refuses}
+use Rattle.pack.specs.Grammar.{packOf}
 use Rattle.pack.specs.declared.contents.Contents.{Contents}
 use Rattle.probe.specs.Report.{numberOf, counts, ofPack, PackProbed, chartCount, ofCount, ChartProbed}
 use Rattle.probe.proofs.Replies.{Accepted}

@@ -4,9 +4,9 @@ use mathlib.Core.Path.{_≡_}
 use mathlib.Core.List.{List}
 use lib.ListN.{length, set}
 use lib.Dec.{ltb}
-use Rattle.state.specs.Syntax.{Pack}
-use Rattle.reading.specs.Reading.{pick, Reply, gives, refuses, with, told}
-use Rattle.state.specs.Grammar.{packOf, chartOf}
+use Rattle.pack.specs.Syntax.{Pack}
+use Rattle.pack.specs.Reading.{pick, Reply, gives, refuses, with, told}
+use Rattle.pack.specs.Grammar.{packOf, chartOf}
 
 -- 0 where something is given, else the refusal's number
 abbrev pub numberOf : {A : Type 0} → Reply A → ℕ

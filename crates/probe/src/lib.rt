@@ -3,9 +3,9 @@
 use pack::contents::Contents;
 use pack::contents::read_pack;
 use pack::node::check_chart;
+use pack::number::Checked;
+use pack::number::Number;
 use pack::places::PLACES;
-use reading::number::Checked;
-use reading::number::Number;
 ghost use Prim.Native.Nat.{_≤_};
 ghost use lib.ListN.{length};
 ghost use mathlib.Core.Path.{_≡_};

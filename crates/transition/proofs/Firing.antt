@@ -8,17 +8,17 @@ use native.Mathlib.Omega.{arith}
 use lib.ListN.{length, getD, set}
 use lib.Seq.{getD-set-same, getD-set-other}
 use borrow.Author.Count.{below-more}
-use Rattle.state.specs.Syntax.{Condition, Trigger, Node}
-use Rattle.state.specs.State.{State, meaning}
-use Rattle.reading.specs.Reading.{done}
-use Rattle.state.specs.Grammar.{Dimensions, conditionAt, effectAt, effectsAt}
-use Rattle.state.specs.Condition.{holds}
-use Rattle.state.specs.Judge.{Over, Judged}
-use Rattle.state.specs.Table.{stateOf}
-use Rattle.state.specs.declared.table.Table.{Table}
-use Rattle.state.proofs.Judging.{counted-starts}
-use Rattle.change.specs.Happening.{firing, effectsOf}
-use Rattle.change.specs.Inner.Cause.{Tabled}
+use Rattle.pack.specs.Syntax.{Condition, Trigger, Node}
+use Rattle.pack.specs.State.{State, meaning}
+use Rattle.pack.specs.Reading.{done}
+use Rattle.pack.specs.Grammar.{Dimensions, conditionAt, effectAt, effectsAt}
+use Rattle.pack.specs.Condition.{holds}
+use Rattle.pack.specs.Judge.{Over, Judged}
+use Rattle.pack.specs.Table.{stateOf}
+use Rattle.pack.specs.declared.table.Table.{Table}
+use Rattle.pack.proofs.Judging.{counted-starts}
+use Rattle.transition.specs.Happening.{firing, effectsOf}
+use Rattle.transition.specs.Inner.Cause.{Tabled}
 use Rattle.transition.specs.Inner.Fire.{Triggered, FireIs, Firable, Fires, FiredBelow}
 
 -- what stands for a trigger that isn't there
@@ -38,7 +38,7 @@ module _ (z : State) where
   fires-first (t ∷ ts) (suc i) l h e = rw (h 0 (omega arith)) (fires-first ts i (omega arith) (λ j l. h (suc j) (omega arith)) e)
 
 -- effects that are read stand before the pack's end
-pub effects-inside : (d : Dimensions) (pack : List ℕ) (at : ℕ) (es : List Rattle.state.specs.Syntax.Effect) (n : ℕ) → effectsAt d pack at ≡ done es n → at < length pack
+pub effects-inside : (d : Dimensions) (pack : List ℕ) (at : ℕ) (es : List Rattle.pack.specs.Syntax.Effect) (n : ℕ) → effectsAt d pack at ≡ done es n → at < length pack
 unfolding effectsAt
 effects-inside d pack at es n e = counted-starts 17 (effectAt d) pack at es n (omega arith) e (getD pack at 0) refl .1
 

@@ -1,4 +1,7 @@
 -- The modules of `proofs/` that belong to no one function.
+pub mod Causing
+pub mod Changing
+pub mod Rowing
 pub mod Firing
 pub mod Staging
 pub mod Acting
@@ -6,3 +9,5 @@ pub mod Settling
 pub mod Rounding
 pub mod Playing
 pub mod Loaded
+pub mod Stepping
+pub mod Stepped

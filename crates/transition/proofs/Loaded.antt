@@ -6,17 +6,17 @@ use mathlib.Core.List.{List}
 use native.Mathlib.Decide.{decLe}
 use native.Mathlib.Omega.{arith}
 use lib.ListN.{length}
-use Rattle.reading.specs.Reading.{gives}
-use Rattle.reading.specs.Laws.Reading.{never-gives}
-use Rattle.state.specs.Syntax.{Node, Pack}
-use Rattle.state.specs.Grammar.{Dimensions, packOf}
-use Rattle.state.specs.Judge.{Over}
-use Rattle.state.specs.Copy.{TableCopied}
+use Rattle.pack.specs.Reading.{gives}
+use Rattle.pack.specs.Laws.Reading.{never-gives}
+use Rattle.pack.specs.Syntax.{Node, Pack}
+use Rattle.pack.specs.Grammar.{Dimensions, packOf}
+use Rattle.pack.specs.Judge.{Over}
+use Rattle.pack.specs.Copy.{TableCopied}
 use Rattle.pack.proofs.Found.{pack-long}
 use Rattle.chart.specs.Call.{workRoom}
 use Rattle.chart.specs.Inner.Look.{NodesFrom}
 use Rattle.chart.proofs.Loading.{readTable, read-same, read-fits}
-use Rattle.change.specs.Inner.Cause.{Tabled}
+use Rattle.transition.specs.Inner.Cause.{Tabled}
 
 -- an accepted pack has at most 8,192 bytes
 pub short-pack : (pack : List ℕ) (x : Pack) → packOf pack ≡ gives x → length pack ≤ 8192

@@ -5,17 +5,17 @@ use mathlib.Core.Bool.{Bool, true, false}
 use mathlib.Core.List.{List}
 use native.Mathlib.Omega.{arith}
 use lib.ListN.{length, getD}
-use Rattle.state.specs.Syntax.{Action, Condition, Node, Theory}
-use Rattle.state.specs.State.{State, meaning}
-use Rattle.reading.specs.Reading.{done}
+use Rattle.pack.specs.Syntax.{Action, Condition, Node, Theory}
+use Rattle.pack.specs.State.{State, meaning}
+use Rattle.pack.specs.Reading.{done}
 use Rattle.pack.specs.Answer.{dims}
-use Rattle.state.specs.Grammar.{Dimensions, conditionAt}
-use Rattle.state.specs.Condition.{holds}
-use Rattle.state.specs.Judge.{Over, Judged}
-use Rattle.state.specs.Table.{rowsAt, stateOf}
-use Rattle.state.specs.declared.table.Table.{Table}
-use Rattle.partition.specs.States.{AtMost}
-use Rattle.change.specs.Happening.{nothing, actionOf, act, Settles, Stops, Refuses}
+use Rattle.pack.specs.Grammar.{Dimensions, conditionAt}
+use Rattle.pack.specs.Condition.{holds}
+use Rattle.pack.specs.Judge.{Over, Judged}
+use Rattle.pack.specs.Table.{rowsAt, stateOf}
+use Rattle.pack.specs.declared.table.Table.{Table}
+use Rattle.chart.specs.States.{AtMost}
+use Rattle.transition.specs.Happening.{nothing, actionOf, act, Settles, Stops, Refuses}
 use Rattle.transition.specs.Inner.Play.{Setting, Slotted, Acted, SettledIn, PlayedIn}
 use Rattle.transition.proofs.Settling.{only-none, only-then, tableIn, slot-small}
 

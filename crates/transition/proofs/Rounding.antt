@@ -8,33 +8,33 @@ use native.Mathlib.Decide.{decLt}
 use native.Mathlib.Omega.{arith}
 use lib.ListN.{length, getD, set}
 use borrow.Author.Count.{below-more}
-use Rattle.state.specs.Syntax.{Effect, Node}
-use Rattle.state.specs.State.{State, node, target, meaning}
-use Rattle.state.specs.Condition.{write}
-use Rattle.state.specs.Table.{cells, rowsAt, tableOf, stateOf}
-use Rattle.state.specs.declared.table.Table.{Table}
-use Rattle.state.proofs.Tables.{rows-length}
-use Rattle.partition.specs.Chart.{met, Ordered, Starts}
-use Rattle.partition.specs.Inner.Put.{PartCopied}
-use Rattle.partition.specs.Inner.Classed.{Room, Classed, WrittenOut}
-use Rattle.partition.specs.Inner.Level.{Levels, Parted}
-use Rattle.partition.specs.Laws.Built.{Rows}
-use Rattle.partition.specs.Laws.Merged.{classes}
-use Rattle.partition.specs.Laws.Counted.{at-most}
-use Rattle.partition.specs.Laws.Unique.{ordered-reached, some}
-use Rattle.partition.proofs.Cells.{cells-same, row-in, rows-node, rows-same, rows-most}
-use Rattle.partition.proofs.Merging.{classed-apart}
-use Rattle.change.specs.declared.change.Change.{Change}
-use Rattle.change.specs.Happening.{change}
-use Rattle.change.specs.Laws.Changed as changed
-use Rattle.change.specs.Laws.Changed.{acted, There}
-use Rattle.change.specs.Inner.Cause.{told, Telling, Tellable, ToldWritten}
-use Rattle.change.specs.Inner.Change.{Scene, Stands, at}
+use Rattle.pack.specs.Syntax.{Effect, Node}
+use Rattle.pack.specs.State.{State, node, target, meaning}
+use Rattle.pack.specs.Condition.{write}
+use Rattle.pack.specs.Table.{cells, rowsAt, tableOf, stateOf}
+use Rattle.pack.specs.declared.table.Table.{Table}
+use Rattle.pack.proofs.Tables.{rows-length}
+use Rattle.chart.specs.Chart.{met, Ordered, Starts}
+use Rattle.chart.specs.Inner.Put.{PartCopied}
+use Rattle.chart.specs.Inner.Classed.{Room, Classed, WrittenOut}
+use Rattle.chart.specs.Inner.Level.{Levels, Parted}
+use Rattle.chart.specs.Laws.Built.{Rows}
+use Rattle.chart.specs.Laws.Merged.{classes}
+use Rattle.chart.specs.Laws.Counted.{at-most}
+use Rattle.chart.specs.Laws.Unique.{ordered-reached, some}
+use Rattle.chart.proofs.Cells.{cells-same, row-in, rows-node, rows-same, rows-most}
+use Rattle.chart.proofs.Merging.{classed-apart}
+use Rattle.transition.specs.declared.change.Change.{Change}
+use Rattle.transition.specs.Happening.{change}
+use Rattle.transition.specs.Laws.Changed as changed
+use Rattle.transition.specs.Laws.Changed.{acted, There}
+use Rattle.transition.specs.Inner.Cause.{told, Telling, Tellable, ToldWritten}
+use Rattle.transition.specs.Inner.Change.{Scene, Stands, at}
 use Rattle.transition.specs.Inner.Stage.{StageRoom, SlotOnly, InSlot, Staged}
 use Rattle.transition.specs.Inner.Play.{Slotted, Acted}
 use Rattle.transition.specs.Inner.Round.{Silent, Caused, Rewritten, SlotTable, Everyone}
-use Rattle.change.proofs.Causing.{untold-write}
-use Rattle.change.proofs.Changing.{small}
+use Rattle.transition.proofs.Causing.{untold-write}
+use Rattle.transition.proofs.Changing.{small}
 use Rattle.transition.proofs.Staging.{put-down}
 use Rattle.transition.proofs.Settling.{only-then}
 

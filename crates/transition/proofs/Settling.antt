@@ -7,27 +7,27 @@ use mathlib.Core.Logic.{_≢_}
 use mathlib.Core.List.{List}
 use native.Mathlib.Omega.{arith}
 use lib.ListN.{length}
-use Rattle.state.specs.Syntax.{Node, Theory}
-use Rattle.state.specs.State.{State, meaning}
+use Rattle.pack.specs.Syntax.{Node, Theory}
+use Rattle.pack.specs.State.{State, meaning}
 use Rattle.pack.specs.Answer.{dims}
-use Rattle.state.specs.Table.{rowsAt}
-use Rattle.state.specs.declared.table.Table.{Table}
-use Rattle.state.proofs.Tables.{rows-length}
-use Rattle.partition.specs.Chart.{Starts}
-use Rattle.partition.specs.States.{AtMost}
-use Rattle.partition.specs.Laws.Counted.{counted}
-use Rattle.partition.specs.Laws.Unique.{ordered-reached, some}
-use Rattle.partition.proofs.Cells.{rows-most}
-use Rattle.change.specs.declared.change.Change.{Change}
-use Rattle.change.specs.Happening.{Quiet, Settles, Stops, firing, fires, round}
+use Rattle.pack.specs.Table.{rowsAt}
+use Rattle.pack.specs.declared.table.Table.{Table}
+use Rattle.pack.proofs.Tables.{rows-length}
+use Rattle.chart.specs.Chart.{Starts}
+use Rattle.chart.specs.States.{AtMost}
+use Rattle.chart.specs.Laws.Counted.{counted}
+use Rattle.chart.specs.Laws.Unique.{ordered-reached, some}
+use Rattle.chart.proofs.Cells.{rows-most}
+use Rattle.transition.specs.declared.change.Change.{Change}
+use Rattle.transition.specs.Happening.{Quiet, Settles, Stops, firing, fires, round}
 use Rattle.transition.specs.Laws.Quiet.{quiet}
 use Rattle.transition.specs.Laws.Settled.{Going, going-start, going-on}
-use Rattle.change.specs.Inner.Cause.{Tabled}
-use Rattle.change.specs.Inner.Change.{Scene, Stands}
+use Rattle.transition.specs.Inner.Cause.{Tabled}
+use Rattle.transition.specs.Inner.Change.{Scene, Stands}
 use Rattle.transition.specs.Inner.Fire.{Triggered, Firable, FiredBelow}
 use Rattle.transition.specs.Inner.Stage.{StageRoom, SlotOnly, InSlot, Staged}
 use Rattle.transition.specs.Inner.Play.{Theorized, Setting, Slotted, Left, SettledIn}
-use Rattle.change.proofs.Changing.{small}
+use Rattle.transition.proofs.Changing.{small}
 use Rattle.transition.proofs.Acting.{clash}
 use Rattle.transition.proofs.Firing.{fires-none}
 

@@ -7,28 +7,28 @@ use native.Mathlib.Decide.{decLt}
 use native.Mathlib.Omega.{arith}
 use lib.ListN.{length, getD, set}
 use lib.Seq.{getD-set-same, getD-set-other}
-use Rattle.state.specs.Syntax.{Node}
-use Rattle.state.specs.State.{State, meaning, walk, after}
-use Rattle.state.specs.Table.{rowsAt, Below, Above}
-use Rattle.state.specs.Laws.Table.{walk-inside, after-walk}
-use Rattle.state.specs.declared.table.Table.{Table}
-use Rattle.state.proofs.Tables.{rows-length}
+use Rattle.pack.specs.Syntax.{Node}
+use Rattle.pack.specs.State.{State, meaning, walk, after}
+use Rattle.pack.specs.Table.{rowsAt, Below, Above}
+use Rattle.pack.specs.Laws.Table.{walk-inside, after-walk}
+use Rattle.pack.specs.declared.table.Table.{Table}
+use Rattle.pack.proofs.Tables.{rows-length}
 use Rattle.chart.specs.Call.{workRoom}
-use Rattle.partition.specs.Chart.{Ordered, Written, Starts}
-use Rattle.partition.specs.States.{AtMost}
-use Rattle.partition.specs.Inner.Put.{PartCopied}
-use Rattle.partition.specs.Inner.Classed.{classAt, Room, Classed, WrittenOut}
-use Rattle.partition.specs.Inner.Level.{Levels, Parted}
-use Rattle.partition.specs.Laws.Merged.{classes, grows}
-use Rattle.partition.specs.Laws.Unique.{ordered-reached, some}
-use Rattle.partition.proofs.Cells.{rows-same, rows-most}
-use Rattle.partition.proofs.Merging.{classed-apart}
-use Rattle.partition.proofs.Numbering.{pigeons}
-use Rattle.change.specs.declared.change.Change.{Change}
-use Rattle.change.specs.Happening.{change}
-use Rattle.change.specs.Inner.Change.{Scene, Stands, at, Laid, ChangeMade}
+use Rattle.chart.specs.Chart.{Ordered, Written, Starts}
+use Rattle.chart.specs.States.{AtMost}
+use Rattle.chart.specs.Inner.Put.{PartCopied}
+use Rattle.chart.specs.Inner.Classed.{classAt, Room, Classed, WrittenOut}
+use Rattle.chart.specs.Inner.Level.{Levels, Parted}
+use Rattle.chart.specs.Laws.Merged.{classes, grows}
+use Rattle.chart.specs.Laws.Unique.{ordered-reached, some}
+use Rattle.chart.proofs.Cells.{rows-same, rows-most}
+use Rattle.chart.proofs.Merging.{classed-apart}
+use Rattle.chart.proofs.Numbering.{pigeons}
+use Rattle.transition.specs.declared.change.Change.{Change}
+use Rattle.transition.specs.Happening.{change}
+use Rattle.transition.specs.Inner.Change.{Scene, Stands, at, Laid, ChangeMade}
 use Rattle.transition.specs.Inner.Stage.{StageRoom, SlotOnly, InSlot, Staged}
-use Rattle.change.proofs.Changing.{small}
+use Rattle.transition.proofs.Changing.{small}
 
 -- a written chart of r rows in the scratch, its count put into a slot and its rows copied down behind it
 pub put-down : (t : Table) (was now now′ : List ℕ) {z : State} {slot from r : ℕ} → t .fluents + t .characters ≤ t .width → slot + 961 ≤ 28832 → 28832 ≤ from → workRoom ≤ length now → 0 < r → r ≤ 32 → r * t .width ≤ 960

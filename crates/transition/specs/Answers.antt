@@ -1,7 +1,7 @@
 -- What Step gives, as a function of a table. `Laws.Step` shows that it is what `Steps` says over chains, and nothing else is.
 use Prim.Native.Nat.{ℕ}
 use mathlib.Core.List.{List}
-use Rattle.state.specs.Syntax.{Node, Theory}
+use Rattle.pack.specs.Syntax.{Node, Theory}
 use Rattle.chart.specs.Laws.Tables.{onTable}
 use Rattle.transition.specs.Step.{Outcome, refused}
 use Rattle.transition.specs.Laws.Stepping.{stepOf}

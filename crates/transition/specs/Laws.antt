@@ -1,3 +1,4 @@
+pub mod Changed
 pub mod Quiet
 pub mod Settled
 pub mod Tabled

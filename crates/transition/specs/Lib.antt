@@ -1,6 +1,7 @@
-pub mod Step
+pub mod Happening
 pub mod Laws
+pub mod Inner
+pub mod Step
 pub mod Answers
 pub mod Replies
 pub mod Promises
-pub mod Inner

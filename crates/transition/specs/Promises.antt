@@ -3,7 +3,7 @@ use Prim.Native.Nat.{ℕ}
 use mathlib.Core.Path.{_≡_}
 use mathlib.Core.List.{List}
 use lib.ListN.{length}
-use Rattle.reading.specs.Reading.{told}
+use Rattle.pack.specs.Reading.{told}
 use Rattle.chart.specs.declared.Charted.{Charted}
 use Rattle.chart.specs.Call.{resultAfter, workAfter}
 use Rattle.chart.specs.Promises.{chartSaid}

@@ -4,8 +4,8 @@ use mathlib.Core.Bool.{_&&_}
 use mathlib.Core.List.{List, [], _∷_}
 use lib.ListN.{length}
 use lib.Dec.{ltb}
-use Rattle.reading.specs.Reading.{Reply, gives, refuses}
-use Rattle.state.specs.Layout.{chartBytes}
+use Rattle.pack.specs.Reading.{Reply, gives, refuses}
+use Rattle.pack.specs.Layout.{chartBytes}
 use Rattle.chart.specs.Call.{chartRoom, workRoom, fits, call}
 use Rattle.chart.specs.Replies.{firstOf}
 use Rattle.transition.specs.Step.{Outcome, leaves, refused}

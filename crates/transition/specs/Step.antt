@@ -2,10 +2,10 @@
 use Prim.Native.Nat.{ℕ, _<_, _≤_}
 use mathlib.Core.List.{List}
 use lib.ListN.{length}
-use Rattle.state.specs.Syntax.{Node, Theory}
-use Rattle.state.specs.State.{State, meaning}
-use Rattle.partition.specs.Chart.{Written}
-use Rattle.change.specs.Happening.{Plays, Refuses}
+use Rattle.pack.specs.Syntax.{Node, Theory}
+use Rattle.pack.specs.State.{State, meaning}
+use Rattle.chart.specs.Chart.{Written}
+use Rattle.transition.specs.Happening.{Plays, Refuses}
 
 -- a chart, or a number
 pub data Outcome : Type 0 where

@@ -1,16 +1,16 @@
 // Part 1 of Step: an action takes effect in a state, and in the beliefs of those who observe it.
+use crate::cause::tells;
+use crate::change::Change;
 use crate::stage::stage;
-use change::cause::tells;
-use change::change::Change;
-use state::table::Table;
+use pack::table::Table;
 ghost use mathlib.Core.List.{List};
 ghost use Prim.Native.Nat.{ℕ, _<_};
-ghost use Rattle.state.specs.Syntax.{Effect, Node, Theory};
-ghost use Rattle.state.specs.State.{meaning};
-ghost use Rattle.state.specs.Grammar.{Dimensions};
-ghost use Rattle.state.specs.Judge.{Small};
-ghost use Rattle.change.specs.Happening.{actionOf};
-ghost use Rattle.change.specs.Inner.Cause.{EffectsAt, Telling};
+ghost use Rattle.pack.specs.Syntax.{Effect, Node, Theory};
+ghost use Rattle.pack.specs.State.{meaning};
+ghost use Rattle.pack.specs.Grammar.{Dimensions};
+ghost use Rattle.pack.specs.Judge.{Small};
+ghost use Rattle.transition.specs.Happening.{actionOf};
+ghost use Rattle.transition.specs.Inner.Cause.{EffectsAt, Telling};
 ghost use Rattle.transition.specs.Inner.Play.{Untold, Setting, Actable, Acted};
 
 // The lowest character that no effect at a place is meant for, or 7.
@@ -39,7 +39,7 @@ pub fn act(
     slot: usize,
 ) -> usize
     requires { ⌜ Actable (now pack) (now places) action (now work) t root slot ⌝ }
-    ensures { λ r. ⌜ ((p : Theory) (T : List Node) (actions triggers : ℕ) → Setting p T (now (pack .entry)) (now (places .entry)) actions triggers (now (work .entry)) t slot → action < actions → root < t .nodes → Acted (Rattle.change.specs.Happening.act (actionOf p action) (meaning (t .characters) T root)) t (now (work .entry)) (now (work .exit)) slot r) ⌝ }
+    ensures { λ r. ⌜ ((p : Theory) (T : List Node) (actions triggers : ℕ) → Setting p T (now (pack .entry)) (now (places .entry)) actions triggers (now (work .entry)) t slot → action < actions → root < t .nodes → Acted (Rattle.transition.specs.Happening.act (actionOf p action) (meaning (t .characters) T root)) t (now (work .entry)) (now (work .exit)) slot r) ⌝ }
 {
     let place = places[9 * action + 1];
     let effects = [place; 32];

@@ -1,16 +1,16 @@
 // Triggers: the lowest that holds in each row.
+use pack::judge::holds;
 use pack::places::TRIGGER_EFFECTS;
 use pack::places::TRIGGERS;
-use state::judge::holds;
-use state::table::Table;
+use pack::table::Table;
 ghost use Prim.Native.Nat.{_<_, _≤_};
 ghost use mathlib.Core.Path.{_≡_};
 ghost use mathlib.Core.Bool.{_||_};
 ghost use mathlib.Core.List.{List};
 ghost use lib.ListN.{length};
-ghost use Rattle.state.specs.Syntax.{Trigger, Node};
-ghost use Rattle.state.specs.Grammar.{Dimensions};
-ghost use Rattle.change.specs.Inner.Cause.{Tabled};
+ghost use Rattle.pack.specs.Syntax.{Trigger, Node};
+ghost use Rattle.pack.specs.Grammar.{Dimensions};
+ghost use Rattle.transition.specs.Inner.Cause.{Tabled};
 ghost use Rattle.transition.specs.Inner.Fire.{Triggered, Firable, Fires, FiredBelow};
 
 // The place of the effects of the lowest trigger that holds in row m, or 8192, which is behind every pack.

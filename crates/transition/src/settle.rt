@@ -1,13 +1,13 @@
 // Rounds of triggers, until none holds anywhere.
+use crate::change::Change;
 use crate::fire::fire_all;
 use crate::round::round;
-use change::change::Change;
 use pack::places::PLACES;
-use state::table::Table;
+use pack::table::Table;
 ghost use mathlib.Core.List.{List};
 ghost use Prim.Native.Nat.{ℕ};
-ghost use Rattle.state.specs.Syntax.{Node, Theory};
-ghost use Rattle.state.specs.State.{meaning};
+ghost use Rattle.pack.specs.Syntax.{Node, Theory};
+ghost use Rattle.pack.specs.State.{meaning};
 ghost use Rattle.transition.specs.Inner.Play.{Setting, Slotted, SettledIn, Settleable};
 
 // Settles the state in a slot, of which t is the table: 0 where it does, 12 where there are more than 32 states, 11 where a trigger holds after round 16.

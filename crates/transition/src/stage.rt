@@ -1,20 +1,20 @@
 // A stage of Step, part 1 or a round: the pass, the partition, and the merged table, which is put into a slot of the work buffer.
+use crate::change::Change;
+use crate::change::change_table;
 use crate::layout::CLASSES;
 use crate::layout::FIRSTS;
 use crate::layout::LEVEL;
 use crate::layout::MADE;
 use crate::layout::MERGED;
 use crate::layout::NUMBERS;
-use change::change::Change;
-use change::change::change_table;
-use partition::bytes::copy_part;
-use partition::merge::write_merged;
-use partition::partition::partition;
-use state::table::Table;
+use chart::bytes::copy_part;
+use chart::merge::write_merged;
+use chart::partition::partition;
+use pack::table::Table;
 ghost use Prim.Native.Nat.{_+_, _*_, _≤_};
 ghost use lib.ListN.{length, set};
-ghost use Rattle.partition.specs.Inner.Put.{PartCopied};
-ghost use Rattle.change.specs.Inner.Change.{Scene, Stands, Scened};
+ghost use Rattle.chart.specs.Inner.Put.{PartCopied};
+ghost use Rattle.transition.specs.Inner.Change.{Scene, Stands, Scened};
 ghost use Rattle.transition.specs.Inner.Stage.{StageRoom, Staged};
 
 // Puts n rows of w bytes, which stand from `from` on in the scratch, into the slot at `slot`: their count there and the rows behind it.

@@ -1,12 +1,12 @@
 // An action, and the triggers after it, from slot to slot.
 use crate::act::act;
 use crate::settle::settle;
-use state::judge::holds;
-use state::table::Table;
+use pack::judge::holds;
+use pack::table::Table;
 ghost use mathlib.Core.List.{List};
 ghost use Prim.Native.Nat.{ℕ, _<_};
-ghost use Rattle.state.specs.Syntax.{Node, Theory};
-ghost use Rattle.state.specs.State.{meaning};
+ghost use Rattle.pack.specs.Syntax.{Node, Theory};
+ghost use Rattle.pack.specs.State.{meaning};
 ghost use Rattle.transition.specs.Inner.Play.{Setting, Playable, PlayedIn};
 
 // Plays an action in what a row of a table means, into a slot: 0, or 10, 11 or 12.

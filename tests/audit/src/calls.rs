@@ -9,8 +9,8 @@ use std::path::Path;
 pub const CALLS: [(&str, &str, &str); 6] = [
     ("chart", "start", "start"),
     ("chart", "query", "query"),
-    ("difference", "compare", "compare"),
-    ("step", "play", "step"),
+    ("chart", "compare", "compare"),
+    ("transition", "play", "step"),
     ("planner", "judge", "judge"),
     ("planner", "search", "search"),
 ];

@@ -39,13 +39,13 @@ fn definitions_are_reached() {
     let has = |end: &str| modules.iter().any(|module| module.path.ends_with(end) && module.lines > 0);
     for end in [
         "planner/specs/Promises.antt",
-        "explanation/specs/Ending.antt",
-        "change/specs/Happening.antt",
-        "partition/specs/Chart.antt",
+        "planner/specs/Ending.antt",
+        "transition/specs/Happening.antt",
+        "chart/specs/Chart.antt",
         "chart/specs/Call.antt",
-        "reading/specs/Number.antt",
-        "state/specs/Grammar.antt",
-        "state/specs/State.antt",
+        "pack/specs/Number.antt",
+        "pack/specs/Grammar.antt",
+        "pack/specs/State.antt",
         "export/specs/Exports.antt",
     ] {
         assert!(has(end), "{end} is not reached");
@@ -64,22 +64,7 @@ fn use_lines_are_read() {
 #[test]
 fn wrong_programs_have_their_edits() {
     let page = std::fs::read_to_string(repository().join("docs/CONTRACTS.md")).expect("the page");
-    let of = [
-        "reading",
-        "state",
-        "pack",
-        "partition",
-        "chart",
-        "difference",
-        "change",
-        "transition",
-        "step",
-        "explanation",
-        "reason",
-        "planner",
-        "export",
-        "ending",
-    ];
+    let of = ["pack", "chart", "transition", "planner", "export", "ending"];
     let cited: Vec<&str> = page.split('`').skip(1).step_by(2).collect();
     let mut there = Vec::new();
     for name in of {
@@ -129,6 +114,6 @@ fn declares(line: &str, law: &str) -> bool {
 
 #[test]
 fn paths_in_a_cell_are_read() {
-    assert_eq!(audit::paths(" `state/specs/State`, `Condition` "), ["state/specs/State", "state/specs/Condition"]);
+    assert_eq!(audit::paths(" `pack/specs/State`, `Condition` "), ["pack/specs/State", "pack/specs/Condition"]);
     assert!(declares("  pub starts-one : (C : ℕ)", "starts-one") && !declares("pub starts-one-more : ℕ", "starts-one"));
 }

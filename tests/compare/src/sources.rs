@@ -7,8 +7,7 @@ use std::path::{Path, PathBuf};
 use std::process::Command;
 
 /// The crates, each over those before it.
-const CRATES: [&str; 10] =
-    ["reading", "state", "pack", "partition", "chart", "change", "transition", "explanation", "reason", "planner"];
+const CRATES: [&str; 4] = ["pack", "chart", "transition", "planner"];
 
 /// Something that the search does without, by changed lines: the file, what it says, and what it is to say.
 pub struct Off {
@@ -21,20 +20,20 @@ pub const NOTHING_OFF: Off = Off { name: "nothing", edits: &[] };
 pub const OFF: [Off; 8] = [
     Off {
         name: "memory of steps",
-        edits: &[("explanation/known.rs", "if step_is(work, at, name, root, action) {", "if false {")],
+        edits: &[("planner/known.rs", "if step_is(work, at, name, root, action) {", "if false {")],
     },
     Off {
         name: "memory of verdicts",
         edits: &[
-            ("reason/explain.rs", "if known == 4 {", "if known == 9 {"),
-            ("reason/explain.rs", "if known == 5 {", "if known == 9 {"),
+            ("planner/explain.rs", "if known == 4 {", "if known == 9 {"),
+            ("planner/explain.rs", "if known == 5 {", "if known == 9 {"),
         ],
     },
     Off {
         name: "memory of characters' lists",
         edits: &[
-            ("reason/explain.rs", "if known == 1 {", "if known == 9 {"),
-            ("reason/explain.rs", "if known == 2 {", "if known == 9 {"),
+            ("planner/explain.rs", "if known == 1 {", "if known == 9 {"),
+            ("planner/explain.rs", "if known == 2 {", "if known == 9 {"),
         ],
     },
     Off {
@@ -45,20 +44,20 @@ pub const OFF: [Off; 8] = [
         name: "repeats on the author's path",
         edits: &[("planner/search.rs", "if repeats(work, p, slot, done) {", "if false {")],
     },
-    Off { name: "conditions before consenters", edits: &[("reason/look.rs", "if !may {", "if false {")] },
-    Off { name: "look before a last action", edits: &[("reason/look.rs", "if 0 < left {", "if true {")] },
+    Off { name: "conditions before consenters", edits: &[("planner/look.rs", "if !may {", "if false {")] },
+    Off { name: "look before a last action", edits: &[("planner/look.rs", "if 0 < left {", "if true {")] },
     Off {
         name: "all of them",
         edits: &[
-            ("explanation/known.rs", "if step_is(work, at, name, root, action) {", "if false {"),
-            ("reason/explain.rs", "if known == 4 {", "if known == 9 {"),
-            ("reason/explain.rs", "if known == 5 {", "if known == 9 {"),
-            ("reason/explain.rs", "if known == 1 {", "if known == 9 {"),
-            ("reason/explain.rs", "if known == 2 {", "if known == 9 {"),
+            ("planner/known.rs", "if step_is(work, at, name, root, action) {", "if false {"),
+            ("planner/explain.rs", "if known == 4 {", "if known == 9 {"),
+            ("planner/explain.rs", "if known == 5 {", "if known == 9 {"),
+            ("planner/explain.rs", "if known == 1 {", "if known == 9 {"),
+            ("planner/explain.rs", "if known == 2 {", "if known == 9 {"),
             ("planner/search.rs", "if recall(work, p, slot, key) == 3 {", "if false {"),
             ("planner/search.rs", "if repeats(work, p, slot, done) {", "if false {"),
-            ("reason/look.rs", "if !may {", "if false {"),
-            ("reason/look.rs", "if 0 < left {", "if true {"),
+            ("planner/look.rs", "if !may {", "if false {"),
+            ("planner/look.rs", "if 0 < left {", "if true {"),
         ],
     },
 ];

@@ -3,11 +3,11 @@ use mathlib.Core.Path.{_≡_}
 use mathlib.Core.List.{List}
 use Prim.Native.Nat.{ℕ, _<_, _≤_}
 use lib.ListN.{length, getD}
-use Rattle.state.specs.Syntax.{Node}
-use Rattle.state.specs.State.{Valid, meaning}
-use Rattle.reading.specs.Reading.{done, many}
-use Rattle.state.specs.Grammar.{Dimensions, nodeAt}
-use Rattle.state.specs.Copy.{Shaped}
+use Rattle.pack.specs.Syntax.{Node}
+use Rattle.pack.specs.State.{Valid, meaning}
+use Rattle.pack.specs.Reading.{done, many}
+use Rattle.pack.specs.Grammar.{Dimensions, nodeAt}
+use Rattle.pack.specs.Copy.{Shaped}
 use Rattle.chart.specs.Call.{workRoom, cleared}
 
 -- nodes that are read from a place on, and where they end

@@ -3,14 +3,14 @@ use mathlib.Core.Path.{_≡_}
 use mathlib.Core.List.{List, _++_}
 use Prim.Native.Nat.{ℕ, _+_, _<_, _≤_}
 use lib.ListN.{length, drop}
-use Rattle.state.specs.Syntax.{Node}
-use Rattle.state.specs.Layout.{chartBytes, ChartFits}
-use Rattle.state.specs.State.{meaning}
-use Rattle.state.specs.Table.{rowsAt, Above}
-use Rattle.partition.specs.Chart.{Starts}
+use Rattle.pack.specs.Syntax.{Node}
+use Rattle.pack.specs.Layout.{chartBytes, ChartFits}
+use Rattle.pack.specs.State.{meaning}
+use Rattle.pack.specs.Table.{rowsAt, Above}
+use Rattle.chart.specs.Chart.{Starts}
 use Rattle.chart.specs.Answers.{startTable}
 use Rattle.chart.specs.Call.{chartRoom, workRoom, cleared}
-use Rattle.partition.specs.Inner.Numbers.{Sound}
+use Rattle.chart.specs.Inner.Numbers.{Sound}
 use Rattle.chart.specs.Inner.Look.{NodesFrom}
 
 -- at most 32 rows of at most 30 bytes from 1 on, each belief one of them

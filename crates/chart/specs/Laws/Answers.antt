@@ -5,20 +5,20 @@ use mathlib.Core.Logic.{dite, _↔_}
 use mathlib.Core.List.{List, []}
 use lib.ListN.{length}
 use native.Mathlib.Omega.{arith}
-use Rattle.state.specs.State.{State, Valid, meaning, Closed, nowhere, node, walk, after}
-use Rattle.state.specs.Syntax.{Node}
-use Rattle.state.specs.Layout.{Valued, NodeFits, ChartFits}
-use Rattle.state.specs.Laws.Fits.{each-from, fits-node, fits-closed, fits-sized}
-use Rattle.state.specs.Laws.Table.{same-valid, finds-walk, walk-inside, after-walk}
+use Rattle.pack.specs.State.{State, Valid, meaning, Closed, nowhere, node, walk, after}
+use Rattle.pack.specs.Syntax.{Node}
+use Rattle.pack.specs.Layout.{Valued, NodeFits, ChartFits}
+use Rattle.pack.specs.Laws.Fits.{each-from, fits-node, fits-closed, fits-sized}
+use Rattle.pack.specs.Laws.Table.{same-valid, finds-walk, walk-inside, after-walk}
 use Rattle.chart.specs.Answers.{startTable, compareTable}
-use Rattle.partition.specs.Chart.{Written, Starts}
+use Rattle.chart.specs.Chart.{Written, Starts}
 use Rattle.chart.specs.Compare.{Compared, Verdict, same, differ}
-use Rattle.partition.specs.States.{Everywhere}
+use Rattle.chart.specs.States.{Everywhere}
 use Rattle.chart.specs.Laws.Charted.{chart}
 use Rattle.chart.specs.Laws.Comparing.{compareOf, compared, compared-one, compare-short}
-use Rattle.partition.specs.Laws.Count.{all, count-all, count-inj}
+use Rattle.chart.specs.Laws.Count.{all, count-all, count-inj}
 use Rattle.chart.specs.Laws.Tables.{IsTable, tabled, IsFull, everywhere-table, on-table, full?, full}
-use Rattle.partition.specs.Laws.Unique.{unique, ordered-reached, some}
+use Rattle.chart.specs.Laws.Unique.{unique, ordered-reached, some}
 
 pub starts-one : (C : ℕ) (s : State) (t u : List Node) → Starts C s t → Starts C s u → t ≡ u
 starts-one C s t u x y = unique C t u (x .0) (y .0) (x .1 ∙ sym (y .1))

@@ -7,19 +7,19 @@ use lib.ListN.{length}
 use native.Mathlib.Nat.{eq-or-lt-of-le, le-of-suc-le-suc}
 use native.Mathlib.Decide.{decLt, decLe, map-dec}
 use native.Mathlib.Omega.{arith}
-use Rattle.partition.specs.Laws.Moore as moore
-use Rattle.state.specs.State.{State, node, nowhere, meaning, target, Closed}
-use Rattle.state.specs.Syntax.{Node}
-use Rattle.partition.specs.Chart.{Ordered, Written}
-use Rattle.partition.specs.States.{AtMost}
-use Rattle.partition.specs.Laws.Bridge.{val, meaning-at}
-use Rattle.partition.specs.Laws.Classes.{Sorts, First, first?, head, head-one}
-use Rattle.partition.specs.Laws.Counted.{counted}
-use Rattle.partition.specs.Laws.Lists.{tabulate, length-tabulate, getD-tabulate}
-use Rattle.partition.specs.Laws.Merged.{classes, grows, first, Merged, merged, kept}
+use Rattle.chart.specs.Laws.Moore as moore
+use Rattle.pack.specs.State.{State, node, nowhere, meaning, target, Closed}
+use Rattle.pack.specs.Syntax.{Node}
+use Rattle.chart.specs.Chart.{Ordered, Written}
+use Rattle.chart.specs.States.{AtMost}
+use Rattle.chart.specs.Laws.Bridge.{val, meaning-at}
+use Rattle.chart.specs.Laws.Classes.{Sorts, First, first?, head, head-one}
+use Rattle.chart.specs.Laws.Counted.{counted}
+use Rattle.chart.specs.Laws.Lists.{tabulate, length-tabulate, getD-tabulate}
+use Rattle.chart.specs.Laws.Merged.{classes, grows, first, Merged, merged, kept}
 use Rattle.chart.specs.Laws.Reach.{reaching}
 use Rattle.chart.specs.Laws.Tabled.{Tabled}
-use Rattle.partition.specs.Laws.Unique.{some, unique, ordered-reached}
+use Rattle.chart.specs.Laws.Unique.{some, unique, ordered-reached}
 
 -- two rows mean the same, or they don't
 pub same? : (C : ℕ) (t : List Node) → Closed C t → (i j : ℕ) → i < length t → j < length t → Dec (meaning C t i ≡ meaning C t j)

@@ -10,14 +10,14 @@ use lib.Dec.{ltb}
 use borrow.Author.Tests.{lt-ltb, le-ltb}
 use native.Mathlib.Decide.{ℕ-discrete, decLt}
 use native.Mathlib.Omega.{arith}
-use Rattle.partition.specs.Laws.Moore as moore
-use Rattle.state.specs.State.{State, Valid, node, meaning, target, Closed}
-use Rattle.state.specs.Syntax.{Node}
-use Rattle.state.specs.Laws.Table.{belief-in, belief-out}
+use Rattle.chart.specs.Laws.Moore as moore
+use Rattle.pack.specs.State.{State, Valid, node, meaning, target, Closed}
+use Rattle.pack.specs.Syntax.{Node}
+use Rattle.pack.specs.Laws.Table.{belief-in, belief-out}
 use Rattle.chart.specs.Compare.{Compared, Verdict, same, differ}
 use Rattle.chart.specs.Earliest.{Earliest}
-use Rattle.partition.specs.States.{Wide}
-use Rattle.partition.specs.Laws.Count.{least}
+use Rattle.chart.specs.States.{Wide}
+use Rattle.chart.specs.Laws.Count.{least}
 use Rattle.chart.specs.Laws.Earliest.{differ-one}
 use Rattle.chart.specs.Laws.Seek.{seek}
 use Rattle.chart.specs.Laws.Tables.{Full}

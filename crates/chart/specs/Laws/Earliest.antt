@@ -6,7 +6,7 @@ use mathlib.Core.List.{List, [], _∷_}
 use lib.ListN.{length}
 use native.Mathlib.Decide.{decLt}
 use native.Mathlib.Omega.{arith}
-use Rattle.state.specs.State.{State}
+use Rattle.pack.specs.State.{State}
 use Rattle.chart.specs.Compare.{Differ}
 use Rattle.chart.specs.Earliest.{Earliest, Before}
 

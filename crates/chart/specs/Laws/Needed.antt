@@ -4,10 +4,10 @@ use mathlib.Core.Path.{_≡_, refl, sym, _∙_, ap}
 use mathlib.Core.List.{List, [], _∷_}
 use lib.ListN.{getD, length}
 use native.Mathlib.Omega.{arith}
-use Rattle.state.specs.State.{State, node, meaning, Closed, Valid}
-use Rattle.state.specs.Syntax.{Node}
-use Rattle.state.specs.Laws.Table.{same-valid}
-use Rattle.partition.specs.Chart.{Apart, meets, Fresh, met, Written}
+use Rattle.pack.specs.State.{State, node, meaning, Closed, Valid}
+use Rattle.pack.specs.Syntax.{Node}
+use Rattle.pack.specs.Laws.Table.{same-valid}
+use Rattle.chart.specs.Chart.{Apart, meets, Fresh, met, Written}
 
 abbrev short : List Node
 short = record { values = 0 ∷ []; beliefs = 0 ∷ [] } ∷ []

@@ -4,8 +4,8 @@ use mathlib.Core.Path.{_≡_, refl, ap}
 use mathlib.Core.List.{List, [], _∷_}
 use lib.ListN.{length}
 use native.Mathlib.Omega.{arith}
-use Rattle.state.specs.State.{State, Valid, meaning}
-use Rattle.state.specs.Syntax.{Node}
+use Rattle.pack.specs.State.{State, Valid, meaning}
+use Rattle.pack.specs.Syntax.{Node}
 use Rattle.chart.specs.Compare.{Verdict, same, differ, Compared}
 
 -- where a node has fewer values than another, Compare may have no answer

@@ -8,13 +8,13 @@ use lib.Seq.{getD-append-seam}
 use native.Mathlib.Nat.{eq-or-lt-of-le, le-of-suc-le-suc}
 use native.Mathlib.Decide.{ℕ-discrete, decLt}
 use native.Mathlib.Omega.{arith}
-use Rattle.state.specs.State.{node, nowhere, meaning, target, Closed}
-use Rattle.state.specs.Syntax.{Node}
-use Rattle.partition.specs.Chart.{meets, Fresh, met, Ordered}
-use Rattle.partition.specs.Laws.Built.{built, copied}
-use Rattle.partition.specs.Laws.Count.{all, count-all, count-inj, least, turn}
-use Rattle.partition.specs.Laws.Lists.{tabulate, length-tabulate, getD-tabulate}
-use Rattle.partition.specs.Laws.Pass.{numbered, Pass, pass-start, pass-row, pass-end}
+use Rattle.pack.specs.State.{node, nowhere, meaning, target, Closed}
+use Rattle.pack.specs.Syntax.{Node}
+use Rattle.chart.specs.Chart.{meets, Fresh, met, Ordered}
+use Rattle.chart.specs.Laws.Built.{built, copied}
+use Rattle.chart.specs.Laws.Count.{all, count-all, count-inj, least, turn}
+use Rattle.chart.specs.Laws.Lists.{tabulate, length-tabulate, getD-tabulate}
+use Rattle.chart.specs.Laws.Pass.{numbered, Pass, pass-start, pass-row, pass-end}
 
 -- rows numbered so far: all different, all below N
 record Keys (N : ℕ) (keys : List ℕ) : Type 0 where

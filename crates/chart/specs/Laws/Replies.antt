@@ -8,23 +8,23 @@ use lib.ListN.{length, getD}
 use lib.Dec.{ltb}
 use native.Mathlib.Omega.{arith}
 use borrow.Author.Tests.{le-leb, lt-ltb}
-use Rattle.state.specs.Syntax.{Theory, Node, Pack, fluents}
-use Rattle.state.specs.State.{State, Valid, meaning}
-use Rattle.reading.specs.Reading.{Reply, gives, refuses, pick}
-use Rattle.state.specs.Grammar.{packOf, chartOf}
-use Rattle.state.specs.Layout.{chartBytes, ChartFits, PackFits}
-use Rattle.reading.specs.Laws.Reading.{same-gift}
-use Rattle.state.specs.Laws.Table.{same-valid}
-use Rattle.state.specs.Laws.Fits.{chart-short}
+use Rattle.pack.specs.Syntax.{Theory, Node, Pack, fluents}
+use Rattle.pack.specs.State.{State, Valid, meaning}
+use Rattle.pack.specs.Reading.{Reply, gives, refuses, pick}
+use Rattle.pack.specs.Grammar.{packOf, chartOf}
+use Rattle.pack.specs.Layout.{chartBytes, ChartFits, PackFits}
+use Rattle.pack.specs.Laws.Reading.{same-gift}
+use Rattle.pack.specs.Laws.Table.{same-valid}
+use Rattle.pack.specs.Laws.Fits.{chart-short}
 use Rattle.pack.specs.Laws.PackBack.{chart-back, chart-bytes-one}
 use Rattle.pack.specs.Laws.Exact.{Bytes}
 use Rattle.pack.specs.Laws.PackExact.{pack-exactly, chart-exactly, fits-limits}
-use Rattle.partition.specs.Chart.{Starts, ChartOf}
+use Rattle.chart.specs.Chart.{Starts, ChartOf}
 use Rattle.chart.specs.Compare.{Verdict, same, differ, Compared}
 use Rattle.chart.specs.Answers.{startTable, compareTable}
 use Rattle.chart.specs.Call.{chartRoom, chainRoom, workRoom, fits, chartsOf, call}
 use Rattle.chart.specs.Replies.{startReply, queryReply, compareReply, allBelow}
-use Rattle.partition.specs.Laws.Unique.{unique}
+use Rattle.chart.specs.Laws.Unique.{unique}
 use Rattle.chart.specs.Laws.Answers.{start-table, start-table-iff, start-fits, compare-table-iff, compare-table-short, fits-table, fits-full}
 
 -- bytes that are accepted as a pack

@@ -6,9 +6,9 @@ use mathlib.Core.List.{List, [], _∷_}
 use lib.ListN.{length}
 use native.Mathlib.Decide.{decLe}
 use native.Mathlib.Omega.{arith}
-use Rattle.state.specs.State.{Valid}
+use Rattle.pack.specs.State.{Valid}
 use Rattle.chart.specs.Earliest.{Before, Earliest}
-use Rattle.partition.specs.Laws.Count.{least}
+use Rattle.chart.specs.Laws.Count.{least}
 
 -- Lists of numbers below A, by length and then in order
 module _ (A : ℕ) where

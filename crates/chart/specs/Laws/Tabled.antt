@@ -6,11 +6,11 @@ use mathlib.Core.List.{List, [], _∷_, List·Memᴰ, List·Memᴰ·tail, List·
 use lib.ListN.{getD, length}
 use native.Mathlib.Decide.{decLt}
 use native.Mathlib.Omega.{arith}
-use Rattle.state.specs.State.{State, belief, node, nowhere, meaning, target, Closed}
-use Rattle.state.specs.Syntax.{Node}
-use Rattle.state.specs.Laws.Table.{Matches, means, blank, belief-in, belief-out}
-use Rattle.partition.specs.Laws.Built.{Family, Rows, built, copied}
-use Rattle.partition.specs.Laws.Lists.{tabulate, length-tabulate, getD-tabulate, stands, place, below, below-in, below-out}
+use Rattle.pack.specs.State.{State, belief, node, nowhere, meaning, target, Closed}
+use Rattle.pack.specs.Syntax.{Node}
+use Rattle.pack.specs.Laws.Table.{Matches, means, blank, belief-in, belief-out}
+use Rattle.chart.specs.Laws.Built.{Family, Rows, built, copied}
+use Rattle.chart.specs.Laws.Lists.{tabulate, length-tabulate, getD-tabulate, stands, place, below, below-in, below-out}
 
 pub record Tabled (C : ℕ) (s : State) : Type 0 where
   pub table : List Node

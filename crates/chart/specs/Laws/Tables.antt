@@ -5,11 +5,11 @@ use mathlib.Core.Logic.{dite, Dec·and}
 use mathlib.Core.List.{List}
 use lib.ListN.{length}
 use native.Mathlib.Decide.{decLt, ℕ-discrete}
-use Rattle.state.specs.State.{State, meaning, target, Closed, node, walk, Sized}
-use Rattle.state.specs.Syntax.{Node}
-use Rattle.state.specs.Laws.Table.{finds-walk, walk-inside}
-use Rattle.partition.specs.States.{Everywhere, Wide}
-use Rattle.partition.specs.Laws.Count.{every}
+use Rattle.pack.specs.State.{State, meaning, target, Closed, node, walk, Sized}
+use Rattle.pack.specs.Syntax.{Node}
+use Rattle.pack.specs.Laws.Table.{finds-walk, walk-inside}
+use Rattle.chart.specs.States.{Everywhere, Wide}
+use Rattle.chart.specs.Laws.Count.{every}
 use Rattle.chart.specs.Laws.Tabled.{Tabled}
 
 -- Whether a list of nodes is a table

@@ -8,7 +8,7 @@ use native.Mathlib.Numerals.{unary-clauses}
 use native.Mathlib.Omega.{arith}
 use lib.Dec.{ltb}
 use borrow.Author.Tests.{ltb-true}
-use Rattle.reading.specs.Reading.{pick}
+use Rattle.pack.specs.Reading.{pick}
 use Rattle.ending.specs.Text.{digits}
 
 -- the number that digits stand for, behind one that was read already

@@ -3,7 +3,7 @@ use Prim.Native.Nat.{ℕ}
 use mathlib.Core.Path.{_≡_, ap, _∙_}
 use mathlib.Core.Bool.{Bool, true, _&&_}
 use mathlib.Core.List.{List, []}
-use Rattle.state.specs.Syntax.{Node, Pack}
+use Rattle.pack.specs.Syntax.{Node, Pack}
 use Rattle.chart.specs.Call.{listRoom, workRoom, fits, chartsOf, call}
 use Rattle.planner.specs.Answers.{searchTable}
 use Rattle.planner.specs.Replies.{answerReply, searchReply}

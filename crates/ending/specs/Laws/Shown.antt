@@ -1,7 +1,7 @@
 -- What the definitions of the text come to, as bytes. Assumes nothing.
 use mathlib.Core.Path.{_≡_, refl}
 use mathlib.Core.List.{[], _∷_}
-use Rattle.reading.specs.Reading.{gives, refuses}
+use Rattle.pack.specs.Reading.{gives, refuses}
 use Rattle.ending.specs.Text.{digits, decimal, line, steps, printed}
 
 -- the greatest worth, and 0

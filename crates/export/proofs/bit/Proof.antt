@@ -2,7 +2,7 @@
 use Prim.Native.Nat.{ℕ}
 use mathlib.Core.Path.{sym, ap}
 use mathlib.Core.Bool.{Bool}
-use Rattle.reading.specs.Reading.{pick}
+use Rattle.pack.specs.Reading.{pick}
 use Rattle.export.proofs.bit.Statement.{statement}
 use Rattle.export.proofs.bit.Tie as tie
 

@@ -2,7 +2,7 @@
 use mathlib.Core.Path.{sym, ap}
 use mathlib.Core.Bool.{Bool}
 use borrow.Author.Tests.{le-leb, lt-leb}
-use Rattle.reading.specs.Reading.{pick}
+use Rattle.pack.specs.Reading.{pick}
 use Rattle.export.proofs.lent.Statement.{statement}
 use Rattle.export.proofs.lent.Tie as tie
 

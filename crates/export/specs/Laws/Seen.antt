@@ -5,10 +5,10 @@ use mathlib.Core.Bool.{Bool, true, false, _&&_}
 use mathlib.Core.List.{List, [], _∷_}
 use lib.ListN.{getD, length}
 use lib.Dec.{ltb}
-use Rattle.state.specs.Syntax.{Pack, Node, fluents}
-use Rattle.state.specs.State.{meaning}
-use Rattle.reading.specs.Reading.{gives, pick}
-use Rattle.state.specs.Layout.{chartBytes}
+use Rattle.pack.specs.Syntax.{Pack, Node, fluents}
+use Rattle.pack.specs.State.{meaning}
+use Rattle.pack.specs.Reading.{gives, pick}
+use Rattle.pack.specs.Layout.{chartBytes}
 use Rattle.chart.specs.Answers.{startTable, compareTable}
 use Rattle.chart.specs.Call.{chartRoom, chainRoom, listRoom, workRoom, fits, call}
 use Rattle.chart.specs.Replies.{firstOf, secondOf, allBelow, startReply, queryReply, compareReply}

@@ -9,9 +9,9 @@ use lib.ListN.{length, getD, length-append}
 use lib.Seq.{getD-append-add, getD-append-seam}
 use lib.Dec.{ltb}
 use borrow.Author.Tests.{ltb-true, ltb-false, lt-ltb, le-ltb, lt-leb, ne-eqb, eq-eqb}
-use Rattle.reading.specs.Reading.{done, Reader, pick, bind, mapped, runs, many, gives, whole, ended}
-use Rattle.reading.specs.Number.{numberAt, between, item, counted}
-use Rattle.state.specs.Layout.{numberBytes, listBytes, countedBytes, Each, Some}
+use Rattle.pack.specs.Reading.{done, Reader, pick, bind, mapped, runs, many, gives, whole, ended}
+use Rattle.pack.specs.Number.{numberAt, between, item, counted}
+use Rattle.pack.specs.Layout.{numberBytes, listBytes, countedBytes, Each, Some}
 
 -- wherever these bytes stand, the value is read and the place after them
 pub record Accepts {A : Type 0} (p : Reader A) (bytes : List ℕ) (a : A) : Type 0 where

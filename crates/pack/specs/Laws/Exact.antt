@@ -10,10 +10,10 @@ use lib.Seq.{ext-getD}
 use lib.Arith.{digits-div, digits-mod}
 use lib.Dec.{ltb, leb, eqb}
 use borrow.Author.Tests.{ltb-true, ltb-false, leb-false, eqb-false, lt-ltb, le-ltb}
-use Rattle.reading.specs.Reading.{done, refused, Reader, pick, bind, mapped, runs, many, gives, whole}
-use Rattle.reading.specs.Number.{numberAt, between, item, counted}
-use Rattle.state.specs.Layout.{numberBytes, listBytes, countedBytes, Each, Some}
-use Rattle.reading.specs.Laws.Reading.{never, same-value, same-place, both, unmapped, passed, failed, ended-gives}
+use Rattle.pack.specs.Reading.{done, refused, Reader, pick, bind, mapped, runs, many, gives, whole}
+use Rattle.pack.specs.Number.{numberAt, between, item, counted}
+use Rattle.pack.specs.Layout.{numberBytes, listBytes, countedBytes, Each, Some}
+use Rattle.pack.specs.Laws.Reading.{never, same-value, same-place, both, unmapped, passed, failed, ended-gives}
 
 -- these bytes stand in s from a place on
 unfoldable pub Stands : List ℕ → ℕ → List ℕ → Type 0

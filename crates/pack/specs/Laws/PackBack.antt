@@ -7,13 +7,13 @@ use native.Mathlib.Numerals.{add-one}
 use native.Mathlib.Omega.{arith}
 use lib.ListN.{length, getD, replicate, length-replicate}
 use borrow.Author.Tests.{le-ltb, le-leb, ne-eqb}
-use Rattle.state.specs.Syntax.{Kind, is, isNot, atLeast, Test, Condition, Effect, Action, Trigger, Rule, Theory, Node, Pack}
-use Rattle.reading.specs.Reading.{runs, gives, whole}
-use Rattle.reading.specs.Number.{beliefAt, risingAt}
-use Rattle.state.specs.Grammar.{Dimensions, headAt, fluentAt, valueAt, nodeAt, nodesAt, kindOf, testAt, conditionAt, effectAt, effectsAt, consentersAt, actionAt, triggerAt, ruleAt, rulesAt, theoryAt, packAt, packOf, chartOf, dimensions, inChart}
-use Rattle.state.specs.Laws.Fits.{valued-length, sizes-small, widest, widest-small, fits-widest}
-use Rattle.reading.specs.Laws.Reading.{same-gift}
-use Rattle.state.specs.Layout.{numberBytes, listBytes, countedBytes, kindNumber, testBytes, conditionBytes, effectBytes, actionBytes, triggerBytes, ruleBytes, nodeBytes, chartBytes, headBytes, theoryBytes, packBytes, Each, Some, Rising, Valued, TestFits, ConditionFits, EffectFits, ActionFits, TriggerFits, RuleFits, NodeFits, ChartFits, PackFits}
+use Rattle.pack.specs.Syntax.{Kind, is, isNot, atLeast, Test, Condition, Effect, Action, Trigger, Rule, Theory, Node, Pack}
+use Rattle.pack.specs.Reading.{runs, gives, whole}
+use Rattle.pack.specs.Number.{beliefAt, risingAt}
+use Rattle.pack.specs.Grammar.{Dimensions, headAt, fluentAt, valueAt, nodeAt, nodesAt, kindOf, testAt, conditionAt, effectAt, effectsAt, consentersAt, actionAt, triggerAt, ruleAt, rulesAt, theoryAt, packAt, packOf, chartOf, dimensions, inChart}
+use Rattle.pack.specs.Laws.Fits.{valued-length, sizes-small, widest, widest-small, fits-widest}
+use Rattle.pack.specs.Laws.Reading.{same-gift}
+use Rattle.pack.specs.Layout.{numberBytes, listBytes, countedBytes, kindNumber, testBytes, conditionBytes, effectBytes, actionBytes, triggerBytes, ruleBytes, nodeBytes, chartBytes, headBytes, theoryBytes, packBytes, Each, Some, Rising, Valued, TestFits, ConditionFits, EffectFits, ActionFits, TriggerFits, RuleFits, NodeFits, ChartFits, PackFits}
 use Rattle.pack.specs.Laws.Accepts.{Accepts, number-accepts, then-accepts, mapped-accepts, between-accepts, item-accepts, Run, runs-accepts, many-accepts, many-of, counted-accepts, whole-accepts}
 
 module _ (d : Dimensions) (few : d .characters ≤ 6) (slim : length (d .domains) ≤ 24) (small : (f : ℕ) → getD (d .domains) f 0 ≤ 128) where

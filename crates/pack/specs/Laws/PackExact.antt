@@ -10,14 +10,14 @@ use native.Mathlib.Omega.{arith}
 use lib.ListN.{length, getD}
 use lib.Dec.{ltb, leb, eqb}
 use borrow.Author.Tests.{ltb-false, leb-true, eqb-false}
-use Rattle.state.specs.Syntax.{Theory, Node, Pack}
-use Rattle.reading.specs.Reading.{done, refused, pick, runs, Reply, gives, refuses, whole}
-use Rattle.reading.specs.Number.{numberAt, item, beliefAt, risingAt}
-use Rattle.state.specs.Grammar.{Dimensions, headAt, valueAt, nodeAt, nodesAt, kindOf, testAt, conditionAt, effectAt, effectsAt, consentersAt, actionAt, triggerAt, ruleAt, rulesAt, theoryAt, packAt, packOf, chartOf, dimensions, inChart}
-use Rattle.state.specs.Layout.{numberBytes, listBytes, countedBytes, kindNumber, testBytes, conditionBytes, effectBytes, actionBytes, triggerBytes, ruleBytes, nodeBytes, chartBytes, headBytes, theoryBytes, packBytes, Each, Some, Rising, Valued, TestFits, ConditionFits, EffectFits, ActionFits, TriggerFits, RuleFits, NodeFits, ChartFits, PackFits}
+use Rattle.pack.specs.Syntax.{Theory, Node, Pack}
+use Rattle.pack.specs.Reading.{done, refused, pick, runs, Reply, gives, refuses, whole}
+use Rattle.pack.specs.Number.{numberAt, item, beliefAt, risingAt}
+use Rattle.pack.specs.Grammar.{Dimensions, headAt, valueAt, nodeAt, nodesAt, kindOf, testAt, conditionAt, effectAt, effectsAt, consentersAt, actionAt, triggerAt, ruleAt, rulesAt, theoryAt, packAt, packOf, chartOf, dimensions, inChart}
+use Rattle.pack.specs.Layout.{numberBytes, listBytes, countedBytes, kindNumber, testBytes, conditionBytes, effectBytes, actionBytes, triggerBytes, ruleBytes, nodeBytes, chartBytes, headBytes, theoryBytes, packBytes, Each, Some, Rising, Valued, TestFits, ConditionFits, EffectFits, ActionFits, TriggerFits, RuleFits, NodeFits, ChartFits, PackFits}
 use Rattle.pack.specs.Laws.PackBack.{pack-back, chart-back}
-use Rattle.state.specs.Laws.Fits.{sizes-small}
-use Rattle.reading.specs.Laws.Reading.{never-gives, same-value, same-place, both, passed, failed}
+use Rattle.pack.specs.Laws.Fits.{sizes-small}
+use Rattle.pack.specs.Laws.Reading.{never-gives, same-value, same-place, both, passed, failed}
 use Rattle.pack.specs.Laws.Exact.{Stands, Bytes, Exact, number-exact, exact-weak, then-exact, mapped-exact, between-exact, item-exact, Chained, runs-exact, many-exact, counted-exact, whole-exact}
 
 -- The parts of a pack

@@ -3,25 +3,25 @@ use Prim.Native.Nat.{ℕ, _+_, _*_, _-_, _<_, _≤_}
 use mathlib.Core.Path.{_≡_}
 use mathlib.Core.List.{List}
 use lib.ListN.{length, getD}
-use Rattle.state.specs.Syntax.{Node, Theory}
-use Rattle.state.specs.State.{State, meaning}
-use Rattle.reading.specs.Reading.{told}
-use Rattle.state.specs.Table.{tableOf, stateOf, Below, Above}
+use Rattle.pack.specs.Syntax.{Node, Theory}
+use Rattle.pack.specs.State.{State, meaning}
+use Rattle.pack.specs.Reading.{told}
+use Rattle.pack.specs.Table.{tableOf, stateOf, Below, Above}
 use Rattle.chart.specs.Call.{listRoom, workRoom, cleared, resultAfter}
-use Rattle.partition.specs.Chart.{Starts}
+use Rattle.chart.specs.Chart.{Starts}
 use Rattle.chart.specs.Earliest.{Before}
 use Rattle.chart.specs.Inner.Look.{NodesFrom}
 use Rattle.transition.specs.Inner.Play.{Theorized}
 use Rattle.planner.specs.declared.Found.{Found}
-use Rattle.explanation.specs.declared.memory.Shape.{Shape}
+use Rattle.planner.specs.declared.memory.Shape.{Shape}
 use Rattle.planner.specs.declared.search.Ended.{Ended}
 use Rattle.planner.specs.Search.{Answer, Searched}
 use Rattle.planner.specs.Replies.{answerReply}
 use Rattle.planner.specs.Promises.{searchSaid, summary}
-use Rattle.explanation.specs.Inner.Lists.{slotTable, Ends}
-use Rattle.explanation.specs.Inner.Memory.{memoryAt, tablesAt, Memory}
-use Rattle.explanation.specs.Inner.Explain.{Stage}
-use Rattle.explanation.specs.Ending.{authorUtility}
+use Rattle.planner.specs.Inner.Lists.{slotTable, Ends}
+use Rattle.planner.specs.Inner.Memory.{memoryAt, tablesAt, Memory}
+use Rattle.planner.specs.Inner.Explain.{Stage}
+use Rattle.planner.specs.Ending.{authorUtility}
 
 -- a list put down from `done` on
 pub record Put (was now : List ℕ) (done : ℕ) (list : List ℕ) : Type 0 where

@@ -4,13 +4,13 @@ use mathlib.Core.Path.{_≡_, refl, sym, subst}
 use mathlib.Core.Bool.{Bool, true, false, true≢false}
 use mathlib.Core.Logic.{_↔_}
 use mathlib.Core.List.{List}
-use Rattle.state.specs.State.{State, meaning}
-use Rattle.state.specs.Syntax.{Theory, Node}
+use Rattle.pack.specs.State.{State, meaning}
+use Rattle.pack.specs.Syntax.{Theory, Node}
 use Rattle.chart.specs.Laws.Tables.{on-table, IsTable}
 use Rattle.planner.specs.Answers.{says, explainedTable, searchTable}
-use Rattle.explanation.specs.Ending.{Explained}
+use Rattle.planner.specs.Ending.{Explained}
 use Rattle.planner.specs.Search.{Answer, Searched, none}
-use Rattle.explanation.specs.Laws.Explaining.{explained?}
+use Rattle.planner.specs.Laws.Explaining.{explained?}
 use Rattle.planner.specs.Laws.Searching.{searchOf, searched, searched-one}
 
 pub says-iff : {A : Type 0} (d : Dec A) → (says d ≡ true) ↔ A

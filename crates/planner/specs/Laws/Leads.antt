@@ -4,11 +4,11 @@ use mathlib.Core.Path.{_≡_, refl, sym, _∙_, ap, subst}
 use mathlib.Core.List.{List, [], _∷_, _++_}
 use lib.ListN.{length, length-append}
 use native.Mathlib.Omega.{arith}
-use Rattle.state.specs.State.{State, Valid}
-use Rattle.state.specs.Syntax.{Theory}
+use Rattle.pack.specs.State.{State, Valid}
+use Rattle.pack.specs.Syntax.{Theory}
 use Rattle.chart.specs.Laws.Earliest.{earliest-one}
 use Rattle.transition.specs.Laws.Settled.{plays-one}
-use Rattle.explanation.specs.Ending.{Leads, Ending, Explained, authorUtility}
+use Rattle.planner.specs.Ending.{Leads, Ending, Explained, authorUtility}
 use Rattle.planner.specs.Search.{Sought}
 
 module _ (p : Theory) (asked : ℕ → Type 0) (content : ℕ → ℕ → State → Type 0) where

@@ -4,17 +4,17 @@ use mathlib.Core.Path.{_≡_, refl, sym, ap, subst}
 use mathlib.Core.List.{List, [], _∷_}
 use mathlib.Core.Logic.{_↔_}
 use native.Mathlib.Omega.{arith}
-use Rattle.state.specs.State.{State, meaning}
-use Rattle.state.specs.Syntax.{Theory, Node}
+use Rattle.pack.specs.State.{State, meaning}
+use Rattle.pack.specs.Syntax.{Theory, Node}
 use Rattle.chart.specs.Answers.{startTable}
-use Rattle.partition.specs.Chart.{Written}
+use Rattle.chart.specs.Chart.{Written}
 use Rattle.chart.specs.Laws.Answers.{start-table-iff, written-table}
 use Rattle.chart.specs.Laws.Tables.{IsTable}
 use Rattle.transition.specs.Answers.{stepTable}
 use Rattle.transition.specs.Step.{Outcome, leaves, refused, Steps}
 use Rattle.transition.specs.Laws.Settled.{plays-one, plays-refuses}
 use Rattle.transition.specs.Laws.Step.{step-table-iff, step-leaves, leaves-only, IsLeaves}
-use Rattle.explanation.specs.Ending.{Leads}
+use Rattle.planner.specs.Ending.{Leads}
 
 then : Outcome → (List Node → Outcome) → Outcome
 then (leaves t) f = f t

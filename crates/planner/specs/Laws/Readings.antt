@@ -6,18 +6,18 @@ use mathlib.Core.Logic.{⊎-elim, _≢_}
 use mathlib.Core.List.{List, [], _∷_, List·Memᴰ, List·Memᴰ·head, List·Memᴰ·eq-of-singleton}
 use lib.ListN.{getD, length}
 use native.Mathlib.Omega.{arith}
-use Rattle.state.specs.Condition.{holds, allPass, passes, compares, utility, write}
-use Rattle.state.specs.State.{State, belief, Valid, node, meaning, target}
-use Rattle.state.specs.Syntax.{is, Condition, Action, Theory, Node}
-use Rattle.state.specs.Laws.Table.{means, belief-out}
-use Rattle.partition.specs.Chart.{Written, met, meets, Fresh}
+use Rattle.pack.specs.Condition.{holds, allPass, passes, compares, utility, write}
+use Rattle.pack.specs.State.{State, belief, Valid, node, meaning, target}
+use Rattle.pack.specs.Syntax.{is, Condition, Action, Theory, Node}
+use Rattle.pack.specs.Laws.Table.{means, belief-out}
+use Rattle.chart.specs.Chart.{Written, met, meets, Fresh}
 use Rattle.chart.specs.Compare.{Differ}
 use Rattle.chart.specs.Earliest.{Before}
-use Rattle.partition.specs.Laws.Counted.{at-most}
-use Rattle.partition.specs.Laws.Unique.{ordered-reached}
-use Rattle.change.specs.Happening.{Quiet, Settles, Plays, act, atRoot, firing, actionOf, change, observes}
-use Rattle.change.specs.Laws.Changed.{Member, changed, all-told}
-use Rattle.explanation.specs.Ending.{Explained, Ending, Leads}
+use Rattle.chart.specs.Laws.Counted.{at-most}
+use Rattle.chart.specs.Laws.Unique.{ordered-reached}
+use Rattle.transition.specs.Happening.{Quiet, Settles, Plays, act, atRoot, firing, actionOf, change, observes}
+use Rattle.transition.specs.Laws.Changed.{Member, changed, all-told}
+use Rattle.planner.specs.Ending.{Explained, Ending, Leads}
 use Rattle.planner.specs.Search.{Sought}
 
 -- fluent 0 of the state itself is v

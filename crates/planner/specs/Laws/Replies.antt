@@ -7,15 +7,15 @@ use mathlib.Core.List.{List, []}
 use lib.ListN.{length, getD}
 use lib.Dec.{ltb, leb}
 use borrow.Author.Tests.{lt-ltb, le-leb}
-use Rattle.state.specs.Syntax.{Node, Pack}
-use Rattle.state.specs.State.{State, meaning}
-use Rattle.reading.specs.Reading.{gives}
-use Rattle.reading.specs.Laws.Reading.{same-gift, never-gives}
+use Rattle.pack.specs.Syntax.{Node, Pack}
+use Rattle.pack.specs.State.{State, meaning}
+use Rattle.pack.specs.Reading.{gives}
+use Rattle.pack.specs.Laws.Reading.{same-gift, never-gives}
 use Rattle.chart.specs.Call.{listRoom, workRoom, fits}
 use Rattle.chart.specs.Laws.Answers.{fits-table}
 use Rattle.chart.specs.Laws.Tables.{IsTable}
 use Rattle.chart.specs.Laws.Replies.{Given, Chart, given-fits, chart-fits, both-true, long-enough, call-none, call-one}
-use Rattle.explanation.specs.Ending.{Explained}
+use Rattle.planner.specs.Ending.{Explained}
 use Rattle.planner.specs.Search.{Answer, ending, none, Searched}
 use Rattle.planner.specs.Answers.{explainedTable, searchTable}
 use Rattle.planner.specs.Replies.{storyLimit, foresightLimit, nestingLimit, explainedReply, Plan, answerReply, searchReply}

@@ -5,14 +5,14 @@ use mathlib.Core.Logic.{_⊎_, ⊎-elim, _↔_}
 use mathlib.Core.List.{List}
 use lib.ListN.{length}
 use native.Mathlib.Decide.{decLe, decLt}
-use Rattle.state.specs.State.{State}
-use Rattle.state.specs.Syntax.{Theory}
+use Rattle.pack.specs.State.{State}
+use Rattle.pack.specs.Syntax.{Theory}
 use Rattle.chart.specs.Earliest.{Earliest}
 use Rattle.chart.specs.Laws.Seek.{seek}
 use Rattle.chart.specs.Laws.Tabled.{Tabled}
-use Rattle.explanation.specs.Ending.{Explained, Ending, authorUtility}
+use Rattle.planner.specs.Ending.{Explained, Ending, authorUtility}
 use Rattle.planner.specs.Search.{Answer, ending, none, Searched}
-use Rattle.explanation.specs.Laws.Explaining.{Led, along?, explained?}
+use Rattle.planner.specs.Laws.Explaining.{Led, along?, explained?}
 use Rattle.planner.specs.Laws.Leads.{sought-one, leads-low}
 
 module _ (p : Theory) (K T E : ℕ) where

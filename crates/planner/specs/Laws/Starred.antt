@@ -6,21 +6,21 @@ use mathlib.Core.List.{List, [], _∷_}
 use native.Mathlib.Omega.{arith}
 use lib.Dec.{ltb}
 use borrow.Author.Tests.{ltb-true}
-use Rattle.state.specs.Syntax.{Node, Pack}
-use Rattle.reading.specs.Reading.{gives, refuses, runs}
-use Rattle.reading.specs.Number.{numberAt, between, beliefAt, risingAt}
-use Rattle.state.specs.Grammar.{packOf, chartOf, packAt, headAt, nodesAt, nodeAt, theoryAt, actionAt, triggerAt, rulesAt, ruleAt, conditionAt, testAt, effectsAt, effectAt, consentersAt}
-use Rattle.state.specs.Condition.{compares, passes, allPass, holds, utility}
-use Rattle.state.specs.State.{meaning}
-use Rattle.state.specs.Layout.{numberBytes, listBytes, Each}
+use Rattle.pack.specs.Syntax.{Node, Pack}
+use Rattle.pack.specs.Reading.{gives, refuses, runs}
+use Rattle.pack.specs.Number.{numberAt, between, beliefAt, risingAt}
+use Rattle.pack.specs.Grammar.{packOf, chartOf, packAt, headAt, nodesAt, nodeAt, theoryAt, actionAt, triggerAt, rulesAt, ruleAt, conditionAt, testAt, effectsAt, effectAt, consentersAt}
+use Rattle.pack.specs.Condition.{compares, passes, allPass, holds, utility}
+use Rattle.pack.specs.State.{meaning}
+use Rattle.pack.specs.Layout.{numberBytes, listBytes, Each}
 use Rattle.pack.specs.Laws.Exact.{Bytes}
 use Rattle.chart.specs.Compare.{same, differ}
 use Rattle.chart.specs.Replies.{allBelow}
 use Rattle.chart.specs.Laws.Replies.{Given, Chart, start-says, compare-says}
-use Rattle.change.specs.Happening.{Refuses}
+use Rattle.transition.specs.Happening.{Refuses}
 use Rattle.transition.specs.Step.{leaves, refused, Steps}
 use Rattle.transition.specs.Laws.Replies.{step-says}
-use Rattle.explanation.specs.Ending.{Explained}
+use Rattle.planner.specs.Ending.{Explained}
 use Rattle.planner.specs.Search.{ending, none}
 use Rattle.planner.specs.Readings as row
 use Rattle.planner.specs.Readings.{starred, Says}

@@ -5,13 +5,13 @@ use mathlib.Core.Option.{Option, none, some}
 use mathlib.Core.List.{List}
 use Prim.Native.Nat.{ℕ, _+_, _*_, _<_, _≤_}
 use lib.ListN.{length, getD}
-use Rattle.state.specs.Syntax.{Trigger, Node}
-use Rattle.state.specs.State.{State, meaning}
-use Rattle.state.specs.Grammar.{Dimensions}
+use Rattle.pack.specs.Syntax.{Trigger, Node}
+use Rattle.pack.specs.State.{State, meaning}
+use Rattle.pack.specs.Grammar.{Dimensions}
 use Rattle.pack.specs.Contents.{TriggerStands}
-use Rattle.state.specs.declared.table.Table.{Table}
-use Rattle.change.specs.Happening.{firing, effectsOf}
-use Rattle.change.specs.Inner.Cause.{EffectsAt, Tabled}
+use Rattle.pack.specs.declared.table.Table.{Table}
+use Rattle.transition.specs.Happening.{firing, effectsOf}
+use Rattle.transition.specs.Inner.Cause.{EffectsAt, Tabled}
 
 -- the triggers of a pack, at the places marked for them
 pub record Triggered (d : Dimensions) (pack places : List ℕ) (ts : List Trigger) (count : ℕ) : Type 0 where

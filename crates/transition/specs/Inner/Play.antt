@@ -5,16 +5,16 @@ use mathlib.Core.Logic.{_⊎_, _≢_}
 use mathlib.Core.List.{List}
 use Prim.Native.Nat.{ℕ, suc, _+_, _<_, _≤_}
 use lib.ListN.{length, getD}
-use Rattle.state.specs.Syntax.{Effect, Node, Theory}
-use Rattle.state.specs.State.{State}
+use Rattle.pack.specs.Syntax.{Effect, Node, Theory}
+use Rattle.pack.specs.State.{State}
 use Rattle.pack.specs.Answer.{dims}
-use Rattle.state.specs.Judge.{Small}
+use Rattle.pack.specs.Judge.{Small}
 use Rattle.pack.specs.Contents.{TheoryFound}
-use Rattle.state.specs.Table.{rowsAt}
-use Rattle.state.specs.declared.table.Table.{Table}
-use Rattle.partition.specs.Chart.{Written, Starts}
-use Rattle.change.specs.Happening.{Settles, Stops, Plays, Refuses}
-use Rattle.change.specs.Inner.Cause.{told, Tabled}
+use Rattle.pack.specs.Table.{rowsAt}
+use Rattle.pack.specs.declared.table.Table.{Table}
+use Rattle.chart.specs.Chart.{Written, Starts}
+use Rattle.transition.specs.Happening.{Settles, Stops, Plays, Refuses}
+use Rattle.transition.specs.Inner.Cause.{told, Tabled}
 use Rattle.transition.specs.Inner.Stage.{StageRoom, SlotOnly, InSlot}
 
 -- a theory, found in a pack

@@ -5,15 +5,15 @@ use mathlib.Core.Logic.{_⊎_}
 use mathlib.Core.List.{List}
 use Prim.Native.Nat.{ℕ, suc, _+_, _*_, _<_, _≤_}
 use lib.ListN.{length, getD}
-use Rattle.state.specs.Syntax.{Effect}
-use Rattle.state.specs.Condition.{write}
-use Rattle.state.specs.Table.{cells, tableOf}
-use Rattle.state.specs.declared.table.Table.{Table}
+use Rattle.pack.specs.Syntax.{Effect}
+use Rattle.pack.specs.Condition.{write}
+use Rattle.pack.specs.Table.{cells, tableOf}
+use Rattle.pack.specs.declared.table.Table.{Table}
 use Rattle.chart.specs.Call.{workRoom}
-use Rattle.partition.specs.Chart.{Ordered}
-use Rattle.change.specs.declared.change.Change.{Change}
-use Rattle.change.specs.Inner.Cause.{told, EffectsAt, Tabled}
-use Rattle.change.specs.Inner.Change.{Scene, at}
+use Rattle.chart.specs.Chart.{Ordered}
+use Rattle.transition.specs.declared.change.Change.{Change}
+use Rattle.transition.specs.Inner.Cause.{told, EffectsAt, Tabled}
+use Rattle.transition.specs.Inner.Change.{Scene, at}
 
 -- effects that are meant for nobody's beliefs
 abbrev pub Silent : List Effect → Type 0

@@ -3,14 +3,14 @@ use mathlib.Core.Path.{_≡_}
 use mathlib.Core.List.{List}
 use Prim.Native.Nat.{ℕ, _+_, _*_, _<_, _≤_}
 use lib.ListN.{length, getD}
-use Rattle.state.specs.Table.{rowsAt, Below, Above, Between}
-use Rattle.state.specs.declared.table.Table.{Table}
+use Rattle.pack.specs.Table.{rowsAt, Below, Above, Between}
+use Rattle.pack.specs.declared.table.Table.{Table}
 use Rattle.chart.specs.Call.{workRoom}
-use Rattle.partition.specs.Chart.{Starts}
-use Rattle.partition.specs.States.{AtMost}
-use Rattle.state.specs.State.{State}
-use Rattle.change.specs.Happening.{change}
-use Rattle.change.specs.Inner.Change.{Scene, at}
+use Rattle.chart.specs.Chart.{Starts}
+use Rattle.chart.specs.States.{AtMost}
+use Rattle.pack.specs.State.{State}
+use Rattle.transition.specs.Happening.{change}
+use Rattle.transition.specs.Inner.Change.{Scene, at}
 
 -- a table and a slot lie below the scratch
 pub record StageRoom (work : List ℕ) (t : Table) (slot : ℕ) : Type 0 where

@@ -6,15 +6,15 @@ use mathlib.Core.Logic.{_⊎_, inl, inr, ⊎-elim, by-cases, _↔_}
 use mathlib.Core.Option.{Option}
 use lib.ListN.{length}
 use native.Mathlib.Decide.{decLt, map-dec}
-use Rattle.state.specs.Condition.{holds}
-use Rattle.state.specs.State.{State, meaning}
-use Rattle.state.specs.Syntax.{Theory, Trigger}
-use Rattle.partition.specs.States.{AtMost}
+use Rattle.pack.specs.Condition.{holds}
+use Rattle.pack.specs.State.{State, meaning}
+use Rattle.pack.specs.Syntax.{Theory, Trigger}
+use Rattle.chart.specs.States.{AtMost}
 use Rattle.chart.specs.Laws.Charted.{Charting, chart, few?}
-use Rattle.partition.specs.Laws.Count.{every}
+use Rattle.chart.specs.Laws.Count.{every}
 use Rattle.chart.specs.Laws.Tabled.{Tabled}
-use Rattle.partition.specs.Laws.Unique.{ordered-reached, some}
-use Rattle.change.specs.Happening.{Quiet, Settles, Plays, firing, actionOf, Stops, Refuses}
+use Rattle.chart.specs.Laws.Unique.{ordered-reached, some}
+use Rattle.transition.specs.Happening.{Quiet, Settles, Plays, firing, actionOf, Stops, Refuses}
 use Rattle.transition.specs.Laws.Quiet.{quiet}
 use Rattle.transition.specs.Laws.Settled.{plays-refuses}
 use Rattle.transition.specs.Laws.Tabled.{tabled-act, tabled-round}

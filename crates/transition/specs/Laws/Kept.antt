@@ -5,13 +5,13 @@ use mathlib.Core.Option.{some}
 use mathlib.Core.List.{List, [], _∷_}
 use lib.ListN.{set}
 use lib.Dec.{eqb}
-use Rattle.state.specs.Syntax.{Theory, Effect, Trigger, Pack}
-use Rattle.state.specs.State.{State, belief, Valid}
-use Rattle.state.specs.Condition.{holds, write}
-use Rattle.state.specs.Layout.{Each, Valued, EffectFits, ActionFits, TriggerFits, PackFits}
-use Rattle.state.specs.Laws.Fits.{each-at, each-weak, valued-set}
-use Rattle.partition.specs.States.{Everywhere}
-use Rattle.change.specs.Happening.{atRoot, change, observes, act, firing, effectsOf, fires, round, Settles, nothing, actionOf, Plays}
+use Rattle.pack.specs.Syntax.{Theory, Effect, Trigger, Pack}
+use Rattle.pack.specs.State.{State, belief, Valid}
+use Rattle.pack.specs.Condition.{holds, write}
+use Rattle.pack.specs.Layout.{Each, Valued, EffectFits, ActionFits, TriggerFits, PackFits}
+use Rattle.pack.specs.Laws.Fits.{each-at, each-weak, valued-set}
+use Rattle.chart.specs.States.{Everywhere}
+use Rattle.transition.specs.Happening.{atRoot, change, observes, act, firing, effectsOf, fires, round, Settles, nothing, actionOf, Plays}
 
 -- writing these effects keeps P, for whomever they are meant
 abbrev pub Keeps : (List ℕ → Type 0) → List Effect → Type 0

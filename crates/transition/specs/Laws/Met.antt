@@ -7,13 +7,13 @@ use mathlib.Core.Option.{Option, none, some}
 use mathlib.Core.List.{List, [], _∷_, _++_, append-nil, List·Memᴰ·head}
 use native.Mathlib.Omega.{arith}
 use lib.ListN.{length, getD}
-use Rattle.state.specs.Syntax.{Condition, Effect, Action, Trigger, Theory}
-use Rattle.state.specs.State.{State, belief, after, Valid}
-use Rattle.state.specs.Condition.{holds, allPass, write}
-use Rattle.partition.specs.States.{AtMost}
-use Rattle.partition.specs.Laws.Count.{count, all, count-all, count-inj}
-use Rattle.partition.specs.Laws.Lists.{place}
-use Rattle.change.specs.Happening.{atRoot, change, observes, act, firing, fires, round, Quiet, Settles, Stops, actionOf, Plays, Refuses}
+use Rattle.pack.specs.Syntax.{Condition, Effect, Action, Trigger, Theory}
+use Rattle.pack.specs.State.{State, belief, after, Valid}
+use Rattle.pack.specs.Condition.{holds, allPass, write}
+use Rattle.chart.specs.States.{AtMost}
+use Rattle.chart.specs.Laws.Count.{count, all, count-all, count-inj}
+use Rattle.chart.specs.Laws.Lists.{place}
+use Rattle.transition.specs.Happening.{atRoot, change, observes, act, firing, fires, round, Quiet, Settles, Stops, actionOf, Plays, Refuses}
 
 -- an alternative without tests
 abbrev always : Condition

@@ -8,15 +8,15 @@ use mathlib.Core.List.{List, []}
 use lib.ListN.{length, getD}
 use lib.Dec.{ltb}
 use borrow.Author.Tests.{lt-ltb}
-use Rattle.state.specs.Syntax.{Node, Pack}
-use Rattle.state.specs.State.{State, meaning}
-use Rattle.reading.specs.Reading.{gives, refuses}
-use Rattle.state.specs.Layout.{chartBytes}
-use Rattle.partition.specs.Chart.{ChartOf}
+use Rattle.pack.specs.Syntax.{Node, Pack}
+use Rattle.pack.specs.State.{State, meaning}
+use Rattle.pack.specs.Reading.{gives, refuses}
+use Rattle.pack.specs.Layout.{chartBytes}
+use Rattle.chart.specs.Chart.{ChartOf}
 use Rattle.chart.specs.Call.{chartRoom, workRoom, fits}
 use Rattle.chart.specs.Laws.Answers.{fits-table}
 use Rattle.chart.specs.Laws.Replies.{Given, Chart, given-fits, chart-fits, both-true, long-enough, call-one}
-use Rattle.change.specs.Happening.{Plays, Refuses}
+use Rattle.transition.specs.Happening.{Plays, Refuses}
 use Rattle.transition.specs.Step.{Outcome, Steps}
 use Rattle.transition.specs.Answers.{stepTable}
 use Rattle.transition.specs.Replies.{outcomeReply, stepReply}

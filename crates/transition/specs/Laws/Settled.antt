@@ -2,10 +2,10 @@
 use Prim.Native.Nat.{ℕ, suc}
 use mathlib.Core.Path.{_≡_, refl, sym, _∙_}
 use mathlib.Core.Bool.{true≢false}
-use Rattle.state.specs.State.{State}
-use Rattle.state.specs.Syntax.{Theory}
-use Rattle.partition.specs.States.{AtMost}
-use Rattle.change.specs.Happening.{Quiet, Settles, round, Plays, Stops, Refuses}
+use Rattle.pack.specs.State.{State}
+use Rattle.pack.specs.Syntax.{Theory}
+use Rattle.chart.specs.States.{AtMost}
+use Rattle.transition.specs.Happening.{Quiet, Settles, round, Plays, Stops, Refuses}
 
 module _ {p : Theory} where
   pub settles-one : {k : ℕ} {s t u : State} → Settles p k s t → Settles p k s u → t ≡ u

@@ -4,16 +4,16 @@ use mathlib.Core.Path.{_≡_, refl, sym, subst}
 use mathlib.Core.Logic.{_↔_}
 use mathlib.Core.List.{List}
 use lib.ListN.{length}
-use Rattle.state.specs.State.{State, meaning}
-use Rattle.state.specs.Syntax.{Theory, Node, Pack}
-use Rattle.partition.specs.Chart.{Written}
-use Rattle.state.specs.Layout.{PackFits, ChartFits}
+use Rattle.pack.specs.State.{State, meaning}
+use Rattle.pack.specs.Syntax.{Theory, Node, Pack}
+use Rattle.chart.specs.Chart.{Written}
+use Rattle.pack.specs.Layout.{PackFits, ChartFits}
 use Rattle.chart.specs.Laws.Answers.{written-fits, fits-table, fits-everywhere}
-use Rattle.partition.specs.Laws.Counted.{counted}
+use Rattle.chart.specs.Laws.Counted.{counted}
 use Rattle.chart.specs.Laws.Tables.{IsTable, on-table}
-use Rattle.partition.specs.Laws.Unique.{ordered-reached, some}
+use Rattle.chart.specs.Laws.Unique.{ordered-reached, some}
 use Rattle.transition.specs.Answers.{stepTable}
-use Rattle.change.specs.Happening.{Plays}
+use Rattle.transition.specs.Happening.{Plays}
 use Rattle.transition.specs.Step.{Outcome, leaves, refused, Steps}
 use Rattle.transition.specs.Laws.Settled.{settles-few}
 use Rattle.transition.specs.Laws.Stepping.{stepOf, steps, steps-one}

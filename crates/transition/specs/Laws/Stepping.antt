@@ -5,12 +5,12 @@ use mathlib.Core.Logic.{⊎-elim, by-cases, _↔_}
 use lib.ListN.{length}
 use native.Mathlib.Decide.{decLt}
 use native.Mathlib.Omega.{arith}
-use Rattle.state.specs.State.{State}
-use Rattle.state.specs.Syntax.{Theory}
+use Rattle.pack.specs.State.{State}
+use Rattle.pack.specs.Syntax.{Theory}
 use Rattle.chart.specs.Laws.Charted.{chart}
 use Rattle.chart.specs.Laws.Tabled.{Tabled}
-use Rattle.partition.specs.Laws.Unique.{unique}
-use Rattle.change.specs.Happening.{Plays}
+use Rattle.chart.specs.Laws.Unique.{unique}
+use Rattle.transition.specs.Happening.{Plays}
 use Rattle.transition.specs.Step.{Steps, Outcome, leaves, refused}
 use Rattle.transition.specs.Laws.Decided.{step}
 use Rattle.transition.specs.Laws.Settled.{plays-one, plays-refuses, refuses-one}

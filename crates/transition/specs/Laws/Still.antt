@@ -9,10 +9,10 @@ use lib.ListN.{getD, set}
 use lib.Seq.{getD-set-other}
 use lib.Dec.{eqb, ltb}
 use borrow.Author.Tests.{eqb-false, ltb-false}
-use Rattle.state.specs.Syntax.{Effect, Trigger, Test, Condition, Rule, Theory}
-use Rattle.state.specs.State.{State}
-use Rattle.state.specs.Condition.{compares, passes, allPass, holds, utility, write}
-use Rattle.change.specs.Happening.{change, act, firing, effectsOf, fires, round, Settles, actionOf, Plays}
+use Rattle.pack.specs.Syntax.{Effect, Trigger, Test, Condition, Rule, Theory}
+use Rattle.pack.specs.State.{State}
+use Rattle.pack.specs.Condition.{compares, passes, allPass, holds, utility, write}
+use Rattle.transition.specs.Happening.{change, act, firing, effectsOf, fires, round, Settles, actionOf, Plays}
 
 -- some effect is meant for the state itself and writes f
 unfoldable pub writes : List Effect → ℕ → Bool

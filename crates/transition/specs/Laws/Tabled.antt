@@ -7,13 +7,13 @@ use mathlib.Core.List.{List, [], _∷_, _++_, map, List·Memᴰ, List·Memᴰ·h
 use lib.ListN.{length}
 use native.Mathlib.Nat.{eq-or-lt-of-le, le-of-suc-le-suc}
 use native.Mathlib.Omega.{arith}
-use Rattle.state.specs.State.{State, meaning, target, Closed}
-use Rattle.state.specs.Syntax.{Action, Trigger, Effect, Node}
-use Rattle.state.specs.Laws.Table.{means}
-use Rattle.partition.specs.Laws.Lists.{below, map-in, map-out, below-in, below-out}
+use Rattle.pack.specs.State.{State, meaning, target, Closed}
+use Rattle.pack.specs.Syntax.{Action, Trigger, Effect, Node}
+use Rattle.pack.specs.Laws.Table.{means}
+use Rattle.chart.specs.Laws.Lists.{below, map-in, map-out, below-in, below-out}
 use Rattle.chart.specs.Laws.Tabled.{enumerated, tabled-same, Tabled}
-use Rattle.change.specs.Happening.{act, change, fires, observes, round}
-use Rattle.change.specs.Laws.Changed.{Member, acted, edge, old, There, next, changed, all-told}
+use Rattle.transition.specs.Happening.{act, change, fires, observes, round}
+use Rattle.transition.specs.Laws.Changed.{Member, acted, edge, old, There, next, changed, all-told}
 
 -- the members of a change in which every row that takes part is said to tell its characters something: the first row, every edge, every old row
 edges : ℕ → ℕ → List Member

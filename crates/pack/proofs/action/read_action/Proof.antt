@@ -5,8 +5,8 @@ use Prim.Native.Nat.{_+_}
 use mathlib.Core.Path.{ap, _∙_}
 use lib.ListN.{length-set}
 use Rattle.pack.specs.Places.{Marked, ActionParts}
-use Rattle.state.specs.Grammar.{conditionAt}
-use Rattle.reading.specs.Said.{shown}
+use Rattle.pack.specs.Grammar.{conditionAt}
+use Rattle.pack.specs.Said.{shown}
 use Rattle.pack.specs.Answer.{dims}
 use Rattle.pack.proofs.Marks.{first-one, first-two, first-three, kept-one, kept-two, kept-three, action-first, action-kept, action-parts, when-passed}
 use Rattle.pack.proofs.Laws.{action-forget}

@@ -4,8 +4,8 @@ use native.Mathlib.Omega.{arith}
 use Prim.Native.Nat.{_+_}
 use mathlib.Core.Path.{_≡_, refl, ap, _∙_}
 use lib.ListN.{length, length-set}
-use Rattle.state.specs.Grammar.{conditionAt}
-use Rattle.reading.specs.Said.{shown}
+use Rattle.pack.specs.Grammar.{conditionAt}
+use Rattle.pack.specs.Said.{shown}
 use Rattle.pack.specs.Answer.{dims}
 use Rattle.pack.proofs.Marks.{Marking, marking-start, marking-set, marking-within, marking-refused, marking-whole, marking-all, set-below}
 use Rattle.pack.proofs.Bounded.{condition-bounded}

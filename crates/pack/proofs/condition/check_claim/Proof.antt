@@ -3,9 +3,9 @@ use borrow.Author.Needs.{needs}
 use Prim.Native.Nat.{_-_}
 use mathlib.Core.Path.{ap, _∙_}
 use lib.ListN.{length}
-use Rattle.reading.specs.Said.{said}
+use Rattle.pack.specs.Said.{said}
 use Rattle.pack.specs.Answer.{claimAt}
-use Rattle.reading.specs.Laws.Number.{between-within}
+use Rattle.pack.specs.Laws.Number.{between-within}
 use Rattle.pack.proofs.condition.check_claim.Statement.{statement}
 use Rattle.pack.proofs.condition.check_claim.Tie as tie
 

@@ -2,10 +2,10 @@
 use borrow.Author.Needs.{needs}
 use Prim.Native.Nat.{_-_}
 use mathlib.Core.Path.{_≡_}
-use Rattle.reading.specs.Reading.{mapped, many}
-use Rattle.reading.specs.Number.{counted}
-use Rattle.state.specs.Grammar.{testAt, conditionAt}
-use Rattle.reading.specs.Said.{forget}
+use Rattle.pack.specs.Reading.{mapped, many}
+use Rattle.pack.specs.Number.{counted}
+use Rattle.pack.specs.Grammar.{testAt, conditionAt}
+use Rattle.pack.specs.Said.{forget}
 use Rattle.pack.specs.Answer.{dims}
 use Rattle.pack.proofs.Laws.{runs-none, many-forget}
 use Rattle.pack.proofs.condition.check_condition.Statement.{statement}

@@ -5,8 +5,8 @@ use mathlib.Core.Path.{_≡_, sym, ap, _∙_}
 use lib.Seq.{length-take-le}
 use lib.ListN.{take}
 use Rattle.pack.specs.Contents.{bodyAt}
-use Rattle.reading.specs.Reading.{refused, mapped}
-use Rattle.reading.specs.Said.{said, shown, forget}
+use Rattle.pack.specs.Reading.{refused, mapped}
+use Rattle.pack.specs.Said.{said, shown, forget}
 use Rattle.pack.specs.Answer.{dims}
 use Rattle.pack.proofs.Found.{no-value, body-forget, body-found}
 use Rattle.pack.proofs.Bounded.{count-within, rows-within}

@@ -4,9 +4,9 @@ use native.Mathlib.Omega.{arith}
 use mathlib.Core.Path.{_≡_, sym, ap, _∙_}
 use lib.ListN.{take}
 use Rattle.pack.specs.Contents.{bodyAt}
-use Rattle.state.specs.Grammar.{packAt}
-use Rattle.reading.specs.Reading.{refused, bind, mapped}
-use Rattle.reading.specs.Said.{shown, answered, forget}
+use Rattle.pack.specs.Grammar.{packAt}
+use Rattle.pack.specs.Reading.{refused, bind, mapped}
+use Rattle.pack.specs.Said.{shown, answered, forget}
 use Rattle.pack.specs.Answer.{dims}
 use Rattle.pack.proofs.Found.{no-value, parts-forget, parts-body}
 use Rattle.pack.proofs.Bounded.{head-within}

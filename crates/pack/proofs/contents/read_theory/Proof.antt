@@ -2,9 +2,9 @@
 use borrow.Author.Needs.{needs}
 use native.Mathlib.Omega.{arith}
 use mathlib.Core.Path.{_≡_, ap, _∙_}
-use Rattle.reading.specs.Reading.{refused, mapped}
-use Rattle.state.specs.Grammar.{theoryAt}
-use Rattle.reading.specs.Said.{said, shown, forget}
+use Rattle.pack.specs.Reading.{refused, mapped}
+use Rattle.pack.specs.Grammar.{theoryAt}
+use Rattle.pack.specs.Said.{said, shown, forget}
 use Rattle.pack.specs.Answer.{dims}
 use Rattle.pack.proofs.Found.{no-value, theory-marked}
 use Rattle.pack.proofs.Laws.{theory-forget}

@@ -5,10 +5,10 @@ use Prim.Native.Nat.{_+_, _≤_}
 use mathlib.Core.Path.{_≡_, refl, sym, ap, _∙_}
 use mathlib.Core.List.{_++_}
 use lib.ListN.{length, take, length-set}
-use Rattle.reading.specs.Reading.{mapped, many}
-use Rattle.reading.specs.Number.{between}
-use Rattle.reading.specs.Said.{said}
-use Rattle.reading.specs.Laws.Number.{between-within}
+use Rattle.pack.specs.Reading.{mapped, many}
+use Rattle.pack.specs.Number.{between}
+use Rattle.pack.specs.Said.{said}
+use Rattle.pack.specs.Laws.Number.{between-within}
 use Rattle.pack.proofs.Laws.{mapped-id, stored-one, stored-all}
 use Rattle.pack.proofs.head.read_domains.Statement.{statement}
 use Rattle.pack.proofs.head.read_domains.Tie as tie

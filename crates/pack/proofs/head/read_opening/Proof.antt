@@ -40,18 +40,18 @@ use denote.Triple.Table.{entered, cited}
 use denote.Triple.Walked.{says, Stays, stay-none, stay-none-slice, walkOf, goes-none, goes-none-slice, Walks, ends-at, walked, walk-meets}
 use denote.Exit.{yes}
 use denote.Triple.Clauses.{ensured, lasts}
-use Rattle.reading.specs.Number.{between}
-use Rattle.reading.specs.Said.{behind, answered}
-use Rattle.reading.specs.Said.{said as told}
+use Rattle.pack.specs.Number.{between}
+use Rattle.pack.specs.Said.{behind, answered}
+use Rattle.pack.specs.Said.{said as told}
 use Rattle.pack.specs.Answer.{inTurn, openingAt}
 use Rattle.pack.specs.declared.reader.Reader.{Reader}
-use Rattle.reading.specs.declared.number.Number.{Number}
+use Rattle.pack.specs.declared.number.Number.{Number}
 use Rattle.pack.specs.declared.head.Opening.{Opening}
 use Rattle.pack.proofs.Opening.{opening-turns}
 use Rattle.pack.proofs.reader.Reader as T
 use Rattle.pack.proofs.reader.Reader.Laws as T′
-use Rattle.reading.proofs.number.Number as S
-use Rattle.reading.proofs.number.Number.Laws as S′
+use Rattle.pack.proofs.number.Number as S
+use Rattle.pack.proofs.number.Number.Laws as S′
 use Rattle.pack.proofs.head.Opening as O
 use Rattle.pack.proofs.head.Opening.Laws as O′
 use Rattle.pack.proofs.reader.new as new

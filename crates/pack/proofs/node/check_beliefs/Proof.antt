@@ -2,9 +2,9 @@
 use borrow.Author.Needs.{needs}
 use Prim.Native.Nat.{_-_}
 use mathlib.Core.Path.{_≡_}
-use Rattle.reading.specs.Reading.{mapped, many}
-use Rattle.reading.specs.Number.{beliefAt}
-use Rattle.reading.specs.Said.{forget}
+use Rattle.pack.specs.Reading.{mapped, many}
+use Rattle.pack.specs.Number.{beliefAt}
+use Rattle.pack.specs.Said.{forget}
 use Rattle.pack.proofs.Laws.{runs-none, many-forget}
 use Rattle.pack.proofs.node.check_beliefs.Statement.{statement}
 use Rattle.pack.proofs.node.check_beliefs.Tie as tie

@@ -4,8 +4,8 @@ use borrow.Author.Needs.{needs}
 use native.Mathlib.Omega.{arith}
 use mathlib.Core.Path.{ap, _∙_}
 use lib.ListN.{length}
-use Rattle.state.specs.Grammar.{nodesAt}
-use Rattle.reading.specs.Said.{said}
+use Rattle.pack.specs.Grammar.{nodesAt}
+use Rattle.pack.specs.Said.{said}
 use Rattle.pack.specs.Answer.{dims}
 use Rattle.pack.proofs.Bounded.{nodes-bounded, refusal-bounded}
 use Rattle.pack.proofs.Found.{chart-refused, chart-read}

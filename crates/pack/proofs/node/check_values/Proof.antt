@@ -4,9 +4,9 @@ use native.Mathlib.Omega.{arith}
 use Prim.Native.Nat.{_+_, _-_}
 use mathlib.Core.Path.{_≡_}
 use lib.ListN.{length, getD}
-use Rattle.reading.specs.Reading.{mapped, runs}
-use Rattle.reading.specs.Number.{item}
-use Rattle.reading.specs.Said.{forget}
+use Rattle.pack.specs.Reading.{mapped, runs}
+use Rattle.pack.specs.Number.{item}
+use Rattle.pack.specs.Said.{forget}
 use Rattle.pack.specs.Answer.{valuesAt}
 use Rattle.pack.proofs.Laws.{runs-none, runs-one}
 use Rattle.pack.proofs.node.check_values.Statement.{statement}

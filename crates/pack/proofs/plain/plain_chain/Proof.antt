@@ -3,9 +3,9 @@ use borrow.Author.Needs.{needs}
 use native.Mathlib.Omega.{arith}
 use Prim.Native.Nat.{_+_, _-_}
 use mathlib.Core.Path.{_≡_, refl, ap, _∙_}
-use Rattle.reading.specs.Reading.{done, mapped, many}
-use Rattle.reading.specs.Number.{item}
-use Rattle.reading.specs.Said.{forget}
+use Rattle.pack.specs.Reading.{done, mapped, many}
+use Rattle.pack.specs.Number.{item}
+use Rattle.pack.specs.Said.{forget}
 use Rattle.pack.proofs.Laws.{runs-none}
 use Rattle.pack.proofs.InRange.{unsaid, chain-more}
 use Rattle.pack.proofs.plain.plain_chain.Statement.{statement}

@@ -4,7 +4,7 @@ use borrow.Author.Tests.{not-false}
 use native.Mathlib.Omega.{arith}
 use Prim.Native.Nat.{_+_}
 use mathlib.Core.Path.{_≡_, ap, _∙_}
-use Rattle.reading.specs.Reading.{done}
+use Rattle.pack.specs.Reading.{done}
 use Rattle.pack.proofs.InRange.{test-reads}
 use Rattle.pack.proofs.plain.plain_test.Statement.{statement}
 use Rattle.pack.proofs.plain.plain_test.Tie as tie

@@ -41,17 +41,17 @@ use denote.Triple.Table.{entered, cited}
 use denote.Triple.Walked.{says, Stays, stay-none, walkOf, goes-none, Walks, ends-at, walked, walk-meets}
 use denote.Exit.{yes}
 use denote.Triple.Clauses.{ensured, lasts}
-use Rattle.reading.specs.Said.{behind}
+use Rattle.pack.specs.Said.{behind}
 use Rattle.pack.specs.declared.reader.Reader.{Reader}
-use Rattle.reading.specs.declared.number.Number.{Number}
+use Rattle.pack.specs.declared.number.Number.{Number}
 use Rattle.pack.proofs.reader.Reader as T
 use Rattle.pack.proofs.reader.Reader.Laws as T′
-use Rattle.reading.proofs.number.Number as S
-use Rattle.reading.proofs.number.Number.Laws as S′
-use Rattle.reading.proofs.number.place_after as place
-use Rattle.reading.proofs.number.place_after.Symbol as place-def
-use Rattle.reading.proofs.number.place_after.Symbol.{name as #reading·number·place-after}
-use Rattle.reading.proofs.number.place_after.Met as place-thm
+use Rattle.pack.proofs.number.Number as S
+use Rattle.pack.proofs.number.Number.Laws as S′
+use Rattle.pack.proofs.number.place_after as place
+use Rattle.pack.proofs.number.place_after.Symbol as place-def
+use Rattle.pack.proofs.number.place_after.Symbol.{name as #reading·number·place-after}
+use Rattle.pack.proofs.number.place_after.Met as place-thm
 use Rattle.pack.proofs.reader.moved.Key.{name as #pack·reader·moved}
 use Rattle.pack.proofs.reader.moved as moved
 use Rattle.pack.proofs.reader.moved.Statement as stated
@@ -164,4 +164,4 @@ moved-spec 𝓤 H 𝓜 𝓖 𝓡 =
     entered 𝓤 H (tripleOf 𝓤 H (𝓖 .A) moved.signature (moved.spec 𝓤 H (𝓖 .A) (𝓜 .mem) (𝓡 .run)))
     (tables 𝓤 H 𝓜 𝓡 code.env .C) (tables 𝓤 H 𝓜 𝓡 code.env .Λ) #pack·reader·moved code.function (code.unfolded 𝓤 H 𝓜 𝓡)
     (moved-meets 𝓤 H (𝓖 .A) (givenOf 𝓤 H 𝓜 𝓖) (𝓜 .mem) (𝓡 .run) (tablesOf 𝓤 H 𝓜 (tables 𝓤 H 𝓜 𝓡 code.env))
-    (cited 𝓤 H (Place 𝓤 H (𝓖 .A) (𝓜 .mem) (𝓡 .run)) 𝓜 𝓡 code.env #reading·number·place-after place-def.routine code.calls-reading·number·place-after (place-thm.met 𝓤 H 𝓜 𝓖 𝓡)))
+    (cited 𝓤 H (Place 𝓤 H (𝓖 .A) (𝓜 .mem) (𝓡 .run)) 𝓜 𝓡 code.env #reading·number·place-after place-def.routine code.calls-pack·number·place-after (place-thm.met 𝓤 H 𝓜 𝓖 𝓡)))

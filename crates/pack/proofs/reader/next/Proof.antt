@@ -43,18 +43,18 @@ use denote.Triple.Table.{entered, cited}
 use denote.Triple.Walked.{says, Stays, stay-none, walkOf, goes-none, Walks, ends-at, walked, walk-meets}
 use denote.Exit.{yes}
 use denote.Triple.Clauses.{ensured, lasts}
-use Rattle.reading.specs.Number.{between}
-use Rattle.reading.specs.Said.{said as told}
+use Rattle.pack.specs.Number.{between}
+use Rattle.pack.specs.Said.{said as told}
 use Rattle.pack.specs.declared.reader.Reader.{Reader}
-use Rattle.reading.specs.declared.number.Number.{Number}
+use Rattle.pack.specs.declared.number.Number.{Number}
 use Rattle.pack.proofs.reader.Reader as T
 use Rattle.pack.proofs.reader.Reader.Laws as T′
-use Rattle.reading.proofs.number.Number as S
-use Rattle.reading.proofs.number.Number.Laws as S′
-use Rattle.reading.proofs.number.read_between as read
-use Rattle.reading.proofs.number.read_between.Symbol as read-def
-use Rattle.reading.proofs.number.read_between.Symbol.{name as #reading·number·read-between}
-use Rattle.reading.proofs.number.read_between.Met as read-thm
+use Rattle.pack.proofs.number.Number as S
+use Rattle.pack.proofs.number.Number.Laws as S′
+use Rattle.pack.proofs.number.read_between as read
+use Rattle.pack.proofs.number.read_between.Symbol as read-def
+use Rattle.pack.proofs.number.read_between.Symbol.{name as #reading·number·read-between}
+use Rattle.pack.proofs.number.read_between.Met as read-thm
 use Rattle.pack.proofs.reader.next.Key.{name as #pack·reader·next}
 use Rattle.pack.proofs.reader.next as next
 use Rattle.pack.proofs.reader.next.Statement as stated
@@ -170,4 +170,4 @@ next-spec 𝓤 H 𝓜 𝓖 𝓡 =
     entered 𝓤 H (tripleOf 𝓤 H (𝓖 .A) next.signature (next.spec 𝓤 H (𝓖 .A) (𝓜 .mem) (𝓡 .run)))
     (tables 𝓤 H 𝓜 𝓡 code.env .C) (tables 𝓤 H 𝓜 𝓡 code.env .Λ) #pack·reader·next code.function (code.unfolded 𝓤 H 𝓜 𝓡)
     (next-meets 𝓤 H (𝓖 .A) (givenOf 𝓤 H 𝓜 𝓖) (𝓜 .mem) (𝓡 .run) (tablesOf 𝓤 H 𝓜 (tables 𝓤 H 𝓜 𝓡 code.env))
-    (cited 𝓤 H (Read 𝓤 H (𝓖 .A) (𝓜 .mem) (𝓡 .run)) 𝓜 𝓡 code.env #reading·number·read-between read-def.routine code.calls-reading·number·read-between (read-thm.met 𝓤 H 𝓜 𝓖 𝓡)))
+    (cited 𝓤 H (Read 𝓤 H (𝓖 .A) (𝓜 .mem) (𝓡 .run)) 𝓜 𝓡 code.env #reading·number·read-between read-def.routine code.calls-pack·number·read-between (read-thm.met 𝓤 H 𝓜 𝓖 𝓡)))

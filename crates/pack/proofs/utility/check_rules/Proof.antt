@@ -2,9 +2,9 @@
 use borrow.Author.Needs.{needs}
 use Prim.Native.Nat.{_-_}
 use mathlib.Core.Path.{_≡_}
-use Rattle.reading.specs.Reading.{mapped, many}
-use Rattle.state.specs.Grammar.{ruleAt, rulesAt}
-use Rattle.reading.specs.Said.{forget}
+use Rattle.pack.specs.Reading.{mapped, many}
+use Rattle.pack.specs.Grammar.{ruleAt, rulesAt}
+use Rattle.pack.specs.Said.{forget}
 use Rattle.pack.specs.Answer.{dims}
 use Rattle.pack.proofs.Laws.{runs-none, many-forget}
 use Rattle.pack.proofs.utility.check_rules.Statement.{statement}

@@ -8,17 +8,17 @@ use lib.Seq.{getD-set-same, getD-set-other}
 use borrow.Author.Count.{below-more}
 use borrow.Author.Needs.{needs}
 use borrow.Author.Tests.{not-true, not-false}
-use Rattle.state.specs.Syntax.{Node, Theory}
-use Rattle.state.specs.State.{meaning}
-use Rattle.state.specs.Table.{Below, Above}
+use Rattle.pack.specs.Syntax.{Node, Theory}
+use Rattle.pack.specs.State.{meaning}
+use Rattle.pack.specs.Table.{Below, Above}
 use Rattle.chart.specs.Call.{workRoom}
-use Rattle.explanation.specs.Inner.Lists.{slotTable, Ends, EndsBy}
-use Rattle.explanation.specs.Inner.Memory.{Memory}
-use Rattle.explanation.specs.Inner.Explain.{Stage, Free}
+use Rattle.planner.specs.Inner.Lists.{slotTable, Ends, EndsBy}
+use Rattle.planner.specs.Inner.Memory.{Memory}
+use Rattle.planner.specs.Inner.Explain.{Stage, Free}
 use Rattle.planner.specs.Inner.Search.{Best, Trail}
-use Rattle.explanation.proofs.Remembering.{memory-fewer}
-use Rattle.reason.proofs.Looking.{below-far, stage-trying, stage-skipped}
-use Rattle.explanation.proofs.Telling.{nextTable, next-plays, next-stage, slot-same, stage-before, stage-state, known, note}
+use Rattle.planner.proofs.Remembering.{memory-fewer}
+use Rattle.planner.proofs.Looking.{below-far, stage-trying, stage-skipped}
+use Rattle.planner.proofs.Telling.{nextTable, next-plays, next-stage, slot-same, stage-before, stage-state, known, note}
 use Rattle.planner.proofs.Completing.{best-none, best-from, best-noted, best-same, fact-of-none, trail-step, trail-same, trail-repeats, best-end, best-first, best-no, best-hopeless, best-by, best-by-none, agreed-from, agreed-to}
 use borrow.Fn.Kinds.{In}
 use borrow.Fn.PlainCycle.{Measures, is, falls, and}
@@ -31,13 +31,13 @@ use Rattle.planner.proofs.search.+completes+completes_after+completes_b
 use Rattle.planner.proofs.search.completes_by.Reads as completes-by
 use Rattle.planner.proofs.search.completes_by.Kinds as completes-by-kinds
 use Rattle.planner.proofs.search.+completes+completes_after+completes_by.Lts-completes_by as completes-by-lts
-use Rattle.reason.proofs.explain.allowed.Reads as allowed-reads
-use Rattle.reason.proofs.look.next_promising.Reads as next-promising-reads
-use Rattle.explanation.proofs.fact.recall.Reads as recall-reads
-use Rattle.explanation.proofs.fact.remember.Reads as remember-reads
+use Rattle.planner.proofs.explain.allowed.Reads as allowed-reads
+use Rattle.planner.proofs.look.next_promising.Reads as next-promising-reads
+use Rattle.planner.proofs.fact.recall.Reads as recall-reads
+use Rattle.planner.proofs.fact.remember.Reads as remember-reads
 use Rattle.planner.proofs.search.ends.Reads as ends-reads
 use Rattle.planner.proofs.search.repeats.Reads as repeats-reads
-use Rattle.explanation.proofs.known.known_step.Reads as known-step-reads
+use Rattle.planner.proofs.known.known_step.Reads as known-step-reads
 use Rattle.planner.proofs.search.+completes+completes_after+completes_by.{statement}
 use Rattle.planner.proofs.search.+completes+completes_after+completes_by.Tie.{close}
 

@@ -2,8 +2,8 @@
 use mathlib.Core.Path.{refl}
 use native.Mathlib.Omega.{arith}
 use lib.ListN.{getD}
-use Rattle.change.proofs.Changing.{small}
-use Rattle.explanation.proofs.Telling.{rules-in, utility-in}
+use Rattle.transition.proofs.Changing.{small}
+use Rattle.planner.proofs.Telling.{rules-in, utility-in}
 use Rattle.planner.proofs.Completing.{author-rules, author-utility}
 use Rattle.planner.proofs.search.ends.Statement.{statement}
 use Rattle.planner.proofs.search.ends.Tie as tie

@@ -3,7 +3,7 @@ use Prim.Native.Nat.{_*_, _-_, _≤_}
 use mathlib.Core.Path.{sym}
 use native.Mathlib.Omega.{arith}
 use borrow.Author.Needs.{needs}
-use Rattle.explanation.proofs.Remembering.{unset, table-size, state-moved}
+use Rattle.planner.proofs.Remembering.{unset, table-size, state-moved}
 use Rattle.planner.proofs.search.repeats.Statement.{statement}
 use Rattle.planner.proofs.search.repeats.Tie as tie
 

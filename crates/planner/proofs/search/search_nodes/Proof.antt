@@ -4,10 +4,10 @@ use mathlib.Core.List.{List}
 use native.Mathlib.Omega.{arith}
 use lib.ListN.{getD}
 use borrow.Author.Needs.{needs}
-use Rattle.state.specs.Syntax.{Theory, Node}
-use Rattle.state.specs.State.{meaning}
-use Rattle.explanation.specs.Ending.{authorUtility}
-use Rattle.explanation.proofs.Telling.{rules-in, utility-in}
+use Rattle.pack.specs.Syntax.{Theory, Node}
+use Rattle.pack.specs.State.{meaning}
+use Rattle.planner.specs.Ending.{authorUtility}
+use Rattle.planner.proofs.Telling.{rules-in, utility-in}
 use Rattle.planner.specs.Inner.Search.{Seeking}
 use Rattle.planner.proofs.Completing.{author-rules, author-utility}
 use Rattle.planner.proofs.Seeking.{seek-laying, seekTable, seek-slot, seek-memory, seek-base, seek-from, seek-same, seek-none, seek-found}

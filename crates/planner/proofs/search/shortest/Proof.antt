@@ -6,16 +6,16 @@ use native.Mathlib.Nat.{mul-le-mul-left, mul-le-mul-right}
 use native.Mathlib.Omega.{arith}
 use lib.ListN.{length}
 use borrow.Author.Needs.{needs}
-use Rattle.state.specs.Syntax.{Node, Theory}
-use Rattle.state.specs.State.{meaning}
-use Rattle.state.specs.Table.{Below, Above}
+use Rattle.pack.specs.Syntax.{Node, Theory}
+use Rattle.pack.specs.State.{meaning}
+use Rattle.pack.specs.Table.{Below, Above}
 use Rattle.chart.specs.Call.{workRoom}
-use Rattle.explanation.specs.Ending.{authorUtility}
-use Rattle.explanation.specs.Inner.Lists.{slotTable, Ends}
-use Rattle.explanation.specs.Inner.Memory.{Memory}
-use Rattle.explanation.specs.Inner.Explain.{Stage}
+use Rattle.planner.specs.Ending.{authorUtility}
+use Rattle.planner.specs.Inner.Lists.{slotTable, Ends}
+use Rattle.planner.specs.Inner.Memory.{Memory}
+use Rattle.planner.specs.Inner.Explain.{Stage}
 use Rattle.planner.specs.Inner.Search.{Shortest}
-use Rattle.explanation.proofs.Telling.{slot-same}
+use Rattle.planner.proofs.Telling.{slot-same}
 use Rattle.planner.proofs.Completing.{trail-none}
 use Rattle.planner.proofs.Seeking.{shorter, shortest-found, shortest-none}
 use Rattle.planner.proofs.search.shortest.Statement.{statement}

@@ -9,10 +9,10 @@ use native.Mathlib.Omega.{arith}
 use borrow.Author.Needs.{needs}
 use borrow.Author.Tests.{not-true, not-false}
 use borrow.Author.Count.{below-more}
-use Rattle.state.specs.Syntax.{Effect}
-use Rattle.state.specs.Grammar.{Dimensions}
-use Rattle.state.specs.Judge.{Small}
-use Rattle.change.specs.Inner.Cause.{told, EffectsAt}
+use Rattle.pack.specs.Syntax.{Effect}
+use Rattle.pack.specs.Grammar.{Dimensions}
+use Rattle.pack.specs.Judge.{Small}
+use Rattle.transition.specs.Inner.Cause.{told, EffectsAt}
 use Rattle.transition.proofs.act.lowest_untold.Statement.{statement}
 use Rattle.transition.proofs.act.lowest_untold.Tie as tie
 

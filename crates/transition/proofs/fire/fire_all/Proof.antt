@@ -6,9 +6,9 @@ use lib.ListN.{length, length-set, set}
 use borrow.Author.Tests.{ltb-true, ltb-false}
 use native.Mathlib.Omega.{arith}
 use borrow.Author.Needs.{needs}
-use Rattle.state.specs.Syntax.{Trigger, Node}
-use Rattle.state.specs.Grammar.{Dimensions}
-use Rattle.change.specs.Inner.Cause.{Tabled}
+use Rattle.pack.specs.Syntax.{Trigger, Node}
+use Rattle.pack.specs.Grammar.{Dimensions}
+use Rattle.transition.specs.Inner.Cause.{Tabled}
 use Rattle.transition.specs.Inner.Fire.{Triggered, FiredBelow}
 use Rattle.transition.proofs.Firing.{fired-none, fired-more, fired-all}
 use Rattle.transition.proofs.fire.fire_all.Statement.{statement}

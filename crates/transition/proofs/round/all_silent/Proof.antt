@@ -7,10 +7,10 @@ use native.Mathlib.Omega.{arith}
 use borrow.Author.Count.{below-more}
 use borrow.Author.Needs.{needs}
 use borrow.Author.Tests.{not-false}
-use Rattle.state.specs.Syntax.{Effect}
-use Rattle.state.specs.Grammar.{Dimensions}
-use Rattle.state.specs.Judge.{Small}
-use Rattle.change.specs.Inner.Cause.{EffectsAt}
+use Rattle.pack.specs.Syntax.{Effect}
+use Rattle.pack.specs.Grammar.{Dimensions}
+use Rattle.pack.specs.Judge.{Small}
+use Rattle.transition.specs.Inner.Cause.{EffectsAt}
 use Rattle.transition.specs.Inner.Round.{Silent}
 use Rattle.transition.proofs.Acting.{clash}
 use Rattle.transition.proofs.round.all_silent.Statement.{statement}

@@ -3,7 +3,7 @@ use mathlib.Core.Path.{_≡_, refl, _∙_, subst}
 use Prim.Native.Nat.{_-_, _≤_}
 use lib.ListN.{length}
 use native.Mathlib.Omega.{arith}
-use Rattle.change.specs.Inner.Change.{Scene}
+use Rattle.transition.specs.Inner.Change.{Scene}
 use Rattle.transition.specs.Inner.Round.{Caused, Rewritten}
 use Rattle.transition.proofs.Rounding.{rewritten-none, row-inside, row-tellable, rewritten-more}
 use Rattle.transition.proofs.round.rewrite.Statement.{statement}

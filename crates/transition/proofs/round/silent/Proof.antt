@@ -3,7 +3,7 @@ use mathlib.Core.Path.{refl, sym}
 use Prim.Native.Nat.{ℕ, suc}
 use native.Mathlib.Omega.{arith}
 use borrow.Author.Needs.{needs}
-use Rattle.change.proofs.Causing.{Telled, tell-start, tell-bytes, tell-on, tell-no, tell-nothing}
+use Rattle.transition.proofs.Causing.{Telled, tell-start, tell-bytes, tell-on, tell-no, tell-nothing}
 use Rattle.transition.proofs.Acting.{clash}
 use Rattle.transition.proofs.round.silent.Statement.{statement}
 use Rattle.transition.proofs.round.silent.Tie as tie

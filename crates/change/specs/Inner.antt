@@ -1,3 +1,0 @@
--- What the functions inside this layer promise each other; no public promise cites these.
-pub mod Cause
-pub mod Change

@@ -1,3 +1,0 @@
-pub mod Happening
-pub mod Laws
-pub mod Inner

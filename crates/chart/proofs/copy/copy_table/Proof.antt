@@ -1,0 +1,50 @@
+-- The rows below i are filled, and those that they name have numbers. Assumes nothing.
+use mathlib.Core.Path.{_≡_, _∙_}
+use Prim.Native.Nat.{_-_}
+use lib.ListN.{length}
+use native.Mathlib.Omega.{arith}
+use borrow.Author.Needs.{needs}
+use Rattle.chart.proofs.Numbering.{numbering-none}
+use Rattle.chart.proofs.Copying.{Copying, copying-start, copying-row, copying-end, laid-same, sound-same}
+use Rattle.chart.proofs.copy.copy_table.Statement.{statement}
+use Rattle.chart.proofs.copy.copy_table.Tie as tie
+
+abbrev Inv-loop : tie.InvT-loop
+Inv-loop work₀ n w f c s m t root count₀ i₀ work count i = (length work ≡ length work₀) × Copying work₀ work n w f c s m t i count
+
+abbrev μ-loop : tie.MeasureT-loop
+μ-loop work₀ n w f c s m t root count₀ i₀ work count i = n - i
+
+number-of-requires : tie.Need-number-of-requires Inv-loop μ-loop
+number-of-requires c κs =
+    let l = c .before .before .before .before .before .before .pre in
+    ((omega (arith, l .0, c .before .before .before .clear .kept .0), omega (arith, l .0), l .2), numbering-none _ _ _ _ (c .before .before .before .clear .ensures))
+
+loop-holds : tie.Need-loop-holds Inv-loop μ-loop
+loop-holds c =
+    let s = c .before .before .before .before .before .before .before .before .before .before in
+    let a = c .before .before .before .before .before .before .before .clear in
+    let b = c .before .before .before .number-of in
+    (search needs, copying-start (laid-same (s .pre .0) (b .kept .0 ∙ a .kept .0)) (sound-same (s .pre .0) (s .pre .1) (λ p l. b .ensures .low p l ∙ a .ensures .low p l)) (b .ensures) (c .more .ensures))
+
+fill-row-requires : tie.Need-fill-row-requires Inv-loop μ-loop
+fill-row-requires c κs = let l = c .before .before .loop .inv .1 in ((l .laid, l .sound), (l .going .numbering, c .before .loop-test .taken))
+
+loop-again : tie.Need-loop-again Inv-loop μ-loop
+loop-again c =
+    let l = c .before .before .before .before .before .loop .inv in
+    let r = c .before .before .fill-row in
+    (r .kept .0 ∙ l .0, copying-row (l .1) (c .before .before .before .before .loop-test .taken) (r .ensures) (r .kept .0))
+
+returns : tie.Need-returns Inv-loop μ-loop
+returns c =
+    let m = c .before .before in
+    let a = m .before .before .before .before .before .before .before .clear .ensures in
+    let b = m .before .before .before .number-of .ensures in
+    copying-end (c .before .loop .inv .1) (c .loop-test .left) (λ p l. b .low p l ∙ a .low p l) (λ p l. b .high p l ∙ a .high p (omega arith))
+
+pub copy-table-spec : {M : Type 1} → statement M
+copy-table-spec =
+    tie.close
+    (tie.spec Inv-loop μ-loop (λ c κs. omega (arith, c .before .before .pre .0)) number-of-requires (λ c κs. omega (arith, c .before .before .number-of .ensures .few)) loop-holds fill-row-requires
+    (λ c. omega (arith, c .before .before .before .before .before .loop .inv .1 .going)) (λ c. omega (arith, c .before .before .before .before .before .loop .inv .1 .going)) loop-again (λ c. search needs) returns)

@@ -1,0 +1,49 @@
+-- The beliefs below k are named. Assumes nothing.
+use mathlib.Core.Path.{_≡_, sym, _∙_}
+use Prim.Native.Nat.{_<_, _≤_, _-_, _+_}
+use lib.ListN.{length, length-set, getD}
+use native.Mathlib.Omega.{arith}
+use borrow.Author.Needs.{needs}
+use Rattle.chart.specs.Inner.Numbers.{Named}
+use Rattle.chart.proofs.Passing.{named-none, named-more}
+use Rattle.chart.proofs.number.name_beliefs.Statement.{statement}
+use Rattle.chart.proofs.number.name_beliefs.Tie as tie
+
+abbrev Inv-loop : tie.InvT-loop
+Inv-loop work₀ m size to c count met₀ k₀ work met k = (k ≤ c) × (length work ≡ length work₀) × Named work₀ work m size count met to k (λ d. getD work₀ (to + d) 0)
+
+abbrev μ-loop : tie.MeasureT-loop
+μ-loop work₀ m size to c count met₀ k₀ work met k = c - k
+
+number-of-requires : tie.Need-number-of-requires Inv-loop μ-loop
+number-of-requires c κs =
+    let l = c .before .before .before .before .loop in
+    let s = c .before .before .before .before .before .before in
+    let h : l .k < s .args .c = c .before .before .before .loop-test .taken in
+    ((omega arith, omega arith, omega (arith, c .before .wide .ensures, l .inv .2 .high (s .args .to + l .k) (omega arith), s .pre .1 .1 (l .k) h)), l .inv .2 .numbering)
+
+cast-work : tie.Need-cast-work Inv-loop μ-loop
+cast-work c = omega (arith, c .before .before .number-of .ensures .few)
+
+more-requires : tie.Need-more-requires Inv-loop μ-loop
+more-requires c κs = omega (arith, c .before .before .number-of .ensures .few)
+
+loop-again : tie.Need-loop-again Inv-loop μ-loop
+loop-again c =
+    let l = c .before .before .before .before .before .before .before .before .loop in
+    let s = c .before .before .before .before .before .before .before .before .before .before in
+    let h : l .k < s .args .c = c .before .before .before .before .before .before .before .loop-test .taken in
+    let kept = c .before .before .before .number-of .kept .0 in (
+      omega arith,
+      simp length-set (kept ∙ l .inv .1),
+      named-more (l .inv .2) (c .before .before .before .number-of .ensures) (sym (c .before .before .before .before .before .wide .ensures) ∙ l .inv .2 .high (s .args .to + l .k) (omega arith)) (c .more .ensures) (omega arith) (omega arith),
+    )
+
+returns : tie.Need-returns Inv-loop μ-loop
+returns c = let l = c .before .loop in let e : l .k ≡ c .before .before .before .args .c = omega arith in rw e at (l .inv .2)
+
+pub name-beliefs-spec : {M : Type 1} → statement M
+name-beliefs-spec =
+    tie.close
+    (tie.spec Inv-loop μ-loop (λ c. (search needs, search needs, named-none _ _ _ _ _ _ (c .before .pre .1 .0))) (λ c. search needs) (λ c. search needs) (λ c κs. search needs)
+    number-of-requires cast-work (λ c. search needs) (λ c. search needs) more-requires (λ c. search needs) (λ c. search needs) loop-again (λ c. search needs) returns)

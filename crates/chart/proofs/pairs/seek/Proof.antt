@@ -1,0 +1,47 @@
+-- The entries below `done` are of rows with the same values, and there are at most 4096. Assumes nothing.
+use mathlib.Core.Path.{_≡_, refl, _∙_}
+use Prim.Native.Nat.{_-_, _<_}
+use lib.ListN.{length}
+use native.Mathlib.Omega.{arith}
+use borrow.Author.Needs.{needs}
+use Rattle.chart.proofs.Seeking.{Seeking, seeking-start, seeking-few, seeking-place, seeking-paired, seeking-sound, seeking-pairs, seeking-other, seeking-more, seeking-none}
+use Rattle.chart.proofs.pairs.seek.Statement.{statement}
+use Rattle.chart.proofs.pairs.seek.Tie as tie
+
+abbrev Inv-loop : tie.InvT-loop
+Inv-loop work₀ n w f c t m q count₀ done₀ work count done = (length work ≡ length work₀) × Seeking work₀ work n w f c t m q count done
+
+abbrev μ-loop : tie.MeasureT-loop
+μ-loop work₀ n w f c t m q count₀ done₀ work count done = 4096 - done
+
+loop-holds : tie.Need-loop-holds Inv-loop μ-loop
+loop-holds c = (refl, seeking-start (c .before .pre .1))
+
+-- entry `done` is there
+few : (c : tie.In-loop Inv-loop μ-loop) → c .before .loop .done < 4096
+few c = let p = c .before .before .before .pre .0 in seeking-few (p .0) (p .1) (c .before .loop .inv .1) (c .loop-test .taken)
+
+returns : tie.Need-returns Inv-loop μ-loop
+returns c = let p = c .before .before .before .before .before .before .pre .0 in seeking-other (p .0) (p .1) (c .before .before .before .before .loop .inv .1) (c .before .before .before .loop-test .taken) (c .before .other-value .ensures) (c .if1 .taken)
+
+meet-beliefs-requires : tie.Need-meet-beliefs-requires Inv-loop μ-loop
+meet-beliefs-requires c κs =
+    let p = c .before .before .before .before .before .before .before .pre .0 in
+    let (long, g) = c .before .before .before .before .before .loop .inv in
+    ((seeking-paired (p .0) (p .1) g long, seeking-sound (p .0) (p .1) g, c .before .before .before .before .loop-test .taken), seeking-pairs (p .0) (p .1) g)
+
+loop-again : tie.Need-loop-again Inv-loop μ-loop
+loop-again c =
+    let p = c .before .before .before .before .before .before .before .before .before .before .pre .0 in
+    let (long, g) = c .before .before .before .before .before .before .before .before .loop .inv in
+    let r = c .before .before .meet-beliefs in
+    (r .kept .0 ∙ long, seeking-more (p .0) (p .1) g (c .before .before .before .before .before .before .before .loop-test .taken) (c .before .before .before .before .before .other-value .ensures) (c .before .before .before .before .if1 .left) (r .ensures))
+
+returns-2 : tie.Need-returns-2 Inv-loop μ-loop
+returns-2 c = let p = c .before .before .before .pre .0 in seeking-none (p .0) (p .1) (c .before .loop .inv .1) (c .loop-test .left)
+
+pub seek-spec : {M : Type 1} → statement M
+seek-spec =
+    tie.close
+    (tie.spec Inv-loop μ-loop loop-holds (λ c. omega (arith, few (c .before))) (λ c. omega (arith, few (c .before), c .before .before .before .before .pre .0 .0))
+    (λ c κs. let p = c .before .before .before .before .pre .0 in let (long, g) = c .before .before .loop .inv in seeking-place (p .0) (p .1) g (c .before .loop-test .taken) long) (λ c. search needs) returns meet-beliefs-requires (λ c. omega (arith, few (c .before .before .before .before .before .before .before))) (λ c. omega (arith, few (c .before .before .before .before .before .before .before))) loop-again (λ c. search needs) returns-2)

@@ -1,0 +1,33 @@
+-- The way to entry e is k characters longer than that to entry `at`. Assumes nothing.
+use mathlib.Core.Path.{_≡_, ap}
+use Prim.Native.Nat.{ℕ, suc, _-_, _<_, _≤_, _+_}
+use lib.ListN.{length}
+use native.Mathlib.Omega.{arith}
+use Rattle.chart.specs.Inner.Pairs.{Ways}
+use Rattle.chart.proofs.Tracing.{way-step}
+use Rattle.chart.proofs.pairs.way_length.Statement.{statement}
+use Rattle.chart.proofs.pairs.way_length.Tie as tie
+
+abbrev Inv-loop : tie.InvT-loop
+Inv-loop work q e at₀ k₀ at k = (at + k ≤ e) × ((x : Ways work q e) → length (x .way e) ≡ k + length (x .way at))
+
+abbrev μ-loop : tie.MeasureT-loop
+μ-loop work q e at₀ k₀ at k = at
+
+loop-holds : tie.Need-loop-holds Inv-loop μ-loop
+loop-holds c = (omega arith, λ x. omega arith)
+
+-- one character back
+step : (c : tie.After-met-from Inv-loop μ-loop) → (x : Ways (c .before .before .before .before .args .work .now) (c .before .before .before .before .args .q) (c .before .before .before .before .args .e)) → (c .met-from .result < c .before .before .loop .at) × (length (x .way (c .before .before .loop .at)) ≡ suc (length (x .way (c .met-from .result))))
+step c x = way-step x _ _ (omega (arith, c .before .loop-test .taken)) (omega (arith, c .before .before .loop .inv .0)) (c .met-from .ensures)
+
+loop-again : tie.Need-loop-again Inv-loop μ-loop
+loop-again c = let (h, f) = c .before .before .loop .inv in (omega (arith, step c (c .before .before .before .before .pre) .0), λ x. omega (arith, f x, step c x .1))
+
+returns : tie.Need-returns Inv-loop μ-loop
+returns c x = let (h, f) = c .before .loop .inv in omega (arith, f x, ap (λ (at : ℕ). length (x .way at)) (c .loop-test .left), ap length (x .root))
+
+pub way-length-spec : {M : Type 1} → statement M
+way-length-spec =
+    tie.close
+    (tie.spec Inv-loop μ-loop loop-holds (λ c. omega (arith, c .before .loop .inv .0, c .before .before .before .pre .room)) (λ c. omega (arith, c .before .loop .inv .0, c .before .before .before .pre .room)) (λ c κs. omega (arith, c .before .loop .inv .0, c .before .before .before .pre .room)) (λ c. omega (arith, c .before .before .loop .inv .0, c .before .before .before .before .pre .room)) (λ c. omega (arith, step c (c .before .before .before .before .pre) .0)) loop-again returns)

@@ -1,0 +1,52 @@
+-- The rows below i are put. Assumes nothing.
+use mathlib.Core.Path.{_≡_, refl, _∙_}
+use Prim.Native.Nat.{_-_, _≤_, _+_, _*_}
+use lib.ListN.{length}
+use native.Mathlib.Omega.{arith}
+use borrow.Author.Needs.{needs}
+use Rattle.chart.specs.Inner.Out.{RowsPut}
+use Rattle.chart.proofs.Cells.{row-in}
+use Rattle.chart.proofs.Outing.{rows-start, rows-next, rows-all}
+use Rattle.chart.proofs.write.put_rows.Statement.{statement}
+use Rattle.chart.proofs.write.put_rows.Tie as tie
+
+abbrev Inv-loop : tie.InvT-loop
+Inv-loop src from n w f c out₀ to more less i₀ out i = (i ≤ n) × (length out ≡ length out₀) × RowsPut src out₀ out w f c from to more less i
+
+abbrev μ-loop : tie.MeasureT-loop
+μ-loop src from n w f c out₀ to more less i₀ out i = n - i
+
+loop-holds : tie.Need-loop-holds Inv-loop μ-loop
+loop-holds c = (search needs, refl, rows-start _ _ _ _ _ _ _ _ _)
+
+-- row i lies within both buffers
+place : (c : tie.In-loop Inv-loop μ-loop) → let a = c .before .before .before .before .args in
+    (a .from + c .before .loop .i * a .w + a .w ≤ length (a .src .now)) × (a .to + c .before .loop .i * a .w + a .w ≤ length (a .out .now))
+place c =
+    let s = c .before .before .before .before in
+    let r = row-in (s .args .n) (s .args .w) (c .before .loop .i) (c .loop-test .taken) in
+    (omega (arith, r, s .pre .0), omega (arith, r, s .pre .0))
+
+put-beside-requires : tie.Need-put-beside-requires Inv-loop μ-loop
+put-beside-requires c κs =
+    let p = c .before .before .before .before .before .pre in
+    let (x, y) = place (c .before) in
+    ((omega (arith, x, p .0), omega (arith, y, p .0, c .before .before .loop .inv .1)), λ d h. p .1 (c .before .before .loop .i) d (c .before .loop-test .taken) h)
+
+loop-again : tie.Need-loop-again Inv-loop μ-loop
+loop-again c =
+    let p = c .before .before .before .before .before .before .before .before .pre .0 in
+    let (h, e, g) = c .before .before .before .before .before .loop .inv in
+    (search needs, c .before .before .put-beside .kept .1 .1 .1 .1 .0 ∙ e, rows-next (p .0) (p .1) g (c .before .before .put-beside .ensures))
+
+returns : tie.Need-returns Inv-loop μ-loop
+returns c = let (h, e, g) = c .before .loop .inv in rows-all g h (c .loop-test .left)
+
+same-length : tie.Need-same-length Inv-loop μ-loop
+same-length c = c .before .loop .inv .1
+
+pub put-rows-spec : {M : Type 1} → statement M
+put-rows-spec =
+    tie.close
+    (tie.spec Inv-loop μ-loop loop-holds (λ c. omega (arith, place c)) (λ c. omega (arith, place c)) (λ c. omega (arith, place (c .before))) (λ c. omega (arith, place (c .before)))
+    put-beside-requires (λ c. search needs) (λ c. search needs) loop-again same-length returns)

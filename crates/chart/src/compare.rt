@@ -1,0 +1,107 @@
+// Compare: whether two charts mean the same, or the chain to where they differ. In the work buffer stand, from place 1 on, the first chart's rows and behind them the second's,
+// its beliefs counted on from there; then a mark for each pair of rows, and the pairs that were met.
+use crate::Matched;
+use crate::bytes::clear;
+use crate::call::WORK_ROOM;
+use crate::call::both_at_most;
+use crate::call::check_lent;
+use crate::call::check_under;
+use crate::pairs::meet_first;
+use crate::pairs::other_value;
+use crate::pairs::seek;
+use crate::pairs::write_chain;
+use crate::write::put_rows;
+use pack::contents::read_contents;
+use pack::node::check_chart;
+use pack::number::Number;
+ghost use Prim.Native.Nat.{_≤_};
+ghost use lib.ListN.{length};
+ghost use Rattle.chart.specs.Call.{chainRoom};
+ghost use Rattle.chart.specs.Promises.{Comparison};
+ghost use Rattle.chart.specs.Inner.Match.{Joinable, Joined, Matchable, RowsMatched, ChartsMatched};
+
+// Loads two charts, of n and m nodes, as one table.
+pub fn join(first: &[u8], n: usize, second: &[u8], m: usize, f: usize, c: usize, work: &mut [u8])
+    requires { ⌜ Joinable (now first) n (now second) m f c (now work) ⌝ }
+    ensures { λ _. ⌜ Joined (now (first .entry)) n (now (second .entry)) m f c (now (work .entry)) (now (work .exit)) ⌝ }
+{
+    let w = f + c;
+    put_rows(first, 1, n, w, f, c, work, 1, 0, 1);
+    put_rows(second, 1, m, w, f, c, work, 1 + n * w, n as u8, 1)
+}
+
+// The marks of the pairs of rows that were met, and the pairs in the order in which they were.
+const MARKS: usize = 2048;
+
+const MET: usize = 6144;
+
+// Compares rows 0 and n of the n + m rows from 1 on; the chain to where they differ is written.
+pub fn match_rows(
+    work: &mut [u8],
+    n: usize,
+    m: usize,
+    f: usize,
+    c: usize,
+    chain: &mut [u8],
+) -> Matched
+    requires { ⌜ Matchable (now work) n m f c (now chain) ⌝ }
+    ensures { λ r. ⌜ RowsMatched (now (work .entry)) (now (work .exit)) n m f c (now (chain .entry)) (now (chain .exit)) r ⌝ }
+{
+    let w = f + c;
+    meet_first(work, MARKS, MET, 0, n);
+    let k = seek(work, n + m, w, f, c, 1, MARKS, MET);
+    if 4096 <= k {
+        return Matched::Same;
+    }
+    let length = write_chain(work, MET, k, chain);
+    let fluent = other_value(work, w, f, 1, MET + k * 5);
+    Matched::Differ(length, fluent)
+}
+
+// Compares two charts, of n and m nodes. The work buffer is cleared.
+pub fn match_charts(
+    first: &[u8],
+    n: usize,
+    second: &[u8],
+    m: usize,
+    f: usize,
+    c: usize,
+    chain: &mut [u8],
+    work: &mut [u8],
+) -> Matched
+    requires { ⌜ Joinable (now first) n (now second) m f c (now work) × (chainRoom ≤ length (now chain)) ⌝ }
+    ensures { λ r. ⌜ ChartsMatched (now (first .entry)) n (now (second .entry)) m f c (now (chain .entry)) (now (chain .exit)) (now (work .entry)) (now (work .exit)) r ⌝ }
+{
+    join(first, n, second, m, f, c, work);
+    let found = match_rows(work, n, m, f, c, chain);
+    clear(work, 0, WORK_ROOM);
+    found
+}
+
+// Compare(pack, first, second, chain out, work): that both mean the same, or the chain's length and the fluent, the chain written; or a refusal's number and place.
+pub fn compare(
+    pack: &[u8],
+    first: &[u8],
+    second: &[u8],
+    chain: &mut [u8],
+    work: &mut [u8],
+) -> Matched
+    ensures { λ r. ⌜ Comparison (now (pack .entry)) (now (first .entry)) (now (second .entry)) (now (chain .entry)) (now (work .entry)) (now (chain .exit)) (now (work .exit)) r ⌝ }
+{
+    let p = read_contents(pack);
+    let sizes = p.sizes;
+    let answer = p.answer;
+    match check_under(answer, p.characters, &sizes[..p.fluents], first) {
+        Number::Refused(k, at) => Matched::Refused(k, at),
+        Number::Is(n, _) => {
+            let nodes = check_chart(second, p.characters, &sizes[..p.fluents]);
+            let enough = both_at_most(62, chain.len(), WORK_ROOM, work.len());
+            match check_lent(nodes, enough, true) {
+                Number::Refused(k, at) => Matched::Refused(k, at),
+                Number::Is(m, _) => {
+                    match_charts(first, n, second, m, p.fluents, p.characters, chain, work)
+                }
+            }
+        }
+    }
+}

@@ -1,0 +1,170 @@
+// Pairs of rows met breadth first from one pair on, each once, until one is found whose rows have other values: the way back from there is the chain.
+use crate::bytes::clear;
+use crate::values::first_other;
+use pack::number::wide;
+ghost use mathlib.Core.Path.{_≡_};
+ghost use Prim.Native.Nat.{_+_, _*_, _<_, _≤_};
+ghost use lib.ListN.{length, getD};
+ghost use Rattle.chart.specs.Inner.Numbers.{Sound};
+ghost use Rattle.chart.specs.Inner.Level.{Agrees, SameByte};
+ghost use Rattle.chart.specs.Inner.Pairs.{markAt, Paired, PairsIn, PairMet, FirstMet, Followed, Sought, Ways, Writable, LongWay, WayWritten};
+
+// Meets the pair of rows x and y, from entry `from` by character d, where `count` have been met: if it is new, it is marked, and an entry more. How many are met then.
+pub fn meet(
+    work: &mut [u8],
+    m: usize,
+    q: usize,
+    count: usize,
+    x: usize,
+    y: usize,
+    from: usize,
+    d: usize,
+) -> usize
+    requires { ⌜ (x < 64) × (y < 64) × (from < 65536) × (d < 256) × (m + 4096 ≤ q) × (q ≤ length (now work)) ⌝ }
+    requires { ⌜ (markAt (now work) m x y ≡ 0 → q + count * 5 + 5 ≤ length (now work)) ⌝ }
+    ensures { λ r. ⌜ PairMet (now (work .entry)) (now (work .exit)) m q count x y from d r ⌝ }
+{
+    let mark = m + x * 64 + y;
+    if work[mark] != 0 {
+        return count;
+    }
+    work[mark] = 1;
+    let a = q + count * 5;
+    work[a] = x as u8;
+    work[a + 1] = y as u8;
+    work[a + 2] = (from / 256) as u8;
+    work[a + 3] = (from % 256) as u8;
+    work[a + 4] = d as u8;
+    count + 1
+}
+
+// The number of two bytes.
+pub fn of_bytes(high: u8, low: u8) -> usize
+    ensures { λ r. ⌜ r ≡ high * 256 + low ⌝ }
+{
+    (high as usize) * 256 + (low as usize)
+}
+
+// The entry that the one from a on was met from.
+pub fn met_from(work: &[u8], a: usize) -> usize
+    requires { ⌜ a + 5 ≤ length (now work) ⌝ }
+    ensures { λ r. ⌜ r ≡ getD (now (work .entry)) (a + 2) 0 * 256 + getD (now (work .entry)) (a + 3) 0 ⌝ }
+{
+    of_bytes(work[a + 2], work[a + 3])
+}
+
+// Meets the pair of rows x and y, where none is met yet.
+pub fn meet_first(work: &mut [u8], m: usize, q: usize, x: usize, y: usize)
+    requires { ⌜ (x < 64) × (y < 64) × (m + 4096 ≤ q) × (q + 5 ≤ length (now work)) ⌝ }
+    ensures { λ _. ⌜ FirstMet (now (work .entry)) (now (work .exit)) m q x y ⌝ }
+{
+    clear(work, m, 4096);
+    meet(work, m, q, 0, x, y, 0, 0);
+}
+
+// Meets the pairs that the characters lead to from that of entry `done`, where `count` have been met; how many are met then.
+pub fn meet_beliefs(
+    work: &mut [u8],
+    n: usize,
+    w: usize,
+    f: usize,
+    c: usize,
+    t: usize,
+    m: usize,
+    q: usize,
+    done: usize,
+    count: usize,
+) -> usize
+    requires { ⌜ Paired (now work) n w f c t m q × Sound (now work) n w f c t × (done < count) ⌝ }
+    requires { ⌜ PairsIn (now work) n w f c t m q count done 0 ⌝ }
+    ensures { λ r. ⌜ Followed (now (work .entry)) (now (work .exit)) n w f c t m q done count r ⌝ }
+{
+    let e = q + done * 5;
+    let a = t + wide(work[e]) * w + f;
+    let b = t + wide(work[e + 1]) * w + f;
+    let mut met = count;
+    let mut d = 0;
+    while d < c {
+        let x = wide(work[a + d]);
+        let y = wide(work[b + d]);
+        met = meet(work, m, q, met, x, y, done, d);
+        d += 1;
+    }
+    met
+}
+
+// The first of the f values that is another in the two rows of the entry from e on; f where all are the same.
+pub fn other_value(work: &[u8], w: usize, f: usize, t: usize, e: usize) -> usize
+    requires { ⌜ (e + 2 ≤ length (now work)) × (t + getD (now work) e 0 * w + f ≤ length (now work)) × (t + getD (now work) (e + 1) 0 * w + f ≤ length (now work)) ⌝ }
+    ensures { λ r. ⌜ Agrees (SameByte (now (work .entry)) (t + getD (now (work .entry)) e 0 * w) (t + getD (now (work .entry)) (e + 1) 0 * w)) f r ⌝ }
+{
+    let x = wide(work[e]);
+    let y = wide(work[e + 1]);
+    first_other(work, t + x * w, t + y * w, f)
+}
+
+// Goes through the pairs in the order met, and meets those that they lead to, up to the first whose rows have other values: its entry, or 4096 where there is none.
+pub fn seek(
+    work: &mut [u8],
+    n: usize,
+    w: usize,
+    f: usize,
+    c: usize,
+    t: usize,
+    m: usize,
+    q: usize,
+) -> usize
+    requires { ⌜ Paired (now work) n w f c t m q × Sound (now work) n w f c t ⌝ }
+    requires { ⌜ PairsIn (now work) n w f c t m q 1 0 0 ⌝ }
+    ensures { λ k. ⌜ Sought (now (work .entry)) (now (work .exit)) n w f c t m q k ⌝ }
+{
+    let mut count = 1;
+    let mut done = 0;
+    while done < count {
+        if other_value(work, w, f, t, q + done * 5) < f {
+            return done;
+        }
+        count = meet_beliefs(work, n, w, f, c, t, m, q, done, count);
+        done += 1;
+    }
+    4096
+}
+
+// How many characters lead to entry e.
+pub fn way_length(work: &[u8], q: usize, e: usize) -> usize
+    requires { ⌜ Ways (now work) q e ⌝ }
+    ensures { λ k. ⌜ LongWay (now (work .entry)) q e k ⌝ }
+{
+    let mut at = e;
+    let mut k = 0;
+    while at != 0 {
+        at = met_from(work, q + at * 5);
+        k += 1;
+    }
+    k
+}
+
+// Writes the k characters that lead to entry e.
+pub fn write_way(work: &[u8], q: usize, e: usize, k: usize, chain: &mut [u8])
+    requires { ⌜ Ways (now work) q e ⌝ }
+    requires { ⌜ LongWay (now work) q e k × (k ≤ length (now chain)) ⌝ }
+    ensures { λ _. ⌜ WayWritten (now (work .entry)) (now (chain .entry)) (now (chain .exit)) q e k ⌝ }
+{
+    let mut at = e;
+    let mut i = k;
+    while at != 0 {
+        i -= 1;
+        chain[i] = work[q + at * 5 + 4];
+        at = met_from(work, q + at * 5);
+    }
+}
+
+// Writes the chain that leads to entry e; its length.
+pub fn write_chain(work: &[u8], q: usize, e: usize, chain: &mut [u8]) -> usize
+    requires { ⌜ Writable (now work) (now chain) q e ⌝ }
+    ensures { λ k. ⌜ LongWay (now (work .entry)) q e k × WayWritten (now (work .entry)) (now (chain .entry)) (now (chain .exit)) q e k ⌝ }
+{
+    let k = way_length(work, q, e);
+    write_way(work, q, e, k, chain);
+    k
+}

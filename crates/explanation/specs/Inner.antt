@@ -1,4 +1,0 @@
--- What the functions inside this layer promise each other; no public promise cites these.
-pub mod Lists
-pub mod Memory
-pub mod Explain

@@ -1,0 +1,25 @@
+-- The values come first, the beliefs behind them. Assumes nothing.
+use native.Mathlib.Omega.{arith}
+use mathlib.Core.Path.{_∙_}
+use Rattle.pack.proofs.Copying.{node-bytes, row-values, row-beliefs, row-ends, row-copied}
+use Rattle.pack.proofs.copy.copy_row.Statement.{statement}
+use Rattle.pack.proofs.copy.copy_row.Tie as tie
+
+pub copy-row-spec : {M : Type 1} → statement M
+copy-row-spec =
+    tie.close
+    (tie.spec
+    (λ c κs.
+    let start = c .before .before .before in
+    row-values _ _ _ _ _ _ (start .args .buffer .now) (start .args .to) (node-bytes (start .pre .dimensions) (start .args .fluents) (start .args .characters) (start .pre .sized) (start .pre .nodes) (start .pre .few) (start .args .s .now) (start .args .from) (start .pre .value) (start .pre .end) (start .pre .reads)) (start .pre .room))
+    (λ c.
+    let start = c .before .before .before .before .before .before in
+    omega (arith, row-ends (start .args .s .now) (start .args .from) (start .args .fluents) (start .args .characters) _ _ 18446744073709551615 (node-bytes (start .pre .dimensions) (start .args .fluents) (start .args .characters) (start .pre .sized) (start .pre .nodes) (start .pre .few) (start .args .s .now) (start .args .from) (start .pre .value) (start .pre .end) (start .pre .reads)) (omega arith) (omega arith) .0))
+    (λ c. omega (arith, c .before .before .before .before .before .before .before .pre .room))
+    (λ c κs.
+    let start = c .before .before .before .before .before .before .before in
+    row-beliefs _ _ _ _ _ _ (c .before .before .before .copy-bytes .last .1 .1 .0) (start .args .to) (node-bytes (start .pre .dimensions) (start .args .fluents) (start .args .characters) (start .pre .sized) (start .pre .nodes) (start .pre .few) (start .args .s .now) (start .args .from) (start .pre .value) (start .pre .end) (start .pre .reads)) (omega (arith, start .pre .room, c .before .before .before .copy-bytes .ensures .only .long)))
+    (λ c. c .before .before .copy-bytes2 .ensures .only .long ∙ c .before .before .before .before .before .before .copy-bytes .ensures .only .long)
+    (λ c.
+    let start = c .before .before .before .before .before .before .before .before .before .before in
+    row-copied (start .args .s .now) (start .args .from) (start .args .buffer .now) (c .before .before .before .before .before .before .copy-bytes .last .1 .1 .0) (c .before .before .copy-bytes2 .last .1 .1 .0) (start .args .to) (start .args .fluents) (start .args .characters) (c .before .before .before .before .before .before .copy-bytes .ensures) (c .before .before .copy-bytes2 .ensures)))

@@ -1,0 +1,70 @@
+-- What is left says of the state what the whole says. Assumes nothing.
+use borrow.Author.Needs.{needs}
+use native.Mathlib.Omega.{arith}
+use Prim.Native.Nat.{ℕ}
+use mathlib.Core.Path.{_≡_, refl, sym, _∙_}
+use mathlib.Core.List.{List}
+use Rattle.pack.specs.Table.{stateOf}
+use Rattle.pack.specs.Judge.{alternativeAt, Over}
+use Rattle.pack.specs.Condition.{allPass}
+use Rattle.pack.specs.Grammar.{Dimensions, testAt}
+use Rattle.pack.specs.Syntax.{Test}
+use Rattle.pack.specs.Reading.{done}
+use Rattle.pack.proofs.Judging.{Left, left-start, left-one, left-next, left-none, counted-starts, all-next, all-fails, all-none, test-ends}
+use Rattle.pack.proofs.judge.all_pass.Statement.{statement}
+use Rattle.pack.proofs.judge.all_pass.Tie as tie
+
+abbrev Inv-loop : tie.InvT-loop
+Inv-loop s at buffer t node n₀ left₀ n left =
+    (d : Dimensions) → Over d t → (xs : List Test) (end : ℕ) → alternativeAt d s at ≡ done xs end → Left (testAt d) s n left (allPass (stateOf t buffer node)) xs end
+
+abbrev μ-loop : tie.MeasureT-loop
+μ-loop s at buffer t node n₀ left₀ n left = left
+
+pub all-pass-spec : {M : Type 1} → statement M
+all-pass-spec =
+    tie.close
+    (tie.spec
+    Inv-loop
+    μ-loop
+    (λ c.
+    let start = c .before .before in
+    omega (arith, counted-starts 9 (testAt (start .pre .dimensions)) (start .args .s .now) (start .args .at) (start .pre .value) (start .pre .end) (omega arith) (start .pre .reads) _ refl .1))
+    (λ c.
+    let start = c .before .before .before in
+    counted-starts 9 (testAt (start .pre .dimensions)) (start .args .s .now) (start .args .at) (start .pre .value) (start .pre .end) (omega arith) (start .pre .reads) _ refl .1)
+    (λ c κs. search needs)
+    (λ c.
+    let start = c .before .before .before .before in
+    λ d over xs end e. left-start _ _ _ _ _ _ _ (counted-starts 9 (testAt d) (start .args .s .now) (start .args .at) xs end (omega arith) e _ (c .wide .ensures) .0))
+    (λ c κs.
+    let start = c .before .before .before .before .before .before in
+    let x = (left-one _ _ _ _ _ _ _ (c .before .loop .inv (start .pre .dimensions) (start .pre .over) (start .pre .value) (start .pre .end) (start .pre .reads)) (c .loop-test .taken)) in
+    record { table = start .pre .table; there = start .pre .there; dimensions = (start .pre .dimensions); over = start .pre .over; value = x .item; end = x .place; reads = x .here })
+    (λ c.
+    let start = c .before .before .before .before .before .before .before .before in
+    let turn = c .before .before .before in
+    omega (arith, test-ends (start .pre .dimensions) (start .pre .over .small) (start .args .s .now) (turn .loop .n) ((left-one _ _ _ _ _ _ _ (turn .loop .inv (start .pre .dimensions) (start .pre .over) (start .pre .value) (start .pre .end) (start .pre .reads)) (c .before .before .loop-test .taken)) .item) ((left-one _ _ _ _ _ _ _ (turn .loop .inv (start .pre .dimensions) (start .pre .over) (start .pre .value) (start .pre .end) (start .pre .reads)) (c .before .before .loop-test .taken)) .place) ((left-one _ _ _ _ _ _ _ (turn .loop .inv (start .pre .dimensions) (start .pre .over) (start .pre .value) (start .pre .end) (start .pre .reads)) (c .before .before .loop-test .taken)) .here) _ refl .1))
+    (λ c.
+    let start = c .before .before .before .before .before .before .before .before .before in
+    let turn = c .before .before .before .before in
+    omega (arith, test-ends (start .pre .dimensions) (start .pre .over .small) (start .args .s .now) (turn .loop .n) ((left-one _ _ _ _ _ _ _ (turn .loop .inv (start .pre .dimensions) (start .pre .over) (start .pre .value) (start .pre .end) (start .pre .reads)) (c .before .before .before .loop-test .taken)) .item) ((left-one _ _ _ _ _ _ _ (turn .loop .inv (start .pre .dimensions) (start .pre .over) (start .pre .value) (start .pre .end) (start .pre .reads)) (c .before .before .before .loop-test .taken)) .place) ((left-one _ _ _ _ _ _ _ (turn .loop .inv (start .pre .dimensions) (start .pre .over) (start .pre .value) (start .pre .end) (start .pre .reads)) (c .before .before .before .loop-test .taken)) .here) _ refl .1))
+    (λ c κs. search needs)
+    (λ c.
+    let start = c .before .before .before .before .before .before .before .before .before .before in
+    let turn = c .before .before .before .before .before in
+    omega (arith, test-ends (start .pre .dimensions) (start .pre .over .small) (start .args .s .now) (turn .loop .n) ((left-one _ _ _ _ _ _ _ (turn .loop .inv (start .pre .dimensions) (start .pre .over) (start .pre .value) (start .pre .end) (start .pre .reads)) (c .before .before .before .before .loop-test .taken)) .item) ((left-one _ _ _ _ _ _ _ (turn .loop .inv (start .pre .dimensions) (start .pre .over) (start .pre .value) (start .pre .end) (start .pre .reads)) (c .before .before .before .before .loop-test .taken)) .place) ((left-one _ _ _ _ _ _ _ (turn .loop .inv (start .pre .dimensions) (start .pre .over) (start .pre .value) (start .pre .end) (start .pre .reads)) (c .before .before .before .before .loop-test .taken)) .here) (c .wide2 .result) (c .wide2 .ensures) .1))
+    (λ c. search needs)
+    (λ c. search needs)
+    (λ c.
+    let start = c .before .before .before .before .before .before .before .before .before .before in
+    let turn = c .before .before .before .before .before in
+    λ d over xs end e. let x = left-one _ _ _ _ _ _ _ (turn .loop .inv d over xs end e) (c .before .before .before .before .loop-test .taken) in
+    left-next _ _ _ _ _ _ _ x _ (test-ends d (over .small) (start .args .s .now) (turn .loop .n) (x .item) (x .place) (x .here) _ (c .wide2 .ensures) .0) (all-next (stateOf (start .args .t) (start .args .buffer .now) (start .args .node)) (x .item) (x .rest) (sym (c .before .before .before .passes .ensures d over (x .item) (x .place) (x .here)) ∙ c .before .before .if1 .taken)))
+    (λ c.
+    let start = c .before .before .before .before .before .before .before .before in
+    λ d over xs end e. let x = left-one _ _ _ _ _ _ _ (c .before .before .before .loop .inv d over xs end e) (c .before .before .loop-test .taken) in
+    sym (x .same ∙ all-fails (stateOf (start .args .t) (start .args .buffer .now) (start .args .node)) (x .item) (x .rest) (sym (c .before .passes .ensures d over (x .item) (x .place) (x .here)) ∙ c .if1 .left)))
+    (λ c.
+    let start = c .before .before .before .before .before .before in
+    λ d over xs end e. sym (left-none _ _ _ _ _ _ _ (c .before .loop .inv d over xs end e) (c .loop-test .left) ∙ all-none (stateOf (start .args .t) (start .args .buffer .now) (start .args .node)))))

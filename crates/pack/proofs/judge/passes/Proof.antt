@@ -1,0 +1,90 @@
+-- The bytes of the test are compared where the chain leads. Assumes nothing.
+use borrow.Author.Needs.{needs}
+use native.Mathlib.Omega.{arith}
+use Prim.Native.Nat.{_+_, _*_}
+use mathlib.Core.Path.{sym, ap, _∙_}
+use lib.ListN.{getD}
+use Rattle.pack.specs.Condition.{compares}
+use Rattle.pack.specs.Grammar.{kindOf}
+use Rattle.pack.proofs.Tables.{cell-in}
+use Rattle.pack.proofs.OneByte.{test-bytes, test-in}
+use Rattle.pack.proofs.Judging.{passes-by}
+use Rattle.pack.proofs.judge.passes.Statement.{statement}
+use Rattle.pack.proofs.judge.passes.Tie as tie
+
+pub passes-spec : {M : Type 1} → statement M
+unfolding compares
+passes-spec =
+    tie.close
+    (tie.spec
+    (λ c.
+    let start = c .before .before .before in
+    omega (arith, test-bytes (start .pre .dimensions) (start .pre .over .small) (start .args .s .now) (start .args .at) (start .pre .value) (start .pre .end) (start .pre .reads) .inside))
+    (λ c κs. search needs)
+    (λ c.
+    let start = c .before .before .before .before in
+    omega (arith, test-in (start .pre .dimensions) (start .args .t .characters) (start .args .t .fluents) (start .pre .over .small) (start .pre .over .characters) (start .pre .over .fluents) (start .args .s .now) (start .args .at) (start .pre .value) (start .pre .end) (start .pre .reads) (c .wide .result) (c .wide .ensures) .inside))
+    (λ c κs.
+    let start = c .before .before .before .before in
+    let i = test-in (start .pre .dimensions) (start .args .t .characters) (start .args .t .fluents) (start .pre .over .small) (start .pre .over .characters) (start .pre .over .fluents) (start .args .s .now) (start .args .at) (start .pre .value) (start .pre .end) (start .pre .reads) (c .wide .result) (c .wide .ensures) in
+    (start .pre .table, start .pre .there, omega arith, i .valid))
+    (λ c.
+    let start = c .before .before .before .before .before in
+    omega (arith, test-in (start .pre .dimensions) (start .args .t .characters) (start .args .t .fluents) (start .pre .over .small) (start .pre .over .characters) (start .pre .over .fluents) (start .args .s .now) (start .args .at) (start .pre .value) (start .pre .end) (start .pre .reads) (c .before .wide .result) (c .before .wide .ensures) .inside))
+    (λ c.
+    let start = c .before .before .before .before .before in
+    omega (arith, test-in (start .pre .dimensions) (start .args .t .characters) (start .args .t .fluents) (start .pre .over .small) (start .pre .over .characters) (start .pre .over .fluents) (start .args .s .now) (start .args .at) (start .pre .value) (start .pre .end) (start .pre .reads) (c .before .wide .result) (c .before .wide .ensures) .inside))
+    (λ c.
+    let start = c .before .before .before .before .before .before in
+    omega (
+      arith,
+      (let i = test-in (start .pre .dimensions) (start .args .t .characters) (start .args .t .fluents) (start .pre .over .small) (start .pre .over .characters) (start .pre .over .fluents) (start .args .s .now) (start .args .at) (start .pre .value) (start .pre .end) (start .pre .reads) (c .before .before .wide .result) (c .before .before .wide .ensures) in
+          let w = start .pre .table .wide in
+          cell-in (start .args .t) (start .args .buffer .now) (start .pre .table) (c .before .follow .result) (getD (start .args .s .now) ((((start .args .at) + 1) + (c .before .before .wide .result)) + 1) 0) (c .before .follow .ensures .1) (omega arith)),
+    ))
+    (λ c.
+    let start = c .before .before .before .before .before .before .before in
+    omega (
+      arith,
+      (let i = test-in (start .pre .dimensions) (start .args .t .characters) (start .args .t .fluents) (start .pre .over .small) (start .pre .over .characters) (start .pre .over .fluents) (start .args .s .now) (start .args .at) (start .pre .value) (start .pre .end) (start .pre .reads) (c .before .before .before .wide .result) (c .before .before .before .wide .ensures) in
+          let w = start .pre .table .wide in
+          cell-in (start .args .t) (start .args .buffer .now) (start .pre .table) (c .before .before .follow .result) (getD (start .args .s .now) ((((start .args .at) + 1) + (c .before .before .before .wide .result)) + 1) 0) (c .before .before .follow .ensures .1) (omega arith)),
+    ))
+    (λ c.
+    let start = c .before .before .before .before .before .before .before .before in
+    omega (arith, test-in (start .pre .dimensions) (start .args .t .characters) (start .args .t .fluents) (start .pre .over .small) (start .pre .over .characters) (start .pre .over .fluents) (start .args .s .now) (start .args .at) (start .pre .value) (start .pre .end) (start .pre .reads) (c .before .before .before .before .wide .result) (c .before .before .before .before .wide .ensures) .inside))
+    (λ c.
+    let start = c .before .before .before .before .before .before .before .before in
+    omega (arith, test-in (start .pre .dimensions) (start .args .t .characters) (start .args .t .fluents) (start .pre .over .small) (start .pre .over .characters) (start .pre .over .fluents) (start .args .s .now) (start .args .at) (start .pre .value) (start .pre .end) (start .pre .reads) (c .before .before .before .before .wide .result) (c .before .before .before .before .wide .ensures) .inside))
+    (λ c.
+    let start = c .before .before .before .before .before .before .before .before .before in
+    omega (arith, test-in (start .pre .dimensions) (start .args .t .characters) (start .args .t .fluents) (start .pre .over .small) (start .pre .over .characters) (start .pre .over .fluents) (start .args .s .now) (start .args .at) (start .pre .value) (start .pre .end) (start .pre .reads) (c .before .before .before .before .before .wide .result) (c .before .before .before .before .before .wide .ensures) .inside))
+    (λ c κs. search needs)
+    (λ c.
+    let start = c .before .before .before .before .before .before .before .before .before .before in
+    omega (
+      arith,
+      (let i = test-in (start .pre .dimensions) (start .args .t .characters) (start .args .t .fluents) (start .pre .over .small) (start .pre .over .characters) (start .pre .over .fluents) (start .args .s .now) (start .args .at) (start .pre .value) (start .pre .end) (start .pre .reads) (c .before .before .before .before .before .before .wide .result) (c .before .before .before .before .before .before .wide .ensures) in
+          let w = start .pre .table .wide in
+          cell-in (start .args .t) (start .args .buffer .now) (start .pre .table) (c .before .before .before .before .before .follow .result) (getD (start .args .s .now) ((((start .args .at) + 1) + (c .before .before .before .before .before .before .wide .result)) + 1) 0) (c .before .before .before .before .before .follow .ensures .1) (omega arith)),
+      c .wide2 .ensures,
+    ))
+    (λ c.
+    let start = c .before .before .before .before .before .before .before .before .before .before .before in
+    omega (
+      arith,
+      (let i = test-in (start .pre .dimensions) (start .args .t .characters) (start .args .t .fluents) (start .pre .over .small) (start .pre .over .characters) (start .pre .over .fluents) (start .args .s .now) (start .args .at) (start .pre .value) (start .pre .end) (start .pre .reads) (c .before .before .before .before .before .before .before .wide .result) (c .before .before .before .before .before .before .before .wide .ensures) in
+          let w = start .pre .table .wide in
+          cell-in (start .args .t) (start .args .buffer .now) (start .pre .table) (c .before .before .before .before .before .before .follow .result) (getD (start .args .s .now) ((((start .args .at) + 1) + (c .before .before .before .before .before .before .before .wide .result)) + 1) 0) (c .before .before .before .before .before .before .follow .ensures .1) (omega arith)),
+      c .before .wide2 .ensures,
+    ))
+    (λ c.
+    let start = c .before .before .before .before .before .before .before .before .before .before .before in
+    omega (arith, test-in (start .pre .dimensions) (start .args .t .characters) (start .args .t .fluents) (start .pre .over .small) (start .pre .over .characters) (start .pre .over .fluents) (start .args .s .now) (start .args .at) (start .pre .value) (start .pre .end) (start .pre .reads) (c .before .before .before .before .before .before .before .wide .result) (c .before .before .before .before .before .before .before .wide .ensures) .inside))
+    (λ c.
+    let start = c .before .before .before .before .before .before .before .before .before .before .before .before in
+    omega (arith, test-in (start .pre .dimensions) (start .args .t .characters) (start .args .t .fluents) (start .pre .over .small) (start .pre .over .characters) (start .pre .over .fluents) (start .args .s .now) (start .args .at) (start .pre .value) (start .pre .end) (start .pre .reads) (c .before .before .before .before .before .before .before .before .wide .result) (c .before .before .before .before .before .before .before .before .wide .ensures) .inside))
+    (λ c κs. search needs)
+    (λ c.
+    let start = c .before .before .before .before .before .before .before .before .before .before .before .before .before in
+    λ d over x n e. c .compare .ensures ∙ ap (λ k. compares (kindOf (getD (start .args .s .now) (((start .args .at) + 1) + (c .before .before .before .before .before .before .before .before .before .wide .result)) 0)) (getD (start .args .buffer .now) ((start .args .t .rows + c .before .before .before .before .before .before .before .before .follow .result * start .args .t .width) + k) 0) (getD (start .args .s .now) ((((start .args .at) + 1) + (c .before .before .before .before .before .before .before .before .before .wide .result)) + 2) 0)) (sym (c .before .before .before .wide2 .ensures)) ∙ sym (passes-by (start .args .t) (start .args .buffer .now) (start .args .node) d over (start .args .s .now) (start .args .at) x n e (c .before .before .before .before .before .before .before .before .before .wide .result) (c .before .before .before .before .before .before .before .before .follow .result) (c .before .before .before .before .before .before .before .before .before .wide .ensures) (c .before .before .before .before .before .before .before .before .follow .ensures .0) (c .before .before .before .before .before .before .before .before .follow .ensures .1))))

@@ -1,4 +1,0 @@
-pub mod States
-pub mod Chart
-pub mod Laws
-pub mod Inner

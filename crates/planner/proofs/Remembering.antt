@@ -1,0 +1,659 @@
+-- The memory: what is read from it is true, and what is put down leaves it so. Assumes nothing.
+use Prim.Native.Nat.{ℕ, _+_, _*_, _-_, _/_, _%_, _<_, _≤_}
+use mathlib.Core.Path.{_≡_, refl, sym, ap, _∙_, subst}
+use mathlib.Core.Bool.{Bool, true, false}
+use mathlib.Core.Logic.{_≢_, _⊎_, inl, inr, ⊎-elim, by-cases}
+use mathlib.Core.List.{List}
+use native.Mathlib.Decide.{ℕ-discrete, decLe}
+use native.Mathlib.Nat.{mul-comm, zero-mul, div-add-mod, mod-lt}
+use native.Mathlib.Omega.{arith}
+use lib.ListN.{length, getD, set, length-set}
+use lib.Seq.{getD-set-same, getD-set-other}
+use Rattle.pack.specs.Syntax.{Node, Theory}
+use Rattle.pack.specs.State.{State, meaning}
+use Rattle.pack.specs.Reading.{pick}
+use Rattle.pack.specs.Table.{rowsAt, tableOf, stateOf}
+use Rattle.pack.specs.declared.table.Table.{Table}
+use Rattle.chart.specs.Chart.{Starts}
+use Rattle.transition.specs.Happening.{Plays}
+use Rattle.chart.specs.Call.{workRoom}
+use Rattle.chart.specs.Inner.Put.{Cleared, PartCopied}
+use Rattle.chart.specs.Inner.Level.{Agrees, SameByte}
+use Rattle.chart.proofs.Cells.{rows-same, row-in, rows-most}
+use Rattle.planner.specs.declared.memory.Shape.{Shape}
+use Rattle.planner.specs.declared.fact.Key.{Key}
+use Rattle.planner.specs.Inner.Lists.{slotTable}
+use Rattle.planner.specs.Inner.Memory.{memoryAt, takenAt, stepsAt, factsAt, tablesAt, keptAt, keptTable, Kept, Named, StepFact, Fact, keyAt, SlotEntry, StepEntry, FactEntry, Memory, Place, Before, InSlot, Only, Stored, Naming, Storable, KeyPut, Recalled, Remembered, StepRead, StepPut, Noted, Slot, Again, LeftNoted}
+
+-- a mark that says nothing
+pub fact-none : (th : Theory) (K : ℕ) (k : Key) (s : ℕ → State) → Fact th K 0 k s
+fact-none th K k s = record { no = λ e. absurd (omega (arith, e)); yes = λ e. absurd (omega (arith, e)); none = λ e. absurd (omega (arith, e)); unexplained = λ e. absurd (omega (arith, e)); explained = λ e. absurd (omega (arith, e)) }
+
+-- a flag that is not set
+pub unset : {A : Type 0} → false ≡ true → A
+unset e = let z : _≡_ {A = ℕ} 0 1 = ap (λ (b : Bool). pick b 1 0) e in absurd (omega arith)
+
+-- keys of the same numbers
+pub key-same : {w w′ n n′ l l′ b b′ : ℕ} → w ≡ w′ → n ≡ n′ → l ≡ l′ → b ≡ b′ → _≡_ {A = Key} (record { who = w; nesting = n; left = l; base = b }) (record { who = w′; nesting = n′; left = l′; base = b′ })
+key-same e f g h = λ j. record { who = e j; nesting = f j; left = g j; base = h j }
+
+-- six bytes put down
+module _ (was : List ℕ) (a m w n l b : ℕ) (room : a + 6 ≤ length was) where
+  abbrev s1 : List ℕ
+  s1 = set was a m
+
+  abbrev s2 : List ℕ
+  s2 = set s1 (a + 1) w
+
+  abbrev s3 : List ℕ
+  s3 = set s2 (a + 2) n
+
+  abbrev s4 : List ℕ
+  s4 = set s3 (a + 3) l
+
+  abbrev s5 : List ℕ
+  s5 = set s4 (a + 4) (b % 256)
+
+  abbrev s6 : List ℕ
+  s6 = set s5 (a + 5) (b / 256)
+
+  pub long2 : length s2 ≡ length was
+  long2 = length-set s1 (a + 1) w ∙ length-set was a m
+
+  pub long4 : length s4 ≡ length was
+  long4 = length-set s3 (a + 3) l ∙ length-set s2 (a + 2) n ∙ long2
+
+  -- later ones leave an earlier one
+  from5 : (q : ℕ) → q ≢ a + 4 → q ≢ a + 5 → getD s6 q 0 ≡ getD s4 q 0
+  from5 q x y = getD-set-other s5 (a + 5) q (b / 256) 0 y ∙ getD-set-other s4 (a + 4) q (b % 256) 0 x
+
+  from3 : (q : ℕ) → q ≢ a + 2 → q ≢ a + 3 → getD s4 q 0 ≡ getD s2 q 0
+  from3 q x y = getD-set-other s3 (a + 3) q l 0 y ∙ getD-set-other s2 (a + 2) q n 0 x
+
+  from1 : (q : ℕ) → q ≢ a → q ≢ a + 1 → getD s2 q 0 ≡ getD was q 0
+  from1 q x y = getD-set-other s1 (a + 1) q w 0 y ∙ getD-set-other was a q m 0 x
+
+  whole : b % 256 + 256 * (b / 256) ≡ b
+  whole = omega (arith, div-add-mod b 256)
+
+  pub key-put : KeyPut was s6 a m (record { who = w; nesting = n; left = l; base = b })
+  key-put = record {
+    marked = from5 a (λ e. omega (arith, e)) (λ e. omega (arith, e)) ∙ from3 a (λ e. omega (arith, e)) (λ e. omega (arith, e)) ∙ getD-set-other s1 (a + 1) a w 0 (λ e. omega (arith, e)) ∙ getD-set-same was a m 0 (omega arith);
+    key = key-same
+        (from5 (a + 1) (λ e. omega (arith, e)) (λ e. omega (arith, e)) ∙ from3 (a + 1) (λ e. omega (arith, e)) (λ e. omega (arith, e)) ∙ getD-set-same s1 (a + 1) w 0 (omega (arith, length-set was a m)))
+        (from5 (a + 2) (λ e. omega (arith, e)) (λ e. omega (arith, e)) ∙ getD-set-other s3 (a + 3) (a + 2) l 0 (λ e. omega (arith, e)) ∙ getD-set-same s2 (a + 2) n 0 (omega (arith, long2)))
+        (from5 (a + 3) (λ e. omega (arith, e)) (λ e. omega (arith, e)) ∙ getD-set-same s3 (a + 3) l 0 (omega (arith, long2, length-set s2 (a + 2) n)))
+        (let low = getD-set-other s5 (a + 5) (a + 4) (b / 256) 0 (λ e. omega (arith, e)) ∙ getD-set-same s4 (a + 4) (b % 256) 0 (omega (arith, long4)) in
+        let high = getD-set-same s5 (a + 5) (b / 256) 0 (omega (arith, long4, length-set s4 (a + 4) (b % 256))) in
+        omega (arith, low, high, whole));
+    low = λ q g. from5 q (λ e. omega (arith, e)) (λ e. omega (arith, e)) ∙ from3 q (λ e. omega (arith, e)) (λ e. omega (arith, e)) ∙ from1 q (λ e. omega (arith, e)) (λ e. omega (arith, e));
+    high = λ q g. from5 q (λ e. omega (arith, e)) (λ e. omega (arith, e)) ∙ from3 q (λ e. omega (arith, e)) (λ e. omega (arith, e)) ∙ from1 q (λ e. omega (arith, e)) (λ e. omega (arith, e));
+  }
+
+-- a fact of the same mark, key and state
+pub fact-same : (th : Theory) (K : ℕ) {m m′ : ℕ} {k k′ : Key} {s s′ : ℕ → State} → m ≡ m′ → k ≡ k′ → s ≡ s′ → Fact th K m k s → Fact th K m′ k′ s′
+fact-same th K {m} {m′} {k} {k′} {s} {s′} e f g x = subst (λ (m : ℕ). Fact th K m k′ s′) e (subst (λ (k : Key). Fact th K m k s′) f (subst (λ (s : ℕ → State). Fact th K m k s) g x))
+
+-- the states of all rows of a table
+pub row-states : (c : ℕ) {t u : List Node} → t ≡ u → _≡_ {A = ℕ → State} (λ root. meaning c t root) (λ root. meaning c u root)
+row-states c e = λ j. λ root. meaning c (e j) root
+
+-- names, steps and facts that are forgotten
+pub emptied : {was now : List ℕ} → Cleared was now memoryAt 2482 → (q : ℕ) → memoryAt ≤ q → q < tablesAt → getD now q 0 ≡ 0
+emptied {was} {now} x q low high = let y : q ≡ memoryAt + (q - memoryAt) = omega (arith, low) in ap (λ (q : ℕ). getD now q 0) y ∙ x .clear (q - memoryAt) (omega (arith, low, high))
+
+-- tables that are kept stay as they are
+pub record Grown (was now : List ℕ) : Type 0 where
+  pub taken : getD was takenAt 0 ≤ getD now takenAt 0
+  pub tables : (q : ℕ) → tablesAt ≤ q → q < tablesAt + 12 * getD was takenAt 0 → getD now q 0 ≡ getD was q 0
+
+-- only bytes of names, steps and facts change
+pub grown-by : {was now : List ℕ} → getD now takenAt 0 ≡ getD was takenAt 0 → ((q : ℕ) → tablesAt ≤ q → getD now q 0 ≡ getD was q 0) → Grown was now
+grown-by e f = record { taken = omega (arith, e); tables = λ q l g. f q l }
+
+module _ (h : Shape) where
+  abbrev w : ℕ
+  w = h .fluents + h .characters
+
+  -- tables of the same bytes
+  pub table-moved : (was now : List ℕ) (a b : ℕ) → ((i : ℕ) → i < 1 + getD was a 0 * w → getD now (b + i) 0 ≡ getD was (a + i) 0) → tableOf (slotTable h now b) now ≡ tableOf (slotTable h was a) was
+  table-moved was now a b f =
+      let x : b ≡ b + 0 = omega arith in
+      let y : a + 0 ≡ a = omega arith in
+      let count : getD now b 0 ≡ getD was a 0 = ap (λ (q : ℕ). getD now q 0) x ∙ f 0 (omega arith) ∙ ap (λ (q : ℕ). getD was q 0) y in
+      ap (λ (n : ℕ). rowsAt now w (h .fluents) (h .characters) (b + 1) n) count
+      ∙ rows-same was now w (h .fluents) (h .characters) (a + 1) (b + 1) (getD was a 0) (omega arith)
+      (λ q l. let x : b + 1 + q ≡ b + (1 + q) = omega arith in let y : a + (1 + q) ≡ a + 1 + q = omega arith in ap (λ (q : ℕ). getD now q 0) x ∙ f (1 + q) (omega arith) ∙ ap (λ (q : ℕ). getD was q 0) y)
+
+  pub state-moved : (was now : List ℕ) (a b : ℕ) → ((i : ℕ) → i < 1 + getD was a 0 * w → getD now (b + i) 0 ≡ getD was (a + i) 0) → stateOf (slotTable h now b) now 0 ≡ stateOf (slotTable h was a) was 0
+  state-moved was now a b f = ap (λ (T : List Node). meaning (h .characters) T 0) (table-moved was now a b f)
+
+  -- a table in a slot, as one of its fields
+  pub slot-table : {work : List ℕ} {t : Table} {limit : ℕ} → Before h work t → (x : InSlot work t limit) → tableOf (slotTable h work (961 * x .number)) work ≡ tableOf t work
+  slot-table {work} {t} b x =
+      let wide : w ≡ t .width = ap (λ (f : ℕ). f + h .characters) (b .fluents) ∙ ap (λ (c : ℕ). t .fluents + c) (b .characters) ∙ b .wide in
+      ap (λ (n : ℕ). rowsAt work w (h .fluents) (h .characters) (961 * x .number + 1) n) (x .counted)
+      ∙ ap (λ (a : ℕ). rowsAt work w (h .fluents) (h .characters) a (t .nodes)) (sym (x .rows))
+      ∙ ap (λ (f : ℕ). rowsAt work w f (h .characters) (t .rows) (t .nodes)) (b .fluents)
+      ∙ ap (λ (c : ℕ). rowsAt work w (t .fluents) c (t .rows) (t .nodes)) (b .characters)
+      ∙ ap (λ (k : ℕ). rowsAt work k (t .fluents) (t .characters) (t .rows) (t .nodes)) wide
+
+  -- a table before the memory stays where only the memory changes
+  pub before-same : {was : List ℕ} (now : List ℕ) {t : Table} → Before h was t → ((q : ℕ) → q < memoryAt → getD now q 0 ≡ getD was q 0) → tableOf t now ≡ tableOf t was
+  before-same {was} now {t} b low = rows-same was now (t .width) (t .fluents) (t .characters) (t .rows) (t .rows) (t .nodes) (omega (arith, b .wide)) (λ q l. low (t .rows + q) (omega (arith, b .before, l)))
+
+  module _ {was now : List ℕ} (g : Grown was now) where
+    kept-byte : {n : ℕ} → Kept h was n → (i : ℕ) → i < 1 + getD was (keptAt n) 0 * w → getD now (keptAt n + i) 0 ≡ getD was (keptAt n + i) 0
+    kept-byte {n} k i l = g .tables (keptAt n + i) (omega (arith, k .some)) (omega (arith, k .inside, l))
+
+    kept-count : {n : ℕ} → Kept h was n → getD now (keptAt n) 0 ≡ getD was (keptAt n) 0
+    kept-count {n} k = g .tables (keptAt n) (omega (arith, k .some)) (omega (arith, k .inside))
+
+    pub kept-grown : {n : ℕ} → Kept h was n → Kept h now n
+    kept-grown {n} k = record {
+      some = k .some;
+      few = omega (arith, kept-count k, k .few);
+      inside = subst (λ (c : ℕ). keptAt n + 1 + c * w ≤ tablesAt + 12 * getD now takenAt 0) (sym (kept-count k)) (omega (arith, k .inside, g .taken));
+    }
+
+    pub kept-table : {n : ℕ} → Kept h was n → tableOf (keptTable h now n) now ≡ tableOf (keptTable h was n) was
+    kept-table {n} k = table-moved was now (keptAt n) (keptAt n) (kept-byte k)
+
+    pub named-grown : {t t′ : Table} {n : ℕ} → t .nodes ≡ t′ .nodes → tableOf t′ now ≡ tableOf t was → Named h was t n → Named h now t′ n
+    named-grown c e x = record { kept = kept-grown (x .kept); count = kept-count (x .kept) ∙ x .count ∙ c; same = kept-table (x .kept) ∙ x .same ∙ sym e }
+
+    step-grown : {th : Theory} {n root a next : ℕ} → StepFact th h was n root a next → StepFact th h now n root a next
+    step-grown {th} {n} {root} {a} {next} f = record {
+      kept = kept-grown (f .kept);
+      none = λ z s plays. f .none z s (subst (λ (U : List Node). Plays th (meaning (h .characters) U root) a s) (kept-table (f .kept)) plays);
+      left = λ z. let (k, (s, plays, starts)) = f .left z in (
+        kept-grown k,
+        (s, subst (λ (U : List Node). Plays th (meaning (h .characters) U root) a s) (sym (kept-table (f .kept))) plays, subst (Starts (h .characters) s) (sym (kept-table k)) starts),
+      );
+    }
+
+    -- entries whose bytes stay
+    slot-entry : {limit : ℕ} → w ≤ 30 → ((q : ℕ) → q < limit → getD now q 0 ≡ getD was q 0) → (i : ℕ) → 961 * i + 961 ≤ limit → getD now (memoryAt + i) 0 ≡ getD was (memoryAt + i) 0 → SlotEntry h was i → SlotEntry h now i
+    slot-entry narrow low i l e f z =
+        let x = f (omega (arith, e, z)) in
+        let most = rows-most (x .kept .few) narrow in
+        let size : getD was (961 * i) 0 * w ≤ 960 = omega (arith, most, ap (λ (n : ℕ). n * w) (x .count)) in
+        subst (Named h now (slotTable h now (961 * i))) (sym e) (named-grown (sym (low (961 * i) (omega (arith, l)))) (table-moved was now (961 * i) (961 * i) (λ j m. low (961 * i + j) (omega (arith, l, m, size)))) x)
+
+    step-entry : {th : Theory} (a : ℕ) → ((q : ℕ) → a ≤ q → q < a + 4 → getD now q 0 ≡ getD was q 0) → StepEntry th h was a → StepEntry th h now a
+    step-entry {th} a e f z =
+        let e0 = e a (omega arith) (omega arith) in
+        let x = step-grown (f (omega (arith, e0, z))) in
+        subst (λ (k : ℕ). StepFact th h now k (getD now (a + 1) 0) (getD now (a + 2) 0) (getD now (a + 3) 0)) (sym e0)
+        (subst (λ (k : ℕ). StepFact th h now (getD was a 0) k (getD now (a + 2) 0) (getD now (a + 3) 0)) (sym (e (a + 1) (omega arith) (omega arith)))
+        (subst (λ (k : ℕ). StepFact th h now (getD was a 0) (getD was (a + 1) 0) k (getD now (a + 3) 0)) (sym (e (a + 2) (omega arith) (omega arith)))
+        (subst (λ (k : ℕ). StepFact th h now (getD was a 0) (getD was (a + 1) 0) (getD was (a + 2) 0) k) (sym (e (a + 3) (omega arith) (omega arith))) x)))
+
+    fact-entry : {th : Theory} {K : ℕ} (a : ℕ) → ((q : ℕ) → a ≤ q → q < a + 7 → getD now q 0 ≡ getD was q 0) → FactEntry th K h was a → FactEntry th K h now a
+    fact-entry {th} {K} a e f z =
+        let e6 = e (a + 6) (omega arith) (omega arith) in
+        let (k, x) = f (omega (arith, e6, z)) in
+        subst (λ (n : ℕ). Kept h now n × Fact th K (getD now a 0) (keyAt now a) (λ root. stateOf (keptTable h now n) now root)) (sym e6) (
+          kept-grown k,
+          fact-same th K (sym (e a (omega arith) (omega arith)))
+              (key-same (sym (e (a + 1) (omega arith) (omega arith))) (sym (e (a + 2) (omega arith) (omega arith))) (sym (e (a + 3) (omega arith) (omega arith))) (omega (arith, e (a + 4) (omega arith) (omega arith), e (a + 5) (omega arith) (omega arith))))
+              (row-states (h .characters) (sym (kept-table k))) x,
+        )
+
+    -- the memory where tables that are kept and all but some entries stay
+    pub memory-but : {th : Theory} {K limit : ℕ} → ((q : ℕ) → q < limit → getD now q 0 ≡ getD was q 0)
+        → ((i : ℕ) → 961 * i + 961 ≤ limit → (getD now (memoryAt + i) 0 ≡ getD was (memoryAt + i) 0) ⊎ SlotEntry h now i)
+        → ((i : ℕ) → i < 128 → ((q : ℕ) → stepsAt + 4 * i ≤ q → q < stepsAt + 4 * i + 4 → getD now q 0 ≡ getD was q 0) ⊎ StepEntry th h now (stepsAt + 4 * i))
+        → ((i : ℕ) → i < 256 → ((q : ℕ) → factsAt + 7 * i ≤ q → q < factsAt + 7 * i + 7 → getD now q 0 ≡ getD was q 0) ⊎ FactEntry th K h now (factsAt + 7 * i)) → Memory th K h limit was → Memory th K h limit now
+    memory-but low a b c m = record {
+      narrow = m .narrow;
+      slots = λ i l. ⊎-elim (λ e. slot-entry (m .narrow) low i l e (m .slots i l)) (λ x. x) (a i l);
+      steps = λ i l. ⊎-elim (λ e. step-entry (stepsAt + 4 * i) e (m .steps i l)) (λ x. x) (b i l);
+      facts = λ i l. ⊎-elim (λ e. fact-entry (factsAt + 7 * i) e (m .facts i l)) (λ x. x) (c i l);
+    }
+
+    -- entries all stay
+    pub memory-quiet : {th : Theory} {K limit : ℕ} → limit ≤ memoryAt → ((q : ℕ) → q < limit → getD now q 0 ≡ getD was q 0) → ((q : ℕ) → memoryAt ≤ q → q < takenAt → getD now q 0 ≡ getD was q 0) → ((q : ℕ) → stepsAt ≤ q → q < tablesAt → getD now q 0 ≡ getD was q 0) → Memory th K h limit was → Memory th K h limit now
+    memory-quiet few low names mid = memory-but low (λ i l. inl (names (memoryAt + i) (omega arith) (omega (arith, few, l)))) (λ i l. inl (λ q a b. mid q (omega (arith, a)) (omega (arith, b, l)))) (λ i l. inl (λ q a b. mid q (omega (arith, a)) (omega (arith, b, l))))
+
+  -- nothing is known
+  pub memory-clear : {th : Theory} {K limit : ℕ} {now : List ℕ} → w ≤ 30 → limit ≤ memoryAt → ((q : ℕ) → memoryAt ≤ q → q < tablesAt → getD now q 0 ≡ 0) → Memory th K h limit now
+  memory-clear narrow few f = record {
+    narrow = narrow;
+    slots = λ i l z. absurd (omega (arith, z, f (memoryAt + i) (omega arith) (omega (arith, few, l))));
+    steps = λ i l z. absurd (omega (arith, z, f (stepsAt + 4 * i) (omega arith) (omega (arith, l))));
+    facts = λ i l z. absurd (omega (arith, z, f (factsAt + 7 * i + 6) (omega arith) (omega (arith, l))));
+  }
+
+  -- fewer slots
+  pub memory-fewer : {th : Theory} {K limit limit′ : ℕ} {now : List ℕ} → limit′ ≤ limit → Memory th K h limit now → Memory th K h limit′ now
+  memory-fewer l m = record { narrow = m .narrow; slots = λ i g. m .slots i (omega (arith, l, g)); steps = m .steps; facts = m .facts }
+
+  module _ {t : Table} where
+    -- a table with the count and the bytes of the one that is kept
+    pub kept-as : {now : List ℕ} → Before h now t → (n : ℕ) → 0 < n → 12 * n + t .nodes * t .width ≤ 12 * getD now takenAt 0 + 11 → getD now (keptAt n) 0 ≡ t .nodes
+        → ((q : ℕ) → q < t .nodes * t .width → getD now (keptAt n + 1 + q) 0 ≡ getD now (t .rows + q) 0) → Named h now t n
+    kept-as {now} b n some inside count same =
+        let wide : w ≡ t .width = ap (λ (f : ℕ). f + h .characters) (b .fluents) ∙ ap (λ (c : ℕ). t .fluents + c) (b .characters) ∙ b .wide in
+        let size : getD now (keptAt n) 0 * w ≡ t .nodes * t .width = ap (λ (c : ℕ). c * w) count ∙ ap (λ (k : ℕ). t .nodes * k) wide in
+        record {
+          kept = record { some = some; few = omega (arith, count, b .few); inside = omega (arith, size, inside) };
+          count = count;
+          same = ap (λ (c : ℕ). rowsAt now w (h .fluents) (h .characters) (keptAt n + 1) c) count ∙ ap (λ (f : ℕ). rowsAt now w f (h .characters) (keptAt n + 1) (t .nodes)) (b .fluents) ∙ ap (λ (c : ℕ). rowsAt now w (t .fluents) c (keptAt n + 1) (t .nodes)) (b .characters)
+              ∙ ap (λ (k : ℕ). rowsAt now k (t .fluents) (t .characters) (keptAt n + 1) (t .nodes)) wide ∙ rows-same now now (t .width) (t .fluents) (t .characters) (t .rows) (keptAt n + 1) (t .nodes) (omega (arith, b .wide)) same;
+        }
+
+    pub table-size : {work : List ℕ} → Before h work t → t .nodes * t .width ≤ 960
+    table-size b = omega (arith, rows-most (b .few) (b .narrow))
+
+    pub before-now : {was now : List ℕ} → length now ≡ length was → Before h was t → Before h now t
+    before-now long b = record { fluents = b .fluents; characters = b .characters; wide = b .wide; narrow = b .narrow; few = b .few; before = b .before; room = omega (arith, long, b .room) }
+
+    pub stored-known : {was : List ℕ} {r : ℕ} → r < 256 → Named h was t r → Stored h t was was r
+    stored-known small x = record { small = small; named = λ z. x; only = record { low = λ q l. refl; high = λ q l. refl }; memory = λ p K limit few m. m }
+
+    pub stored-none : {was : List ℕ} → Stored h t was was 0
+    stored-none = record { small = omega arith; named = λ z. absurd (omega (arith, z)); only = record { low = λ q l. refl; high = λ q l. refl }; memory = λ p K limit few m. m }
+
+    -- a table that is put behind those that are kept
+    module _ {was mid : List ℕ} {taken v : ℕ} (b : Before h was t) (e : getD was takenAt 0 ≡ taken) (fits : 12 * taken + t .nodes * t .width ≤ 3059) (copied : PartCopied (set was (tablesAt + 12 * taken) (t .nodes)) mid (t .rows) (tablesAt + 12 * taken + 1) (t .nodes * t .width)) (is : v ≡ taken + t .nodes * t .width / 12 + 1) where
+      abbrev first : List ℕ
+      first = set was (tablesAt + 12 * taken) (t .nodes)
+
+      abbrev last : List ℕ
+      last = set mid takenAt v
+
+      -- blocks of 12 bytes
+      blocks : (t .nodes * t .width / 12 * 12 ≤ t .nodes * t .width) × (t .nodes * t .width < t .nodes * t .width / 12 * 12 + 12)
+      blocks = let all = div-add-mod (t .nodes * t .width) 12 in let rest : t .nodes * t .width % 12 < 12 = mod-lt (t .nodes * t .width) (omega arith) in (omega (arith, all), omega (arith, all, rest))
+
+      below : (q : ℕ) → q ≢ takenAt → q < tablesAt + 12 * taken → getD last q 0 ≡ getD was q 0
+      below q n l = getD-set-other mid takenAt q v 0 n ∙ copied .low q (omega (arith, l)) ∙ getD-set-other was (tablesAt + 12 * taken) q (t .nodes) 0 (λ z. omega (arith, z, l))
+
+      above : (q : ℕ) → tablesAt + 12 * taken + 1 + t .nodes * t .width ≤ q → getD last q 0 ≡ getD was q 0
+      above q l = getD-set-other mid takenAt q v 0 (λ z. omega (arith, z, l)) ∙ copied .high q (omega (arith, l)) ∙ getD-set-other was (tablesAt + 12 * taken) q (t .nodes) 0 (λ z. omega (arith, z, l))
+
+      module _ (long : length mid ≡ length was) where
+        pub new-taken : getD last takenAt 0 ≡ v
+        new-taken = getD-set-same mid takenAt v 0 (omega (arith, long, b .room))
+
+        new-count : getD last (keptAt (taken + 1)) 0 ≡ t .nodes
+        new-count =
+            let x : keptAt (taken + 1) ≡ tablesAt + 12 * taken = omega arith in
+            ap (λ (q : ℕ). getD last q 0) x ∙ getD-set-other mid takenAt (tablesAt + 12 * taken) v 0 (λ z. omega (arith, z)) ∙ copied .low (tablesAt + 12 * taken) (omega arith) ∙ getD-set-same was (tablesAt + 12 * taken) (t .nodes) 0 (omega (arith, fits, b .room))
+
+        new-byte : (q : ℕ) → q < t .nodes * t .width → getD last (keptAt (taken + 1) + 1 + q) 0 ≡ getD last (t .rows + q) 0
+        new-byte q l =
+            let x : keptAt (taken + 1) + 1 + q ≡ tablesAt + 12 * taken + 1 + q = omega arith in
+            ap (λ (q : ℕ). getD last q 0) x ∙ getD-set-other mid takenAt (tablesAt + 12 * taken + 1 + q) v 0 (λ z. omega (arith, z)) ∙ copied .part q l ∙ getD-set-other was (tablesAt + 12 * taken) (t .rows + q) (t .nodes) 0 (λ z. omega (arith, z, l, b .before)) ∙ sym (below (t .rows + q) (λ z. omega (arith, z, l, b .before)) (omega (arith, l, b .before)))
+
+        pub stored-new : Stored h t was last (taken + 1)
+        stored-new = record {
+          small = omega (arith, fits);
+          named = λ z. kept-as (before-now (length-set mid takenAt v ∙ long) b) (taken + 1) (omega arith) (omega (arith, new-taken, is, blocks)) new-count new-byte;
+          only = record { low = λ q l. below q (λ z. omega (arith, z, l)) (omega (arith, l)); high = λ q l. above q (omega (arith, l, fits)) };
+          memory = λ p K limit few m. memory-quiet (record { taken = omega (arith, new-taken, is, e); tables = λ q low high. below q (λ z. omega (arith, z, low)) (omega (arith, high, e)) }) few (λ q l. below q (λ z. omega (arith, z, l, few)) (omega (arith, l, few))) (λ q low high. below q (λ z. omega (arith, z, high)) (omega (arith, high))) (λ q low high. below q (λ z. omega (arith, z, low)) (omega (arith, high))) m;
+        }
+
+    -- all else is forgotten first
+    pub stored-anew : {was mid cleared now : List ℕ} {r : ℕ} → Only was mid → Cleared mid cleared memoryAt 2482 → Stored h t cleared now r → Stored h t was now r
+    stored-anew {was} {mid} {cleared} {now} o c x = record {
+      small = x .small;
+      named = x .named;
+      only = record { low = λ q l. x .only .low q l ∙ c .low q l ∙ o .low q l; high = λ q l. x .only .high q l ∙ c .high q (omega (arith, l)) ∙ o .high q l };
+      memory = λ p K limit few m. x .memory p K limit few (memory-clear (m .narrow) few (emptied c));
+    }
+
+    -- a name found by a hash
+    pub stored-hashed : {was mid : List ℕ} {r q : ℕ} (v : ℕ) → Before h mid t → Stored h t was mid r → 43520 ≤ q → q < stepsAt → Stored h t was (set mid q v) r
+    stored-hashed {was} {mid} {r} {q} v b x low high =
+        let other : (a : ℕ) → a ≢ q → getD (set mid q v) a 0 ≡ getD mid a 0 = λ a n. getD-set-other mid q a v 0 n in
+        let g : Grown mid (set mid q v) = grown-by (other takenAt (λ z. omega (arith, z, low))) (λ a l. other a (λ z. omega (arith, z, l, high))) in
+        record {
+          small = x .small;
+          named = λ z. named-grown g refl (before-same (set mid q v) b (λ a l. other a (λ z. omega (arith, z, l, low)))) (x .named z);
+          only = record { low = λ a l. other a (λ z. omega (arith, z, l, low)) ∙ x .only .low a l; high = λ a l. other a (λ z. omega (arith, z, l, high)) ∙ x .only .high a l };
+          memory = λ p K limit few m. memory-quiet g few (λ a l. other a (λ z. omega (arith, z, l, few, low))) (λ a _ l. other a (λ z. omega (arith, z, l, low))) (λ a l _. other a (λ z. omega (arith, z, l, high))) (x .memory p K limit few m);
+        }
+
+    -- the number of a slot
+    slot-number : {work : List ℕ} {limit : ℕ} (x : InSlot work t limit) → t .rows / 961 ≡ x .number
+    slot-number x = let all = div-add-mod (t .rows) 961 in let rest : t .rows % 961 < 961 = mod-lt (t .rows) (omega arith) in omega (arith, all, rest, x .rows)
+
+    -- a table that is known by its slot
+    pub slot-named : {was : List ℕ} {p : Theory} {K limit r : ℕ} → Before h was t → getD was (43470 + t .rows / 961) 0 ≡ r → InSlot was t limit → Memory p K h limit was → 0 < r → Named h was t r
+    slot-named {was} {r = r} b e x m z =
+        let e′ : getD was (memoryAt + x .number) 0 ≡ r = ap (λ (i : ℕ). getD was (43470 + i) 0) (sym (slot-number x)) ∙ e in
+        let y = m .slots (x .number) (x .before) (omega (arith, e′, z)) in
+        subst (Named h was t) e′ (record { kept = y .kept; count = y .count ∙ x .counted; same = y .same ∙ slot-table b x })
+
+    pub naming-known : {was : List ℕ} {r : ℕ} → Before h was t → r < 256 → getD was (43470 + t .rows / 961) 0 ≡ r → Naming h t was was r
+    naming-known b small e = record { small = small; only = record { low = λ q l. refl; high = λ q l. refl }; told = λ p K limit few x m. (m, slot-named b e x m) }
+
+    -- and is from now on
+    module _ {was mid : List ℕ} {r : ℕ} (long : length mid ≡ length was) (b : Before h was t) (x : Stored h t was mid r) where
+      abbrev at : ℕ
+      at = 43470 + t .rows / 961
+
+      abbrev now : List ℕ
+      now = set mid at r
+
+      index : t .rows / 961 ≤ 45
+      index = let all = div-add-mod (t .rows) 961 in let rest : t .rows % 961 < 961 = mod-lt (t .rows) (omega arith) in omega (arith, all, rest, b .before)
+
+      other : (q : ℕ) → q ≢ at → getD now q 0 ≡ getD mid q 0
+      other q n = getD-set-other mid at q r 0 n
+
+      grown : Grown mid now
+      grown = grown-by (other takenAt (λ z. omega (arith, z, index))) (λ q l. other q (λ z. omega (arith, z, l, index)))
+
+      kept-now : tableOf t now ≡ tableOf t mid
+      kept-now = before-same now (before-now long b) (λ q l. other q (λ z. omega (arith, z, l)))
+
+      named : 0 < r → Named h now t r
+      named z = named-grown grown refl kept-now (x .named z)
+
+      slots : {limit : ℕ} → InSlot was t limit → (i : ℕ) → (getD now (memoryAt + i) 0 ≡ getD mid (memoryAt + i) 0) ⊎ SlotEntry h now i
+      slots s i = by-cases (ℕ-discrete i (s .number))
+          (λ e. inr (λ z.
+          let here : getD now (memoryAt + i) 0 ≡ r = ap (λ (i : ℕ). getD now (43470 + i) 0) (e ∙ sym (slot-number s)) ∙ getD-set-same mid at r 0 (omega (arith, long, b .room, index)) in
+          let y = named (omega (arith, here, z)) in
+          let back : (q : ℕ) → q < memoryAt → getD now q 0 ≡ getD was q 0 = λ q l. other q (λ z. omega (arith, z, l)) ∙ x .only .low q l in
+          let s′ : InSlot now t (961 * s .number + 961) = record { number = s .number; rows = s .rows; counted = back (961 * s .number) (omega (arith, s .rows, b .before)) ∙ s .counted; before = omega arith } in
+          subst (Named h now (slotTable h now (961 * i))) (sym here)
+          (subst (λ (i : ℕ). Named h now (slotTable h now (961 * i)) r) (sym e)
+          (record { kept = y .kept; count = y .count ∙ sym (s′ .counted); same = y .same ∙ sym (slot-table (before-now (length-set mid at r ∙ long) b) s′) }))))
+          (λ n. inl (other (memoryAt + i) (λ z. n (omega (arith, z, slot-number s)))))
+
+      pub naming-new : Naming h t was now r
+      naming-new = record {
+        small = x .small;
+        only = record { low = λ q l. other q (λ z. omega (arith, z, l)) ∙ x .only .low q l; high = λ q l. other q (λ z. omega (arith, z, l, index)) ∙ x .only .high q l };
+        told = λ p K limit few s m. (memory-but grown (λ q l. other q (λ z. omega (arith, z, l, few))) (λ i l. slots s i) (λ i l. inl (λ q a b. other q (λ z. omega (arith, z, a, index)))) (λ i l. inl (λ q a b. other q (λ z. omega (arith, z, a, index)))) (x .memory p K limit few m), λ z. named z);
+      }
+
+    -- what is known by a name is known of the table
+    pub named-state : {work : List ℕ} {n : ℕ} → Before h work t → Named h work t n → (root : ℕ) → stateOf (keptTable h work n) work root ≡ stateOf t work root
+    named-state {work} {n} b x root = ap (λ (c : ℕ). meaning c (tableOf (keptTable h work n) work) root) (b .characters) ∙ ap (λ (U : List Node). meaning (t .characters) U root) (x .same)
+
+    named-states : {work : List ℕ} {n : ℕ} → Before h work t → Named h work t n → _≡_ {A = ℕ → State} (λ root. stateOf (keptTable h work n) work root) (λ root. stateOf t work root)
+    named-states {work} {n} b x = (λ j. λ root. meaning (b .characters j) (tableOf (keptTable h work n) work) root) ∙ row-states (t .characters) (x .same)
+
+    module _ {was : List ℕ} (b : Before h was t) where
+      pub recalled-none : {mid : List ℕ} {k : Key} {r : ℕ} → Naming h t was mid r → Recalled h t k was mid 0
+      recalled-none x = record { only = x .only; told = λ p K limit few s m. (x .told p K limit few s m .0, fact-none p K _ _) }
+
+      pub recalled : {mid : List ℕ} {k : Key} {r a : ℕ} → length mid ≡ length was → Naming h t was mid r → 0 < r → Place 256 factsAt 7 a → getD mid (a + 6) 0 ≡ r → keyAt mid a ≡ k → Recalled h t k was mid (getD mid a 0)
+      recalled {mid} {k} {r} {a} long x some place e key = record {
+        only = x .only;
+        told = λ p K limit few s m.
+            let (m′, named) = x .told p K limit few s m in
+            let e′ : getD mid (factsAt + 7 * place .number + 6) 0 ≡ r = ap (λ (a : ℕ). getD mid (a + 6) 0) (sym (place .is)) ∙ e in
+            let (kept, fact) = m′ .facts (place .number) (place .few) (omega (arith, e′, some)) in
+            let here = subst (λ (a : ℕ). Fact p K (getD mid a 0) (keyAt mid a) (λ root. stateOf (keptTable h mid (getD mid (a + 6) 0)) mid root)) (sym (place .is)) fact in
+            (m′, fact-same p K refl key (row-states (h .characters) (ap (λ (n : ℕ). tableOf (keptTable h mid n) mid) e) ∙ named-states (before-now long b) (named some) ∙ row-states (t .characters) (before-same mid b (x .only .low))) here);
+      }
+
+      pub remembered-none : {mid : List ℕ} {m : ℕ} {k : Key} {r : ℕ} → Naming h t was mid r → Remembered h t m k was mid
+      remembered-none x = record { only = x .only; memory = λ p K limit few s y f. x .told p K limit few s y .0 }
+
+      module _ {mid put : List ℕ} {m r a : ℕ} {k : Key} (long : length mid ≡ length was) (long′ : length put ≡ length mid) (x : Naming h t was mid r) (some : 0 < r) (place : Place 256 factsAt 7 a) (key : KeyPut mid put a m k) where
+        abbrev noted : List ℕ
+        noted = set put (a + 6) r
+
+        bounds : (factsAt ≤ a) × (a + 7 ≤ tablesAt)
+        bounds = (omega (arith, place .is), omega (arith, place .is, place .few))
+
+        low : (q : ℕ) → q < a → getD noted q 0 ≡ getD mid q 0
+        low q l = getD-set-other put (a + 6) q r 0 (λ z. omega (arith, z, l)) ∙ key .low q l
+
+        high : (q : ℕ) → a + 7 ≤ q → getD noted q 0 ≡ getD mid q 0
+        high q l = getD-set-other put (a + 6) q r 0 (λ z. omega (arith, z, l)) ∙ key .high q (omega (arith, l))
+
+        kept : (d : ℕ) → d < 6 → getD noted (a + d) 0 ≡ getD put (a + d) 0
+        kept d l = getD-set-other put (a + 6) (a + d) r 0 (λ z. omega (arith, z, l))
+
+        put-grown : Grown mid noted
+        put-grown = grown-by (low takenAt (omega (arith, bounds))) (λ q l. high q (omega (arith, l, bounds)))
+
+        new : (p : Theory) (K : ℕ) → Named h mid t r → Fact p K m k (λ root. stateOf t was root) → FactEntry p K h noted a
+        new p K named fact z =
+            let last : getD noted (a + 6) 0 ≡ r = getD-set-same put (a + 6) r 0 (omega (arith, long, long′, b .room, bounds)) in
+            let state : _≡_ {A = ℕ → State} (λ root. stateOf t was root) (λ root. stateOf (keptTable h noted r) noted root) = row-states (t .characters) (sym (before-same mid b (x .only .low))) ∙ sym (named-states (before-now long b) named) ∙ row-states (h .characters) (sym (kept-table put-grown (named .kept))) in
+            subst (λ (n : ℕ). Kept h noted n × Fact p K (getD noted a 0) (keyAt noted a) (λ root. stateOf (keptTable h noted n) noted root)) (sym last) (
+              kept-grown put-grown (named .kept),
+              fact-same p K (sym (low-mark ∙ key .marked)) (sym (key-same (kept 1 (omega arith)) (kept 2 (omega arith)) (kept 3 (omega arith)) (omega (arith, kept 4 (omega arith), kept 5 (omega arith))) ∙ key .key)) state fact,
+            )
+          where
+            low-mark : getD noted a 0 ≡ getD put a 0
+            low-mark = getD-set-other put (a + 6) a r 0 (λ z. omega (arith, z))
+
+        pub remembered : Remembered h t m k was noted
+        remembered = record {
+          only = record { low = λ q l. low q (omega (arith, l, bounds)) ∙ x .only .low q l; high = λ q l. high q (omega (arith, l, bounds)) ∙ x .only .high q l };
+          memory = λ p K limit few s y fact.
+              let (m′, named) = x .told p K limit few s y in
+              memory-but put-grown (λ q l. low q (omega (arith, l, few, bounds))) (λ i l. inl (low (memoryAt + i) (omega (arith, l, few, bounds)))) (λ i l. inl (λ q g u. low q (omega (arith, u, l, bounds))))
+              (λ i l. by-cases (ℕ-discrete i (place .number))
+              (λ z. inr (subst (λ (i : ℕ). FactEntry p K h noted (factsAt + 7 * i)) (sym z) (subst (FactEntry p K h noted) (place .is) (new p K (named some) fact))))
+              (λ z. inl (λ q g u. by-cases (decLe i (place .number)) (λ v. low q (omega (arith, u, v, z, place .is))) (λ v. high q (omega (arith, g, v, place .is))))))
+              m′;
+        }
+
+-- the place that a number leads to
+pub placed : (count : ℕ) → 0 < count → (first size x : ℕ) → Place count first size (first + size * (x % count))
+placed count some first size x = record { number = x % count; few = mod-lt x some; is = refl }
+
+-- four bytes put down
+module _ (was : List ℕ) (a n r x y : ℕ) (room : a + 4 ≤ length was) where
+  abbrev b1 : List ℕ
+  b1 = set was a n
+
+  abbrev b2 : List ℕ
+  b2 = set b1 (a + 1) r
+
+  abbrev b3 : List ℕ
+  b3 = set b2 (a + 2) x
+
+  abbrev b4 : List ℕ
+  b4 = set b3 (a + 3) y
+
+  pub step-put : StepPut was b4 a n r x y
+  step-put = record {
+    read = o3 a (λ z. omega (arith, z)) ∙ o2 a (λ z. omega (arith, z)) ∙ o1 a (λ z. omega (arith, z)) ∙ getD-set-same was a n 0 (omega arith);
+    row = o3 (a + 1) (λ z. omega (arith, z)) ∙ o2 (a + 1) (λ z. omega (arith, z)) ∙ getD-set-same b1 (a + 1) r 0 (omega (arith, l1));
+    acted = o3 (a + 2) (λ z. omega (arith, z)) ∙ getD-set-same b2 (a + 2) x 0 (omega (arith, l1, l2));
+    leaves = getD-set-same b3 (a + 3) y 0 (omega (arith, l1, l2, l3));
+    low = λ q l. o3 q (λ z. omega (arith, z, l)) ∙ o2 q (λ z. omega (arith, z, l)) ∙ o1 q (λ z. omega (arith, z, l)) ∙ getD-set-other was a q n 0 (λ z. omega (arith, z, l));
+    high = λ q l. o3 q (λ z. omega (arith, z, l)) ∙ o2 q (λ z. omega (arith, z, l)) ∙ o1 q (λ z. omega (arith, z, l)) ∙ getD-set-other was a q n 0 (λ z. omega (arith, z, l));
+  }
+    where
+      l1 : length b1 ≡ length was
+      l1 = length-set was a n
+
+      l2 : length b2 ≡ length b1
+      l2 = length-set b1 (a + 1) r
+
+      l3 : length b3 ≡ length b2
+      l3 = length-set b2 (a + 2) x
+
+      o1 : (q : ℕ) → q ≢ a + 1 → getD b2 q 0 ≡ getD b1 q 0
+      o1 q z = getD-set-other b1 (a + 1) q r 0 z
+
+      o2 : (q : ℕ) → q ≢ a + 2 → getD b3 q 0 ≡ getD b2 q 0
+      o2 q z = getD-set-other b2 (a + 2) q x 0 z
+
+      o3 : (q : ℕ) → q ≢ a + 3 → getD b4 q 0 ≡ getD b3 q 0
+      o3 q z = getD-set-other b3 (a + 3) q y 0 z
+
+-- steps that are known
+module _ (h : Shape) where
+  abbrev width : ℕ
+  width = h .fluents + h .characters
+
+  -- a step put down
+  module _ {t : Table} {was now : List ℕ} {name root a next at : ℕ} (b : Before h was t) (e : getD was (43470 + t .rows / 961) 0 ≡ name) (some : 0 < name) (place : Place 128 stepsAt 4 at) (put : StepPut was now at name root a next) where
+    step-bounds : (stepsAt ≤ at) × (at + 4 ≤ factsAt)
+    step-bounds = (omega (arith, place .is), omega (arith, place .is, place .few))
+
+    step-kept : Grown was now
+    step-kept = grown-by (put .low takenAt (omega (arith, step-bounds))) (λ q l. put .high q (omega (arith, l, step-bounds)))
+
+    new-step : {p : Theory} → StepFact p h was name root a next → StepEntry p h now at
+    new-step {p} x z =
+        let y = step-grown h step-kept x in
+        subst (λ (k : ℕ). StepFact p h now k (getD now (at + 1) 0) (getD now (at + 2) 0) (getD now (at + 3) 0)) (sym (put .read))
+        (subst (λ (k : ℕ). StepFact p h now name k (getD now (at + 2) 0) (getD now (at + 3) 0)) (sym (put .row))
+        (subst (λ (k : ℕ). StepFact p h now name root k (getD now (at + 3) 0)) (sym (put .acted)) (subst (λ (k : ℕ). StepFact p h now name root a k) (sym (put .leaves)) y)))
+
+    pub noted-step : Noted h t root a next was now
+    noted-step = record {
+      only = record { low = λ q l. put .low q (omega (arith, l, step-bounds)); high = λ q l. put .high q (omega (arith, l, step-bounds)) };
+      memory = λ p K limit few s m f.
+          memory-but h step-kept (λ q l. put .low q (omega (arith, l, few, step-bounds))) (λ i l. inl (put .low (memoryAt + i) (omega (arith, l, few, step-bounds))))
+          (λ i l. by-cases (ℕ-discrete i (place .number))
+          (λ z. inr (subst (λ (i : ℕ). StepEntry p h now (stepsAt + 4 * i)) (sym z) (subst (StepEntry p h now) (place .is) (new-step (f name (slot-named h b e s m some))))))
+          (λ z. inl (λ q g u. by-cases (decLe i (place .number)) (λ v. put .low q (omega (arith, u, v, z, place .is))) (λ v. put .high q (omega (arith, g, v, place .is))))))
+          (λ i l. inl (λ q g u. put .high q (omega (arith, g, step-bounds)))) m;
+    }
+
+  pub noted-none : {t : Table} {was : List ℕ} {root a next : ℕ} → Noted h t root a next was was
+  noted-none = record { only = record { low = λ q l. refl; high = λ q l. refl }; memory = λ p K limit few s m f. m }
+
+  -- one slot more
+  pub memory-more : {p : Theory} {K : ℕ} {now : List ℕ} (n : ℕ) {limit : ℕ} → limit ≡ 961 * n → Memory p K h limit now → SlotEntry h now n → Memory p K h (limit + 961) now
+  memory-more {now = now} n e m x = record {
+    narrow = m .narrow;
+    slots = λ i l. by-cases (ℕ-discrete i n) (λ z. subst (SlotEntry h now) (sym z) x) (λ z. m .slots i (omega (arith, l, e, z)));
+    steps = m .steps;
+    facts = m .facts;
+  }
+
+  -- where a slot's name stands
+  module _ {work : List ℕ} {slot : ℕ} (s : Slot h work slot) where
+    slot-index : slot / 961 ≡ s .number
+    slot-index = let all = div-add-mod slot 961 in let rest : slot % 961 < 961 = mod-lt slot (omega arith) in omega (arith, all, rest, s .is)
+
+    pub slot-few : slot / 961 ≤ 29
+    slot-few = omega (arith, slot-index, s .is, s .before)
+
+  -- the name of a slot is forgotten
+  module _ {was : List ℕ} {slot : ℕ} (s : Slot h was slot) where
+    abbrev pub nameless : List ℕ
+    nameless = set was (43470 + slot / 961) 0
+
+    nameless-other : (q : ℕ) → q ≢ 43470 + slot / 961 → getD nameless q 0 ≡ getD was q 0
+    nameless-other q n = getD-set-other was (43470 + slot / 961) q 0 0 n
+
+    pub nameless-only : Only was nameless
+    nameless-only = record { low = λ q l. nameless-other q (λ z. omega (arith, z, l)); high = λ q l. nameless-other q (λ z. omega (arith, z, l, slot-few s)) }
+
+    pub memory-nameless : {p : Theory} {K : ℕ} → Memory p K h slot was → Memory p K h (slot + 961) nameless
+    memory-nameless m = memory-more (s .number) (s .is)
+        (memory-but h (grown-by (nameless-other takenAt (λ z. omega (arith, z, slot-few s))) (λ q l. nameless-other q (λ z. omega (arith, z, l, slot-few s)))) (λ q l. nameless-other q (λ z. omega (arith, z, l, s .before)))
+        (λ i l. inl (nameless-other (memoryAt + i) (λ z. omega (arith, z, l, s .is, slot-index s)))) (λ i l. inl (λ q g u. nameless-other q (λ z. omega (arith, z, g, slot-few s)))) (λ i l. inl (λ q g u. nameless-other q (λ z. omega (arith, z, g, slot-few s)))) m)
+        (λ z. let e : getD nameless (memoryAt + s .number) 0 ≡ 0 = ap (λ (i : ℕ). getD nameless (43470 + i) 0) (sym (slot-index s)) ∙ getD-set-same was (43470 + slot / 961) 0 0 (omega (arith, slot-few s, s .room)) in absurd (omega (arith, e, z)))
+
+  -- the table of a name is copied into a slot
+  module _ {was mid : List ℕ} {slot next : ℕ} (s : Slot h was slot) (taken : getD was takenAt 0 < 256) (k : Kept h was next) (copied : PartCopied was mid (keptAt next) slot (1 + getD was (keptAt next) 0 * width)) (long : length mid ≡ length was) where
+    abbrev again : List ℕ
+    again = set mid (43470 + slot / 961) next
+
+    again-size : getD was (keptAt next) 0 * width ≤ 960
+    again-size = omega (arith, rows-most (k .few) (s .narrow))
+
+    again-other : (q : ℕ) → q ≢ 43470 + slot / 961 → getD again q 0 ≡ getD mid q 0
+    again-other q n = getD-set-other mid (43470 + slot / 961) q next 0 n
+
+    again-low : (q : ℕ) → q < slot → getD again q 0 ≡ getD was q 0
+    again-low q l = again-other q (λ z. omega (arith, z, l, s .before)) ∙ copied .low q l
+
+    again-high : (q : ℕ) → takenAt ≤ q → getD again q 0 ≡ getD was q 0
+    again-high q l = again-other q (λ z. omega (arith, z, l, slot-few s)) ∙ copied .high q (omega (arith, l, s .before, again-size))
+
+    again-grown : Grown was again
+    again-grown = grown-by (again-high takenAt (omega arith)) (λ q l. again-high q (omega (arith, l)))
+
+    again-byte : (i : ℕ) → i < 1 + getD was (keptAt next) 0 * width → getD again (slot + i) 0 ≡ getD was (keptAt next + i) 0
+    again-byte i l = again-other (slot + i) (λ z. omega (arith, z, l, s .before, again-size)) ∙ copied .part i l
+
+    again-table : tableOf (slotTable h again slot) again ≡ tableOf (keptTable h was next) was
+    again-table = table-moved h was again (keptAt next) slot again-byte
+
+    again-count : getD again slot 0 ≡ getD was (keptAt next) 0
+    again-count = let x : slot ≡ slot + 0 = omega arith in let y : keptAt next + 0 ≡ keptAt next = omega arith in ap (λ (q : ℕ). getD again q 0) x ∙ again-byte 0 (omega arith) ∙ ap (λ (q : ℕ). getD was q 0) y
+
+    again-memory : {p : Theory} {K : ℕ} → Memory p K h slot was → Memory p K h slot again
+    again-memory m = memory-but h again-grown again-low (λ i l. inl (again-other (memoryAt + i) (λ z. omega (arith, z, l, s .is, slot-index s)) ∙ copied .high (memoryAt + i) (omega (arith, s .before, again-size)))) (λ i l. inl (λ q g u. again-high q (omega (arith, g)))) (λ i l. inl (λ q g u. again-high q (omega (arith, g)))) m
+
+    again-named : Named h again (slotTable h again slot) next
+    again-named = record { kept = kept-grown h again-grown k; count = let c = kept-count h again-grown k in c ∙ sym again-count; same = kept-table h again-grown k ∙ sym again-table }
+
+    pub copied-again : Again h next slot was again 0
+    copied-again = record {
+      refused = λ z. absurd (z refl);
+      played = λ z. (k .some, again-table, omega (arith, again-count, k .few));
+      low = again-low;
+      high = λ q l. again-high q (omega (arith, l));
+      memory = λ p K m. (
+        again-memory m,
+        λ z. memory-more (s .number) (s .is) (again-memory m) (λ y.
+            let here : getD again (memoryAt + s .number) 0 ≡ next = ap (λ (i : ℕ). getD again (43470 + i) 0) (sym (slot-index s)) ∙ getD-set-same mid (43470 + slot / 961) next 0 (omega (arith, slot-few s, s .room, long)) in
+            subst (Named h again (slotTable h again (961 * s .number))) (sym here) (subst (λ (a : ℕ). Named h again (slotTable h again a) next) (s .is) again-named)),
+      );
+    }
+
+  pub refused-again : {was : List ℕ} {slot next : ℕ} → next ≡ 0 → Again h next slot was was 10
+  refused-again e = record { refused = λ z. e; played = λ z. absurd (omega (arith, z)); low = λ q l. refl; high = λ q l. refl; memory = λ p K m. (m, λ z. absurd (omega (arith, z))) }
+
+  -- what a step has left is named and put down
+  module _ {was : List ℕ} {slot : ℕ} (s : Slot h was slot) (few : getD was slot 0 ≤ 32) where
+    abbrev left : Table
+    left = slotTable h (nameless s) slot
+
+    nameless-count : getD (nameless s) slot 0 ≡ getD was slot 0
+    nameless-count = nameless-other s slot (λ z. omega (arith, z, s .before))
+
+    nameless-long : length (nameless s) ≡ length was
+    nameless-long = length-set was (43470 + slot / 961) 0
+
+    pub left-before : Before h (nameless s) left
+    left-before = record { fluents = refl; characters = refl; wide = refl; narrow = s .narrow; few = omega (arith, nameless-count, few); before = omega (arith, rows-most {n = getD (nameless s) slot 0} {k = 32} (omega (arith, nameless-count, few)) (s .narrow), s .before); room = omega (arith, nameless-long, s .room) }
+
+    left-in : InSlot (nameless s) left (slot + 961)
+    left-in = record { number = s .number; rows = ap (λ (a : ℕ). a + 1) (s .is); counted = ap (λ (a : ℕ). getD (nameless s) a 0) (sym (s .is)); before = omega (arith, s .is) }
+
+    module _ {t : Table} {mid : List ℕ} {next : ℕ} (b : Before h was t) (long : length mid ≡ length was) (x : Naming h left (nameless s) mid next) where
+      left-low : (q : ℕ) → q < memoryAt → getD mid q 0 ≡ getD was q 0
+      left-low q l = x .only .low q l ∙ nameless-only s .low q l
+
+      left-only : Only was mid
+      left-only = record { low = left-low; high = λ q l. x .only .high q l ∙ nameless-only s .high q l }
+
+      left-memory : {p : Theory} {K : ℕ} → Memory p K h slot was → Memory p K h (slot + 961) mid × (0 < next → Named h mid left next)
+      left-memory {p} {K} m = x .told p K (slot + 961) (omega (arith, s .before)) left-in (memory-nameless s m)
+
+      pub left-unnoted : {root a : ℕ} → LeftNoted h t root a slot was mid
+      left-unnoted = record { only = left-only; memory = λ p K i m f. left-memory m .0 }
+
+      pub left-noted : {now : List ℕ} {root a : ℕ} → 0 < next → Noted h t root a next mid now → LeftNoted h t root a slot was now
+      left-noted {root = root} {a = a} some y = record {
+        only = record { low = λ q l. y .only .low q l ∙ left-low q l; high = λ q l. y .only .high q l ∙ left-only .high q l };
+        memory = λ p K i m (u, plays, starts).
+            let (m′, named) = left-memory m in
+            let here = before-same h mid b left-low in
+            let there : tableOf left mid ≡ tableOf (slotTable h was slot) was = ap (λ (n : ℕ). rowsAt mid width (h .fluents) (h .characters) (slot + 1) n) nameless-count ∙ rows-same was mid width (h .fluents) (h .characters) (slot + 1) (slot + 1) (getD was slot 0) (omega arith) (λ q l. left-low (slot + 1 + q) (omega (arith, l, rows-most few (s .narrow), s .before))) in
+            y .memory p K (slot + 961) (omega (arith, s .before)) (record { number = i .number; rows = i .rows; counted = left-low (961 * i .number) (omega (arith, i .before, s .before)) ∙ i .counted; before = omega (arith, i .before) }) m′
+            (λ n z. record {
+              kept = z .kept;
+              none = λ e. absurd (omega (arith, e, some));
+              left = λ e. (
+                named some .kept,
+                (
+                  u,
+                  subst (λ (v : State). Plays p v a u) (sym (named-state h (before-now h long b) z root ∙ ap (λ (U : List Node). meaning (t .characters) U root) here)) plays,
+                  subst (Starts (h .characters) u) (sym (named some .same ∙ there)) starts,
+                ),
+              );
+            });
+      }

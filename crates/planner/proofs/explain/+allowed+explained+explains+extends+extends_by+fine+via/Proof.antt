@@ -1,0 +1,830 @@
+-- Explanations over states in slots. Assumes nothing.
+use Prim.Native.Nat.{ℕ, suc, _+_, _*_, _-_, _<_}
+use mathlib.Core.Path.{_≡_, refl, sym, ap, _∙_, subst}
+use mathlib.Core.List.{List}
+use native.Mathlib.Omega.{arith}
+use lib.ListN.{length, getD}
+use borrow.Author.Count.{below-more}
+use borrow.Author.Needs.{needs}
+use borrow.Author.Tests.{not-true, not-false}
+use Rattle.pack.specs.Syntax.{Node, Theory}
+use Rattle.pack.specs.State.{State, meaning, belief}
+use Rattle.pack.specs.Table.{Below, Above}
+use Rattle.chart.specs.Call.{workRoom}
+use Rattle.transition.specs.Happening.{Plays}
+use Rattle.transition.proofs.Changing.{small}
+use Rattle.planner.specs.Ending.{Explained, utilityTo}
+use Rattle.planner.specs.Inner.Lists.{slotTable, AboveBy}
+use Rattle.planner.specs.Inner.Lists as inner
+use Rattle.planner.specs.Inner.Memory.{Memory}
+use Rattle.planner.specs.Inner.Explain.{Stage, Free}
+use Rattle.planner.proofs.Remembering.{memory-fewer}
+use Rattle.planner.proofs.Looking.{below-far, stage-trying, stage-skipped}
+use Rattle.planner.proofs.Telling.{Content, told-none, told-by, told-no, told-yes, stage-rules, stage-utility, nextTable, next-plays, next-stage, reach-here, reach-no-more, by-hopeless, by-from, by-to, explained-from, explained-to, explained-zero, explained-plays, agreed-all, content-of, content-more, one-less, stage-row, stage-believed, consentersOf, consent-place, consent-readable, consent-count, consent-each, slot-same, stage-before, known, note, verdict, extended, noted, rules-in, utility-in}
+use borrow.Fn.Kinds.{In}
+use borrow.Fn.PlainCycle.{Measures, is, falls, and}
+use Rattle.planner.proofs.explain.allowed.Reads as allowed
+use Rattle.planner.proofs.explain.allowed.Kinds as allowed-kinds
+use Rattle.planner.proofs.explain.+allowed+explained+explains+extends+extends_by+fine+via.Lts-allowed as allowed-lts
+use Rattle.planner.proofs.explain.explained.Reads as explained
+use Rattle.planner.proofs.explain.explained.Kinds as explained-kinds
+use Rattle.planner.proofs.explain.+allowed+explained+explains+extends+extends_by+fine+via.Lts-explained as explained-lts
+use Rattle.planner.proofs.explain.explains.Reads as explains
+use Rattle.planner.proofs.explain.explains.Kinds as explains-kinds
+use Rattle.planner.proofs.explain.+allowed+explained+explains+extends+extends_by+fine+via.Lts-explains as explains-lts
+use Rattle.planner.proofs.explain.extends.Reads as extends
+use Rattle.planner.proofs.explain.extends.Kinds as extends-kinds
+use Rattle.planner.proofs.explain.+allowed+explained+explains+extends+extends_by+fine+via.Lts-extends as extends-lts
+use Rattle.planner.proofs.explain.extends_by.Reads as extends-by
+use Rattle.planner.proofs.explain.extends_by.Kinds as extends-by-kinds
+use Rattle.planner.proofs.explain.+allowed+explained+explains+extends+extends_by+fine+via.Lts-extends_by as extends-by-lts
+use Rattle.planner.proofs.explain.fine.Reads as fine
+use Rattle.planner.proofs.explain.fine.Kinds as fine-kinds
+use Rattle.planner.proofs.explain.+allowed+explained+explains+extends+extends_by+fine+via.Lts-fine as fine-lts
+use Rattle.planner.proofs.explain.via.Reads as via
+use Rattle.planner.proofs.explain.via.Kinds as via-kinds
+use Rattle.planner.proofs.explain.+allowed+explained+explains+extends+extends_by+fine+via.Lts-via as via-lts
+use Rattle.pack.proofs.judge.utility.Reads as utility-reads
+use Rattle.pack.proofs.number.wide.Reads as wide-reads
+use Rattle.pack.proofs.write.consenter.Reads as consenter-reads
+use Rattle.pack.proofs.write.consenters.Reads as consenters-reads
+use Rattle.planner.proofs.explain.mark.Reads as mark-reads
+use Rattle.planner.proofs.look.next_promising.Reads as next-promising-reads
+use Rattle.planner.proofs.memory.table_in.Reads as table-in-reads
+use Rattle.planner.proofs.fact.recall.Reads as recall-reads
+use Rattle.planner.proofs.fact.remember.Reads as remember-reads
+use Rattle.planner.proofs.known.known_step.Reads as known-step-reads
+use Rattle.planner.proofs.explain.+allowed+explained+explains+extends+extends_by+fine+via.{
+  statement,
+}
+use Rattle.planner.proofs.explain.+allowed+explained+explains+extends+extends_by+fine+via.Tie.{
+  close,
+}
+
+abbrev μ-allowed : Measures 3 allowed-kinds.ps ℕ
+μ-allowed κs a = 1000 * a .1 .1 .1 .1 .1 .1 .1 .0 .0 + 3
+
+abbrev μ-explained : Measures 3 explained-kinds.ps ℕ
+μ-explained κs a = 1000 * a .1 .1 .1 .1 .1 .1 .1 .0 .0 + 1
+
+abbrev μ-explains : Measures 3 explains-kinds.ps ℕ
+μ-explains κs a = 1000 * a .1 .1 .1 .1 .1 .1 .1 .0 .0
+
+abbrev μ-extends : Measures 3 extends-kinds.ps ℕ
+μ-extends κs a = 1000 * a .1 .1 .1 .1 .1 .1 .0 .0 + 3 + 3 * a .1 .1 .1 .1 .1 .1 .1 .1 .0
+
+abbrev μ-extends-by : Measures 3 extends-by-kinds.ps ℕ
+μ-extends-by κs a = 1000 * a .1 .1 .1 .1 .1 .1 .0 .0 + 5 + 3 * a .1 .1 .1 .1 .1 .1 .1 .1 .0
+
+abbrev μ-fine : Measures 3 fine-kinds.ps ℕ
+μ-fine κs a = 1000 * a .1 .1 .1 .1 .1 .1 .1 .1 .0 .0 + 2
+
+abbrev μ-via : Measures 3 via-kinds.ps ℕ
+μ-via κs a = 1000 * a .1 .1 .1 .1 .1 .1 .1 .0 .0 + 4 + 3 * a .1 .1 .1 .1 .1 .1 .1 .1 .1 .0
+
+abbrev allowed-at : ℕ → In 3 allowed-kinds.ps
+allowed-at t = and 3 allowed-kinds.ps (is 3 allowed-kinds.ps μ-allowed t) allowed.Pre
+
+abbrev allowed-below : ℕ → In 3 allowed-kinds.ps
+allowed-below t = and 3 allowed-kinds.ps (falls 3 allowed-kinds.ps _<_ μ-allowed t) allowed.Pre
+
+abbrev explained-at : ℕ → In 3 explained-kinds.ps
+explained-at t = and 3 explained-kinds.ps (is 3 explained-kinds.ps μ-explained t) explained.Pre
+
+abbrev explained-below : ℕ → In 3 explained-kinds.ps
+explained-below t =
+    and 3 explained-kinds.ps (falls 3 explained-kinds.ps _<_ μ-explained t) explained.Pre
+
+abbrev explains-at : ℕ → In 3 explains-kinds.ps
+explains-at t = and 3 explains-kinds.ps (is 3 explains-kinds.ps μ-explains t) explains.Pre
+
+abbrev explains-below : ℕ → In 3 explains-kinds.ps
+explains-below t =
+    and 3 explains-kinds.ps (falls 3 explains-kinds.ps _<_ μ-explains t) explains.Pre
+
+abbrev extends-at : ℕ → In 3 extends-kinds.ps
+extends-at t = and 3 extends-kinds.ps (is 3 extends-kinds.ps μ-extends t) extends.Pre
+
+abbrev extends-below : ℕ → In 3 extends-kinds.ps
+extends-below t = and 3 extends-kinds.ps (falls 3 extends-kinds.ps _<_ μ-extends t) extends.Pre
+
+abbrev extends-by-at : ℕ → In 3 extends-by-kinds.ps
+extends-by-at t =
+    and 3 extends-by-kinds.ps (is 3 extends-by-kinds.ps μ-extends-by t) extends-by.Pre
+
+abbrev extends-by-below : ℕ → In 3 extends-by-kinds.ps
+extends-by-below t =
+    and 3 extends-by-kinds.ps (falls 3 extends-by-kinds.ps _<_ μ-extends-by t) extends-by.Pre
+
+abbrev fine-at : ℕ → In 3 fine-kinds.ps
+fine-at t = and 3 fine-kinds.ps (is 3 fine-kinds.ps μ-fine t) fine.Pre
+
+abbrev fine-below : ℕ → In 3 fine-kinds.ps
+fine-below t = and 3 fine-kinds.ps (falls 3 fine-kinds.ps _<_ μ-fine t) fine.Pre
+
+abbrev via-at : ℕ → In 3 via-kinds.ps
+via-at t = and 3 via-kinds.ps (is 3 via-kinds.ps μ-via t) via.Pre
+
+abbrev via-below : ℕ → In 3 via-kinds.ps
+via-below t = and 3 via-kinds.ps (falls 3 via-kinds.ps _<_ μ-via t) via.Pre
+
+abbrev explained-calls : ℕ → explained-lts.Claims
+explained-calls t = (recall-reads.Asked, recall-reads.Learnt, explains-below t, explains.Post, mark-reads.Asked, mark-reads.Learnt, remember-reads.Asked, remember-reads.Learnt)
+
+abbrev explains-calls : ℕ → explains-lts.Claims
+explains-calls t = (wide-reads.Asked, wide-reads.Learnt, known-step-reads.Asked, known-step-reads.Learnt, table-in-reads.Asked, table-in-reads.Learnt, utility-reads.Asked, utility-reads.Learnt, extends-below t, extends.Post)
+
+abbrev extends-calls : ℕ → extends-lts.Claims
+extends-calls t = (table-in-reads.Asked, table-in-reads.Learnt, utility-reads.Asked, utility-reads.Learnt, recall-reads.Asked, recall-reads.Learnt, extends-by-below t, extends-by.Post, mark-reads.Asked, mark-reads.Learnt, remember-reads.Asked, remember-reads.Learnt)
+
+abbrev allowed-calls : ℕ → allowed-lts.Claims
+allowed-calls t = (consenters-reads.Asked, consenters-reads.Learnt, consenter-reads.Asked, consenter-reads.Learnt, fine-below t, fine.Post)
+
+abbrev extends-by-calls : ℕ → extends-by-lts.Claims
+extends-by-calls t = (next-promising-reads.Asked, next-promising-reads.Learnt, via-below t, via.Post)
+
+abbrev via-calls : ℕ → via-lts.Claims
+via-calls t = (allowed-below t, allowed.Post, known-step-reads.Asked, known-step-reads.Learnt, extends-below t, extends.Post)
+
+abbrev allowed-Inv-loop : allowed-lts.InvT-loop
+allowed-Inv-loop pack places p work₀ slot who x e k at count i₀ work i = (length work ≡ length work₀) × Below work₀ work (slot + 961) × Above work₀ work workRoom
+    × ((th : Theory) (T : List Node) → Stage th T pack places p work₀ (slotTable p work₀ slot) (slot + 961) → Memory th (k .0) p (slot + 961) work₀ → Memory th (k .0) p (slot + 961) work × ((j : ℕ) → j < i → Content th (k .0) (e .0) who x (meaning (p .characters) T 0) j))
+
+abbrev allowed-μ-loop : allowed-lts.MeasureT-loop
+allowed-μ-loop pack places p work₀ slot who x e k at count i₀ work i = count - i
+
+allowed-mul-at : (t : ℕ) → allowed-lts.Need-mul-at (allowed-calls t) (allowed-at t) allowed.Post allowed-Inv-loop allowed-μ-loop
+allowed-mul-at t c = let (th, (T, (y, mem))) = c .before .before .before .pre .1 .0 in omega (arith, consent-place y _ (c .before .before .before .pre .1 .1))
+
+allowed-add-at : (t : ℕ) → allowed-lts.Need-add-at (allowed-calls t) (allowed-at t) allowed.Post allowed-Inv-loop allowed-μ-loop
+allowed-add-at t c = let (th, (T, (y, mem))) = c .before .before .before .pre .1 .0 in omega (arith, consent-place y _ (c .before .before .before .pre .1 .1))
+
+allowed-mul-at-2 : (t : ℕ) → allowed-lts.Need-mul-at-2 (allowed-calls t) (allowed-at t) allowed.Post allowed-Inv-loop allowed-μ-loop
+allowed-mul-at-2 t c = let (th, (T, (y, mem))) = c .before .before .before .pre .1 .0 in omega (arith, consent-place y _ (c .before .before .before .pre .1 .1))
+
+allowed-shared-slice-read-at : (t : ℕ) → allowed-lts.Need-shared-slice-read-at (allowed-calls t) (allowed-at t) allowed.Post allowed-Inv-loop allowed-μ-loop
+allowed-shared-slice-read-at t c = let (th, (T, (y, mem))) = c .before .before .before .before .pre .1 .0 in omega (arith, consent-place y _ (c .before .before .before .before .pre .1 .1))
+
+allowed-cast-at : (t : ℕ) → allowed-lts.Need-cast-at (allowed-calls t) (allowed-at t) allowed.Post allowed-Inv-loop allowed-μ-loop
+allowed-cast-at t c = omega (arith, c .shared-slice-known3 .given (9 * c .before .before .before .before .args .x + 2))
+
+allowed-consenters-requires : (t : ℕ) → allowed-lts.Need-consenters-requires (allowed-calls t) (allowed-at t) allowed.Post allowed-Inv-loop allowed-μ-loop
+allowed-consenters-requires t c κs = let (th, (T, (y, mem))) = c .before .before .before .before .pre .1 .0 in consent-readable y _ (c .before .before .before .before .pre .1 .1)
+
+allowed-loop-holds : (t : ℕ) → allowed-lts.Need-loop-holds (allowed-calls t) (allowed-at t) allowed.Post allowed-Inv-loop allowed-μ-loop
+allowed-loop-holds t c = (refl, λ q l. refl, λ q l. refl, λ th T y mem. (mem, λ j l. absurd (omega arith)))
+
+allowed-consenter-requires : (t : ℕ) → allowed-lts.Need-consenter-requires (allowed-calls t) (allowed-at t) allowed.Post allowed-Inv-loop allowed-μ-loop
+allowed-consenter-requires t c κs = let (th, (T, (y, mem))) = c .before .before .before .before .before .before .before .pre .1 .0 in (consent-readable y _ (c .before .before .before .before .before .before .before .pre .1 .1), omega (arith, c .loop-test .taken, consent-count y _ (c .before .before .before .before .before .before .before .pre .1 .1) (c .before .before .consenters .ensures)))
+
+allowed-fine-requires : (t : ℕ) → allowed-lts.Need-fine-requires (allowed-calls t) (allowed-at t) allowed.Post allowed-Inv-loop allowed-μ-loop
+allowed-fine-requires t c κs = let (m, P) = c .before .before .before .before .before .before .before .before .before .pre in
+    let a = c .before .before .before .before .before .before .before .before .before .args in
+    let (th, (T, (y, mem))) = P .0 in
+    let (long, low, high, rest) = c .before .before .before .loop .inv in
+    let count = consent-count y _ (P .1) (c .before .before .before .before .consenters .ensures) in
+    let d = consent-each y _ (P .1) {i = c .before .before .before .loop .i} (omega (arith, count, c .before .before .loop-test .taken)) (c .before .consenter .ensures) in
+    (omega (arith, m), ((th, (T, (slot-same (a .slot) y low long, rest th T y mem .0))), d .1, P .1, P .2, P .3, P .4))
+
+allowed-same-length : (t : ℕ) → allowed-lts.Need-same-length (allowed-calls t) (allowed-at t) allowed.Post allowed-Inv-loop allowed-μ-loop
+allowed-same-length t c = c .before .before .before .fine .kept .1 .1 .1 .0 ∙ c .before .before .before .before .before .before .before .loop .inv .0
+
+allowed-returns : (t : ℕ) → allowed-lts.Need-returns (allowed-calls t) (allowed-at t) allowed.Post allowed-Inv-loop allowed-μ-loop
+allowed-returns t c = let P = c .before .before .before .before .before .before .before .before .before .before .before .before .before .pre .1 in
+    let a = c .before .before .before .before .before .before .before .before .before .before .before .before .before .args in
+    let (long, low, high, rest) = c .before .before .before .before .before .before .before .loop .inv in
+    let f = c .before .before .before .fine in
+    let i = c .before .before .before .before .before .before .before .loop .i in
+    λ th T y mem.
+    let told = f .ensures th T (slot-same (a .slot) y low long) (rest th T y mem .0) in
+    let count = consent-count y _ (P .1) (c .before .before .before .before .before .before .before .before .consenters .ensures) in
+    let li : i < length (consentersOf y _ (P .1)) = omega (arith, count, c .before .before .before .before .before .before .loop-test .taken) in
+    let d = consent-each y _ (P .1) li (c .before .before .before .before .before .consenter .ensures) in
+    told-no (λ q l. told .low q l ∙ low q l) (λ q l. told .high q l ∙ high q l) (told .memory)
+    (λ agreed. told .complete (not-true (f .result) (c .if1 .taken)) (content-of th (a .k .0) (a .e .0) (a .who) (a .x) (meaning (a .p .characters) T 0) agreed li (d .0)))
+
+allowed-add-i : (t : ℕ) → allowed-lts.Need-add-i (allowed-calls t) (allowed-at t) allowed.Post allowed-Inv-loop allowed-μ-loop
+allowed-add-i t c = search needs
+
+allowed-loop-less : (t : ℕ) → allowed-lts.Need-loop-less (allowed-calls t) (allowed-at t) allowed.Post allowed-Inv-loop allowed-μ-loop
+allowed-loop-less t c = search needs
+
+allowed-loop-again : (t : ℕ) → allowed-lts.Need-loop-again (allowed-calls t) (allowed-at t) allowed.Post allowed-Inv-loop allowed-μ-loop
+allowed-loop-again t c = let P = c .before .before .before .before .before .before .before .before .before .before .before .before .before .pre .1 in
+    let a = c .before .before .before .before .before .before .before .before .before .before .before .before .before .args in
+    let (long, low, high, rest) = c .before .before .before .before .before .before .before .loop .inv in
+    let f = c .before .before .before .fine in
+    let (th, (T, (y, mem))) = P .0 in
+    let told = f .ensures th T (slot-same (a .slot) y low long) (rest th T y mem .0) in (
+      f .kept .1 .1 .1 .0 ∙ long,
+      λ q l. told .low q l ∙ low q l,
+      λ q l. told .high q l ∙ high q l,
+      λ th T y mem.
+          let told = f .ensures th T (slot-same (a .slot) y low long) (rest th T y mem .0) in
+          let count = consent-count y _ (P .1) (c .before .before .before .before .before .before .before .before .consenters .ensures) in
+          let li : c .before .before .before .before .before .before .before .loop .i < length (consentersOf y _ (P .1)) = omega (arith, count, c .before .before .before .before .before .before .loop-test .taken) in
+          let d = consent-each y _ (P .1) li (c .before .before .before .before .before .consenter .ensures) in
+          (told .memory, content-more th (a .k .0) (a .e .0) (a .who) (a .x) (meaning (a .p .characters) T 0) (rest th T y mem .1) (d .0) (told .sound (not-false (f .result) (c .if1 .left)))),
+    )
+
+allowed-same-length-2 : (t : ℕ) → allowed-lts.Need-same-length-2 (allowed-calls t) (allowed-at t) allowed.Post allowed-Inv-loop allowed-μ-loop
+allowed-same-length-2 t c = c .before .loop .inv .0
+
+allowed-returns-2 : (t : ℕ) → allowed-lts.Need-returns-2 (allowed-calls t) (allowed-at t) allowed.Post allowed-Inv-loop allowed-μ-loop
+allowed-returns-2 t c = let P = c .before .before .before .before .before .before .before .pre .1 in
+    let a = c .before .before .before .before .before .before .before .args in
+    let (long, low, high, rest) = c .before .loop .inv in
+    λ th T y mem. let count = consent-count y _ (P .1) (c .before .before .consenters .ensures) in told-yes low high (rest th T y mem .0) (agreed-all th (a .k .0) (a .e .0) (a .who) (a .x) (meaning (a .p .characters) T 0) {n = c .before .loop .i} (omega (arith, count, c .loop-test .left)) (rest th T y mem .1))
+
+explained-returns : (t : ℕ) → explained-lts.Need-returns (explained-calls t) (explained-at t) explained.Post
+explained-returns t c = let a = c .before .before .before .before .before .args in
+    let none : 0 ≡ a .e .0 = omega (arith, c .if1 .taken) in
+    λ th T y mem. told-none _ mem (λ z. explained-zero th (a .k .0) (a .c) (a .a) (meaning (a .p .characters) T 0) (subst (λ (e : ℕ). Explained th (a .k .0) e (a .c) (a .a) (meaning (a .p .characters) T 0)) (sym none) z))
+
+explained-recall-requires : (t : ℕ) → explained-lts.Need-recall-requires (explained-calls t) (explained-at t) explained.Post
+explained-recall-requires t c κs = let P = c .before .before .before .before .before .before .pre .1 in let (th, (T, (y, mem))) = P .0 in stage-before y (omega (arith, P .5))
+
+explained-same-length : (t : ℕ) → explained-lts.Need-same-length (explained-calls t) (explained-at t) explained.Post
+explained-same-length t c = search needs
+
+explained-returns-2 : (t : ℕ) → explained-lts.Need-returns-2 (explained-calls t) (explained-at t) explained.Post
+explained-returns-2 t c = let P = c .before .before .before .before .before .before .before .before .before .before .pre .1 in
+    let a = c .before .before .before .before .before .before .before .before .before .before .args in
+    let r = c .before .before .before .recall in
+    λ th T y mem.
+    let (m, fact) = (r .ensures .told th (a .k .0) (a .slot + 961) (omega (arith, P .5)) (y .slotted) mem) in
+    told-no (λ q l. r .ensures .only .low q (omega (arith, l, P .5))) (r .ensures .only .high) m (known y fact .unexplained (c .if2 .taken))
+
+explained-same-length-2 : (t : ℕ) → explained-lts.Need-same-length-2 (explained-calls t) (explained-at t) explained.Post
+explained-same-length-2 t c = search needs
+
+explained-returns-3 : (t : ℕ) → explained-lts.Need-returns-3 (explained-calls t) (explained-at t) explained.Post
+explained-returns-3 t c = let P = c .before .before .before .before .before .before .before .before .before .before .before .pre .1 in
+    let a = c .before .before .before .before .before .before .before .before .before .before .before .args in
+    let r = c .before .before .before .before .recall in
+    λ th T y mem.
+    let (m, fact) = (r .ensures .told th (a .k .0) (a .slot + 961) (omega (arith, P .5)) (y .slotted) mem) in
+    told-yes (λ q l. r .ensures .only .low q (omega (arith, l, P .5))) (r .ensures .only .high) m (known y fact .explained (c .if3 .taken))
+
+explained-explains-requires : (t : ℕ) → explained-lts.Need-explains-requires (explained-calls t) (explained-at t) explained.Post
+explained-explains-requires t c κs = let (m, P) = c .before .before .before .before .before .before .before .before .before .before .before .before .pre in
+    let a = c .before .before .before .before .before .before .before .before .before .before .before .before .args in
+    let (th, (T, (y, mem))) = P .0 in
+    let r = c .before .before .before .before .before .recall in
+    (omega (arith, m), ((th, (T, (slot-same (a .slot) y (λ q l. r .ensures .only .low q (omega (arith, l, P .5))) (r .kept .0), (r .ensures .told th (a .k .0) (a .slot + 961) (omega (arith, P .5)) (y .slotted) mem) .0))), P .1, P .2, P .3, P .4, P .5, omega (arith, c .before .before .before .before .before .before .before .if1 .left)))
+
+explained-mark-requires : (t : ℕ) → explained-lts.Need-mark-requires (explained-calls t) (explained-at t) explained.Post
+explained-mark-requires t c κs = search needs
+
+explained-add-remember : (t : ℕ) → explained-lts.Need-add-remember (explained-calls t) (explained-at t) explained.Post
+explained-add-remember t c = omega (arith, c .mark .ensures)
+
+explained-remember-requires : (t : ℕ) → explained-lts.Need-remember-requires (explained-calls t) (explained-at t) explained.Post
+explained-remember-requires t c κs = let P = c .before .before .before .before .before .before .before .before .before .before .before .before .before .before .before .before .before .pre .1 in
+    let a = c .before .before .before .before .before .before .before .before .before .before .before .before .before .before .before .before .before .args in
+    let (th, (T, (y, mem))) = P .0 in
+    let r = c .before .before .before .before .before .before .before .before .before .before .recall in
+    let x = c .before .before .before .before .explains in
+    let told = x .ensures th T (slot-same {now = r .last .0} (a .slot) y (λ q l. r .ensures .only .low q (omega (arith, l, P .5))) (r .kept .0)) ((r .ensures .told th (a .k .0) (a .slot + 961) (omega (arith, P .5)) (y .slotted) mem) .0) in
+    let z = slot-same (a .slot) (slot-same {now = r .last .0} (a .slot) y (λ q l. r .ensures .only .low q (omega (arith, l, P .5))) (r .kept .0)) (told .low) (x .kept .1 .1 .1 .0) in
+    stage-before z (omega (arith, P .5))
+
+explained-same-length-3 : (t : ℕ) → explained-lts.Need-same-length-3 (explained-calls t) (explained-at t) explained.Post
+explained-same-length-3 t c = c .before .before .remember .kept .0 ∙ c .before .before .before .before .before .before .before .explains .kept .1 .1 .1 .0 ∙ c .before .before .before .before .before .before .before .before .before .before .before .before .before .recall .kept .0
+
+explained-returns-4 : (t : ℕ) → explained-lts.Need-returns-4 (explained-calls t) (explained-at t) explained.Post
+explained-returns-4 t c = let P = c .before .before .before .before .before .before .before .before .before .before .before .before .before .before .before .before .before .before .before .before .pre .1 in
+    let a = c .before .before .before .before .before .before .before .before .before .before .before .before .before .before .before .before .before .before .before .before .args in
+    let r = c .before .before .before .before .before .before .before .before .before .before .before .before .before .recall in
+    let rem = c .before .before .remember .ensures in
+    λ th T y mem.
+    let x = c .before .before .before .before .before .before .before .explains in
+    let told = x .ensures th T (slot-same {now = r .last .0} (a .slot) y (λ q l. r .ensures .only .low q (omega (arith, l, P .5))) (r .kept .0)) ((r .ensures .told th (a .k .0) (a .slot + 961) (omega (arith, P .5)) (y .slotted) mem) .0) in
+    let z = slot-same (a .slot) (slot-same {now = r .last .0} (a .slot) y (λ q l. r .ensures .only .low q (omega (arith, l, P .5))) (r .kept .0)) (told .low) (x .kept .1 .1 .1 .0) in
+    record {
+      sound = told .sound;
+      complete = told .complete;
+      low = λ q l. rem .only .low q (omega (arith, l, P .5)) ∙ told .low q l ∙ r .ensures .only .low q (omega (arith, l, P .5));
+      high = λ q l. rem .only .high q l ∙ told .high q l ∙ r .ensures .only .high q l;
+      memory = rem .memory th (a .k .0) (a .slot + 961) (omega (arith, P .5)) (z .slotted) (told .memory) (note z (verdict th (a .k .0) (record { who = a .c; nesting = a .e .0; left = a .a; base = 0 }) (λ (root : ℕ). meaning (a .p .characters) T root) (told .sound) (told .complete) (c .before .before .before .mark .ensures)));
+    }
+
+explains-add-wide : (t : ℕ) → explains-lts.Need-add-wide (explains-calls t) (explains-at t) explains.Post
+explains-add-wide t c = let (th, (T, (y, mem))) = c .before .before .before .pre .1 .0 in omega (arith, stage-row y 0 _ (y .tabled .some) (c .before .before .before .pre .1 .1), c .before .before .before .pre .1 .5)
+
+explains-add-wide-2 : (t : ℕ) → explains-lts.Need-add-wide-2 (explains-calls t) (explains-at t) explains.Post
+explains-add-wide-2 t c = let (th, (T, (y, mem))) = c .before .before .before .before .pre .1 .0 in omega (arith, stage-row y 0 _ (y .tabled .some) (c .before .before .before .before .pre .1 .1), c .before .before .before .before .pre .1 .5)
+
+explains-add-wide-3 : (t : ℕ) → explains-lts.Need-add-wide-3 (explains-calls t) (explains-at t) explains.Post
+explains-add-wide-3 t c = let (th, (T, (y, mem))) = c .before .before .before .before .pre .1 .0 in omega (arith, stage-row y 0 _ (y .tabled .some) (c .before .before .before .before .pre .1 .1), c .before .before .before .before .pre .1 .5)
+
+explains-slice-read-wide : (t : ℕ) → explains-lts.Need-slice-read-wide (explains-calls t) (explains-at t) explains.Post
+explains-slice-read-wide t c = let (th, (T, (y, mem))) = c .before .before .before .before .before .pre .1 .0 in let (low, there) = stage-row y 0 _ (y .tabled .some) (c .before .before .before .before .before .pre .1 .1) in omega (arith, low, there (omega (arith, c .before .before .before .before .before .pre .1 .5)))
+
+explains-wide-requires : (t : ℕ) → explains-lts.Need-wide-requires (explains-calls t) (explains-at t) explains.Post
+explains-wide-requires t c κs = search needs
+
+-- the row of what c believes
+explains-believed : (t : ℕ) (c : explains-lts.After-wide (explains-calls t) (explains-at t) explains.Post) {th : Theory} {T : List Node} → let a = c .before .before .before .before .before .before .args in Stage th T (a .pack .now) (a .places .now) (a .p) (a .work .now) (slotTable (a .p) (a .work .now) (a .slot)) (a .slot + 961) → (belief (meaning (a .p .characters) T 0) (a .c) ≡ meaning (a .p .characters) T (c .wide .result)) × (c .wide .result < getD (a .work .now) (a .slot) 0)
+explains-believed t c y = let a = c .before .before .before .before .before .before .args in stage-believed y 0 (a .c) (y .tabled .some) (c .before .before .before .before .before .before .pre .1 .1) (ap (λ (q : ℕ). getD (a .work .now) q 0) (omega arith) ∙ c .wide .ensures)
+
+explains-known-step-requires : (t : ℕ) → explains-lts.Need-known-step-requires (explains-calls t) (explains-at t) explains.Post
+explains-known-step-requires t c κs = let P = c .before .before .before .before .before .before .before .pre .1 in
+    let a = c .before .before .before .before .before .before .before .args in
+    let (th, (T, (y, mem))) = P .0 in
+    let less = one-less (a .k .0) (a .e .0) (P .6) in
+    (a .k .0, ((th, (T, (y, mem))), P .2, explains-believed t (c .before) y .1, omega (arith, P .5, P .3, less)))
+
+explains-same-length : (t : ℕ) → explains-lts.Need-same-length (explains-calls t) (explains-at t) explains.Post
+explains-same-length t c = search needs
+
+explains-returns : (t : ℕ) → explains-lts.Need-returns (explains-calls t) (explains-at t) explains.Post
+explains-returns t c = let a = c .before .before .before .before .before .before .before .before .before .before .before .args in
+    λ th T y mem.
+    let (same, inside) = explains-believed t (c .before .before .before .before .before) y in
+    let played = c .before .before .before .known-step .ensures th T (a .k .0) y mem in
+    told-no (played .low) (played .high) (played .memory) (explained-plays th (a .k .0) (a .e .0) (a .c) (a .a) (meaning (a .p .characters) T 0) (λ t q. played .none (c .if1 .taken) t (subst (λ (s : State). Plays th s (a .a) t) same q)))
+
+explains-add-next : (t : ℕ) → explains-lts.Need-add-next (explains-calls t) (explains-at t) explains.Post
+explains-add-next t c = omega (arith, c .before .before .before .before .before .before .before .before .before .before .before .pre .1 .5)
+
+explains-table-in-requires : (t : ℕ) → explains-lts.Need-table-in-requires (explains-calls t) (explains-at t) explains.Post
+explains-table-in-requires t c κs = let (th, (T, (y, mem))) = c .before .before .before .before .before .before .before .before .before .before .before .before .pre .1 .0 in (omega (arith, c .before .before .before .before .before .before .before .before .before .before .before .before .pre .1 .5, y .room, c .before .before .before .before .known-step .kept .1 .1 .1 .1 .0), omega (arith, small (y .tabled)))
+
+explains-add-utility : (t : ℕ) → explains-lts.Need-add-utility (explains-calls t) (explains-at t) explains.Post
+explains-add-utility t c = let (th, (T, (y, mem))) = c .before .before .before .before .before .before .before .before .before .before .before .before .before .pre .1 .0 in omega (arith, small (y .tabled), c .before .before .before .before .before .before .before .before .before .before .before .before .before .pre .1 .1)
+
+explains-mul-utility : (t : ℕ) → explains-lts.Need-mul-utility (explains-calls t) (explains-at t) explains.Post
+explains-mul-utility t c = let (th, (T, (y, mem))) = c .before .before .before .before .before .before .before .before .before .before .before .before .before .pre .1 .0 in omega (arith, small (y .tabled), c .before .before .before .before .before .before .before .before .before .before .before .before .before .pre .1 .1)
+
+explains-shared-slice-read-utility : (t : ℕ) → explains-lts.Need-shared-slice-read-utility (explains-calls t) (explains-at t) explains.Post
+explains-shared-slice-read-utility t c = let (th, (T, (y, mem))) = c .before .before .before .before .before .before .before .before .before .before .before .before .before .before .pre .1 .0 in omega (arith, y .theorized .marked, small (y .tabled), c .before .before .before .before .before .before .before .before .before .before .before .before .before .before .pre .1 .1)
+
+explains-cast-utility : (t : ℕ) → explains-lts.Need-cast-utility (explains-calls t) (explains-at t) explains.Post
+explains-cast-utility t c = omega (arith, c .shared-slice-known3 .given (321 + c .before .before .before .before .before .before .before .before .before .before .before .before .before .before .args .c))
+
+-- the table in the slot after the step
+explains-stays : (t : ℕ) (c : explains-lts.After-known-step (explains-calls t) (explains-at t) explains.Post) {th : Theory} {T : List Node} → let a = c .before .before .before .before .before .before .before .before .args in Stage th T (a .pack .now) (a .places .now) (a .p) (a .work .now) (slotTable (a .p) (a .work .now) (a .slot)) (a .slot + 961) → Memory th (a .k .0) (a .p) (a .slot + 961) (a .work .now)
+    → Stage th T (a .pack .now) (a .places .now) (a .p) (c .known-step .last .1 .1 .1 .1 .0) (slotTable (a .p) (c .known-step .last .1 .1 .1 .1 .0) (a .slot)) (a .slot + 961) × (c .before .before .wide .result < getD (c .known-step .last .1 .1 .1 .1 .0) (a .slot) 0)
+explains-stays t c {th} {T} y mem =
+    let a = c .before .before .before .before .before .before .before .before .args in
+    let s = c .known-step in
+    let low = s .ensures th T (a .k .0) y mem .low in
+    (slot-same (a .slot) y low (s .kept .1 .1 .1 .1 .0), omega (arith, explains-believed t (c .before .before) y .1, low (a .slot) (omega arith)))
+
+explains-utility-requires : (t : ℕ) → explains-lts.Need-utility-requires (explains-calls t) (explains-at t) explains.Post
+explains-utility-requires t c κs = let P = c .before .before .before .before .before .before .before .before .before .before .before .before .before .before .before .pre .1 in
+    let (th, (T, (y, mem))) = P .0 in
+    let (z, inside) = explains-stays t (c .before .before .before .before .before .before .before) y mem in
+    rules-in _ _ _ (c .before .before .before .before .before .before .before .before .before .wide .result) (c .before .before .table-in .ensures) (stage-rules z _ _ (P .1) inside .0)
+
+explains-sub-t15 : (t : ℕ) → explains-lts.Need-sub-t15 (explains-calls t) (explains-at t) explains.Post
+explains-sub-t15 t c = omega (arith, c .before .before .before .before .before .before .before .before .before .before .before .before .before .before .before .before .before .before .pre .1 .6)
+
+explains-sub-extends : (t : ℕ) → explains-lts.Need-sub-extends (explains-calls t) (explains-at t) explains.Post
+explains-sub-extends t c = omega (arith, c .before .before .before .before .before .before .before .before .before .before .before .before .before .before .before .before .before .before .before .pre .1 .3)
+
+explains-extends-requires : (t : ℕ) → explains-lts.Need-extends-requires (explains-calls t) (explains-at t) explains.Post
+explains-extends-requires t c κs = let (m, P) = c .before .before .before .before .before .before .before .before .before .before .before .before .before .before .before .before .before .before .before .pre in
+    let a = c .before .before .before .before .before .before .before .before .before .before .before .before .before .before .before .before .before .before .before .args in
+    let (th, (T, (y, mem))) = P .0 in
+    let s = c .before .before .before .before .before .before .before .before .before .before .before .known-step in
+    let less = one-less (a .k .0) (a .e .0) (P .6) in
+    let f : Free (a .slot + 961) 1 = omega (arith, P .5, P .3, less) in
+    let played = s .ensures th T (a .k .0) y mem in
+    let long = s .kept .1 .1 .1 .1 .0 in
+    let zero : s .result ≡ 0 = omega (arith, c .before .before .before .before .before .before .before .before .if1 .left) in
+    (omega (arith, m, P .4, P .6), ((th, (nextTable y _ played f long zero, (next-stage y _ played f long zero, played .further zero))), P .1, P .3, P .4, omega (arith, P .5, P .3, less)))
+
+explains-same-length-2 : (t : ℕ) → explains-lts.Need-same-length-2 (explains-calls t) (explains-at t) explains.Post
+explains-same-length-2 t c = c .before .before .extends .kept .1 .1 .1 .0 ∙ c .before .before .before .before .before .before .before .before .before .before .before .before .before .before .known-step .kept .1 .1 .1 .1 .0
+
+explains-returns-2 : (t : ℕ) → explains-lts.Need-returns-2 (explains-calls t) (explains-at t) explains.Post
+explains-returns-2 t c = let P = c .before .before .before .before .before .before .before .before .before .before .before .before .before .before .before .before .before .before .before .before .before .before .pre .1 in
+    let a = c .before .before .before .before .before .before .before .before .before .before .before .before .before .before .before .before .before .before .before .before .before .before .args in
+    let s = c .before .before .before .before .before .before .before .before .before .before .before .before .before .before .known-step in
+    let some : 0 < a .e .0 = P .6 in
+    let less = one-less (a .k .0) (a .e .0) some in
+    let f : Free (a .slot + 961) 1 = omega (arith, P .5, P .3, less) in
+    let long = s .kept .1 .1 .1 .1 .0 in
+    let zero : s .result ≡ 0 = omega (arith, c .before .before .before .before .before .before .before .before .before .before .before .if1 .left) in
+    let up : suc (a .e .0 - 1) ≡ a .e .0 = omega (arith, some) in
+    let all : suc (a .k .0 - 1) ≡ a .k .0 = omega (arith, P .3) in
+    λ th T y mem.
+    let (same, inside) = explains-believed t (c .before .before .before .before .before .before .before .before .before .before .before .before .before .before .before .before) y in
+    let played = s .ensures th T (a .k .0) y mem in
+    let base = stage-utility (explains-stays t (c .before .before .before .before .before .before .before .before .before .before .before .before .before .before) y mem .0) (a .c) (c .before .before .before .before .before .before .before .before .before .before .before .before .before .before .before .before .wide .result) (P .1) (utility-in (a .pack .now) (getD (a .places .now) (321 + a .c) 0) (s .last .1 .1 .1 .1 .0) (c .before .before .before .before .before .before .before .before .before .before .before .before .before .before .before .before .wide .result) (c .before .before .before .before .before .before .utility .result) (c .before .before .before .before .before .before .before .before .before .table-in .ensures) (c .before .before .before .before .before .before .utility .ensures)) in
+    let b = base ∙ ap (utilityTo th (a .c)) (sym same) in
+    let plays = subst (λ (s : State). Plays th s (a .a) (meaning (a .p .characters) (nextTable y _ played f long zero) 0)) (sym same) (next-plays y _ played f long zero) in
+    let told = c .before .before .extends .ensures th (nextTable y _ played f long zero) (next-stage y _ played f long zero) (played .further zero) in
+    told-by (omega arith) (memory-fewer (a .p) (omega arith)) (played .low) (played .high) told
+    (λ z. subst (λ (e : ℕ). Explained th (a .k .0) e (a .c) (a .a) (meaning (a .p .characters) T 0)) up (explained-from th (a .k .0) (a .e .0 - 1) (a .c) (a .a) (meaning (a .p .characters) T 0) _ _ b plays (a .k .0 - 1) all z))
+    (λ z. explained-to th (a .k .0) (a .e .0 - 1) (a .c) (a .a) (meaning (a .p .characters) T 0) _ _ b plays (a .k .0 - 1) all (subst (λ (e : ℕ). Explained th (a .k .0) e (a .c) (a .a) (meaning (a .p .characters) T 0)) (sym up) z))
+
+extends-table-in-requires : (t : ℕ) → extends-lts.Need-table-in-requires (extends-calls t) (extends-at t) extends.Post
+extends-table-in-requires t c κs = let (th, (T, (y, mem))) = c .before .before .before .before .pre .1 .0 in (omega (arith, c .before .before .before .before .pre .1 .4, y .room), omega (arith, small (y .tabled)))
+
+extends-add-utility : (t : ℕ) → extends-lts.Need-add-utility (extends-calls t) (extends-at t) extends.Post
+extends-add-utility t c = let (th, (T, (y, mem))) = c .before .before .before .before .before .pre .1 .0 in omega (arith, small (y .tabled), c .before .before .before .before .before .pre .1 .1)
+
+extends-mul-utility : (t : ℕ) → extends-lts.Need-mul-utility (extends-calls t) (extends-at t) extends.Post
+extends-mul-utility t c = let (th, (T, (y, mem))) = c .before .before .before .before .before .pre .1 .0 in omega (arith, small (y .tabled), c .before .before .before .before .before .pre .1 .1)
+
+extends-shared-slice-read-utility : (t : ℕ) → extends-lts.Need-shared-slice-read-utility (extends-calls t) (extends-at t) extends.Post
+extends-shared-slice-read-utility t c = let (th, (T, (y, mem))) = c .before .before .before .before .before .before .pre .1 .0 in omega (arith, y .theorized .marked, small (y .tabled), c .before .before .before .before .before .before .pre .1 .1)
+
+extends-cast-utility : (t : ℕ) → extends-lts.Need-cast-utility (extends-calls t) (extends-at t) extends.Post
+extends-cast-utility t c = omega (arith, c .shared-slice-known3 .given (321 + c .before .before .before .before .before .before .args .c))
+
+extends-utility-requires : (t : ℕ) → extends-lts.Need-utility-requires (extends-calls t) (extends-at t) extends.Post
+extends-utility-requires t c κs = let P = c .before .before .before .before .before .before .before .pre .1 in
+    let (th, (T, (y, mem))) = P .0 in
+    rules-in _ _ _ 0 (c .before .before .table-in .ensures) (stage-rules y _ 0 (P .1) (y .tabled .some) .0)
+
+extends-same-length : (t : ℕ) → extends-lts.Need-same-length (extends-calls t) (extends-at t) extends.Post
+extends-same-length t c = search needs
+
+extends-returns : (t : ℕ) → extends-lts.Need-returns (extends-calls t) (extends-at t) extends.Post
+extends-returns t c = let P = c .before .before .before .before .before .before .before .before .before .pre .1 in
+    let a = c .before .before .before .before .before .before .before .before .before .args in
+    λ th T y mem. told-yes (λ q l. refl) (λ q l. refl) mem (reach-here th (a .k .0) (a .e .0) (a .c) (a .base) (a .left) (meaning (a .p .characters) T 0) (omega (arith, stage-utility y (a .c) 0 (P .1) (utility-in (a .pack .now) (getD (a .places .now) (321 + a .c) 0) (a .work .now) 0 (c .before .utility .result) (c .before .before .before .before .table-in .ensures) (c .before .utility .ensures)), c .if1 .taken)))
+
+extends-same-length-2 : (t : ℕ) → extends-lts.Need-same-length-2 (extends-calls t) (extends-at t) extends.Post
+extends-same-length-2 t c = search needs
+
+extends-returns-2 : (t : ℕ) → extends-lts.Need-returns-2 (extends-calls t) (extends-at t) extends.Post
+extends-returns-2 t c = let P = c .before .before .before .before .before .before .before .before .before .before .pre .1 in
+    let a = c .before .before .before .before .before .before .before .before .before .before .args in
+    let none : 1 ≡ suc (a .left) = omega (arith, c .if2 .taken) in
+    λ th T y mem. told-none _ mem (λ z. reach-no-more th (a .k .0) (a .e .0) (a .c) (a .base) (meaning (a .p .characters) T 0) (λ b. omega (arith, stage-utility y (a .c) 0 (P .1) (utility-in (a .pack .now) (getD (a .places .now) (321 + a .c) 0) (a .work .now) 0 (c .before .before .utility .result) (c .before .before .before .before .before .table-in .ensures) (c .before .before .utility .ensures)), c .before .if1 .left)) (subst (λ (n : ℕ). inner.Above th (a .k .0) (a .e .0) (a .c) (a .base) n (meaning (a .p .characters) T 0)) (sym none) z))
+
+extends-recall-requires : (t : ℕ) → extends-lts.Need-recall-requires (extends-calls t) (extends-at t) extends.Post
+extends-recall-requires t c κs = let P = c .before .before .before .before .before .before .before .before .before .before .before .pre .1 in
+    let (th, (T, (y, mem))) = P .0 in
+    stage-before y (omega (arith, P .4))
+
+extends-same-length-3 : (t : ℕ) → extends-lts.Need-same-length-3 (extends-calls t) (extends-at t) extends.Post
+extends-same-length-3 t c = search needs
+
+extends-returns-3 : (t : ℕ) → extends-lts.Need-returns-3 (extends-calls t) (extends-at t) extends.Post
+extends-returns-3 t c = let P = c .before .before .before .before .before .before .before .before .before .before .before .before .before .before .before .pre .1 in
+    let a = c .before .before .before .before .before .before .before .before .before .before .before .before .before .before .before .args in
+    let r = c .before .before .before .recall in
+    λ th T y mem.
+    let (m, fact) = r .ensures .told th (a .k .0) (a .slot + 961) (omega (arith, P .4)) (y .slotted) mem in
+    told-no (λ q l. r .ensures .only .low q (omega (arith, l, P .4))) (r .ensures .only .high) m (known y fact .no (c .if3 .taken))
+
+extends-same-length-4 : (t : ℕ) → extends-lts.Need-same-length-4 (extends-calls t) (extends-at t) extends.Post
+extends-same-length-4 t c = search needs
+
+extends-returns-4 : (t : ℕ) → extends-lts.Need-returns-4 (extends-calls t) (extends-at t) extends.Post
+extends-returns-4 t c = let P = c .before .before .before .before .before .before .before .before .before .before .before .before .before .before .before .before .pre .1 in
+    let a = c .before .before .before .before .before .before .before .before .before .before .before .before .before .before .before .before .args in
+    let r = c .before .before .before .before .recall in
+    λ th T y mem.
+    let (m, fact) = r .ensures .told th (a .k .0) (a .slot + 961) (omega (arith, P .4)) (y .slotted) mem in
+    told-yes (λ q l. r .ensures .only .low q (omega (arith, l, P .4))) (r .ensures .only .high) m (known y fact .yes (c .if4 .taken))
+
+extends-sub-extends-by : (t : ℕ) → extends-lts.Need-sub-extends-by (extends-calls t) (extends-at t) extends.Post
+extends-sub-extends-by t c = omega (arith, c .before .before .before .before .before .before .before .if2 .left)
+
+extends-extends-by-requires : (t : ℕ) → extends-lts.Need-extends-by-requires (extends-calls t) (extends-at t) extends.Post
+extends-extends-by-requires t c κs = let (m, P) = c .before .before .before .before .before .before .before .before .before .before .before .before .before .before .before .before .before .pre in
+    let a = c .before .before .before .before .before .before .before .before .before .before .before .before .before .before .before .before .before .args in
+    let (th, (T, (y, mem))) = P .0 in
+    let r = c .before .before .before .before .before .recall in
+    (omega (arith, m, c .before .before .before .before .before .before .before .if2 .left), ((th, (T, (slot-same (a .slot) y (λ q l. r .ensures .only .low q (omega (arith, l, P .4))) (r .kept .0), r .ensures .told th (a .k .0) (a .slot + 961) (omega (arith, P .4)) (y .slotted) mem .0))), P .1, P .2, P .3, omega (arith, P .4, c .before .before .before .before .before .before .before .if2 .left)))
+
+extends-mark-requires : (t : ℕ) → extends-lts.Need-mark-requires (extends-calls t) (extends-at t) extends.Post
+extends-mark-requires t c κs = search needs
+
+extends-remember-requires : (t : ℕ) → extends-lts.Need-remember-requires (extends-calls t) (extends-at t) extends.Post
+extends-remember-requires t c κs = let P = c .before .before .before .before .before .before .before .before .before .before .before .before .before .before .before .before .before .before .before .before .before .before .pre .1 in
+    let a = c .before .before .before .before .before .before .before .before .before .before .before .before .before .before .before .before .before .before .before .before .before .before .args in
+    let (th, (T, (y, mem))) = P .0 in
+    let r = c .before .before .before .before .before .before .before .before .before .before .recall in
+    let x = c .before .before .before .before .extends-by in
+    let told = x .ensures th T (slot-same (a .slot) y (λ q l. r .ensures .only .low q (omega (arith, l, P .4))) (r .kept .0)) (r .ensures .told th (a .k .0) (a .slot + 961) (omega (arith, P .4)) (y .slotted) mem .0) in
+    stage-before (slot-same (a .slot) (slot-same {now = r .last .0} (a .slot) y (λ q l. r .ensures .only .low q (omega (arith, l, P .4))) (r .kept .0)) (told .low) (x .kept .1 .1 .1 .0)) (omega (arith, P .4))
+
+extends-same-length-5 : (t : ℕ) → extends-lts.Need-same-length-5 (extends-calls t) (extends-at t) extends.Post
+extends-same-length-5 t c = c .before .before .remember .kept .0 ∙ c .before .before .before .before .before .before .before .extends-by .kept .1 .1 .1 .0 ∙ c .before .before .before .before .before .before .before .before .before .before .before .before .before .recall .kept .0
+
+extends-returns-5 : (t : ℕ) → extends-lts.Need-returns-5 (extends-calls t) (extends-at t) extends.Post
+extends-returns-5 t c = let P = c .before .before .before .before .before .before .before .before .before .before .before .before .before .before .before .before .before .before .before .before .before .before .before .before .before .pre .1 in
+    let a = c .before .before .before .before .before .before .before .before .before .before .before .before .before .before .before .before .before .before .before .before .before .before .before .before .before .args in
+    let some : 0 < a .left = omega (arith, c .before .before .before .before .before .before .before .before .before .before .before .before .before .before .before .if2 .left) in
+    let rem = c .before .before .remember .ensures in
+    let r = c .before .before .before .before .before .before .before .before .before .before .before .before .before .recall in
+    let x = c .before .before .before .before .before .before .before .extends-by in
+    λ th T y mem.
+    let s = meaning (a .p .characters) T 0 in
+    let states : ℕ → State = λ root. meaning (a .p .characters) T root in
+    let told = x .ensures th T (slot-same (a .slot) y (λ q l. r .ensures .only .low q (omega (arith, l, P .4))) (r .kept .0)) (r .ensures .told th (a .k .0) (a .slot + 961) (omega (arith, P .4)) (y .slotted) mem .0) in
+    let here : a .base < utilityTo th (a .c) s → ⊥ = (λ b. omega (arith, stage-utility y (a .c) 0 (P .1) (utility-in (a .pack .now) (getD (a .places .now) (321 + a .c) 0) (a .work .now) 0 (c .before .before .before .before .before .before .before .before .before .before .before .before .before .before .before .before .before .utility .result) (c .before .before .before .before .before .before .before .before .before .before .before .before .before .before .before .before .before .before .before .before .table-in .ensures) (c .before .before .before .before .before .before .before .before .before .before .before .before .before .before .before .before .before .utility .ensures)), c .before .before .before .before .before .before .before .before .before .before .before .before .before .before .before .before .if1 .left, b)) in
+    let whole = extended th (a .k .0) (a .e .0) (a .c) (a .base) (a .left) states some here told in
+    let z′ = slot-same (a .slot) (slot-same {now = r .last .0} (a .slot) y (λ q l. r .ensures .only .low q (omega (arith, l, P .4))) (r .kept .0)) (told .low) (x .kept .1 .1 .1 .0) in
+    record {
+      sound = whole .sound;
+      complete = whole .complete;
+      low = λ q l. rem .only .low q (omega (arith, l, P .4)) ∙ told .low q l ∙ r .ensures .only .low q (omega (arith, l, P .4));
+      high = λ q l. rem .only .high q l ∙ told .high q l ∙ r .ensures .only .high q l;
+      memory = rem .memory th (a .k .0) (a .slot + 961) (omega (arith, P .4)) (z′ .slotted) (told .memory) (note z′ (noted th (a .k .0) (a .e .0) (a .c) (a .base) (a .left) states some here told (c .before .before .before .mark .ensures)));
+    }
+
+abbrev extends-by-Inv-loop : extends-by-lts.InvT-loop
+extends-by-Inv-loop pack places p work₀ slot c e k left base x₀ work x = (length work ≡ length work₀) × Below work₀ work (slot + 961) × Above work₀ work workRoom
+    × ((th : Theory) (T : List Node) → Stage th T pack places p work₀ (slotTable p work₀ slot) (slot + 961) → Memory th (k .0) p (slot + 961) work₀ → Memory th (k .0) p (slot + 961) work × ((y : ℕ) → y < x → AboveBy th (k .0) (e .0) c base (suc left) y (meaning (p .characters) T 0) → ⊥))
+
+abbrev extends-by-μ-loop : extends-by-lts.MeasureT-loop
+extends-by-μ-loop pack places p work₀ slot c e k left base x₀ work x = p .actions - x
+
+extends-by-add-next-promising : (t : ℕ) → extends-by-lts.Need-add-next-promising (extends-by-calls t) (extends-by-at t) extends-by.Post extends-by-Inv-loop extends-by-μ-loop
+extends-by-add-next-promising t c = let P = c .before .before .before .before .pre .1 in let (th, (T, (y, mem))) = P .0 in omega (arith, P .1, small (y .tabled))
+
+extends-by-next-promising-requires : (t : ℕ) → extends-by-lts.Need-next-promising-requires (extends-by-calls t) (extends-by-at t) extends-by.Post extends-by-Inv-loop extends-by-μ-loop
+extends-by-next-promising-requires t c κs = let P = c .before .before .before .before .pre .1 in
+    let (th, (T, (y, mem))) = P .0 in
+    (stage-trying y (omega (arith, P .4)) (omega (arith, P .1)), omega arith)
+
+extends-by-loop-holds : (t : ℕ) → extends-by-lts.Need-loop-holds (extends-by-calls t) (extends-by-at t) extends-by.Post extends-by-Inv-loop extends-by-μ-loop
+extends-by-loop-holds t c = let P = c .before .before .before .before .before .pre .1 in
+    let a = c .before .before .before .before .before .args in
+    (refl, λ q l. refl, λ q l. refl, λ th T y mem. (mem, λ j l. by-hopeless th (a .k .0) (a .e .0) (a .c) (a .base) (a .left) j (meaning (a .p .characters) T 0) (stage-skipped y (omega (arith, P .4)) (c .next-promising .ensures) j (omega arith) l)))
+
+extends-by-via-requires : (t : ℕ) → extends-by-lts.Need-via-requires (extends-by-calls t) (extends-by-at t) extends-by.Post extends-by-Inv-loop extends-by-μ-loop
+extends-by-via-requires t c κs = let (m, P) = c .before .before .before .before .before .before .before .before .before .pre in
+    let a = c .before .before .before .before .before .before .before .before .before .args in
+    let (th, (T, (y, mem))) = P .0 in
+    let (long, low, high, rest) = c .before .before .before .loop .inv in
+    (omega (arith, m), ((th, (T, (slot-same (a .slot) y low long, rest th T y mem .0))), P .1, c .before .if1 .taken, P .2, P .3, omega (arith, P .4)))
+
+extends-by-same-length : (t : ℕ) → extends-by-lts.Need-same-length (extends-by-calls t) (extends-by-at t) extends-by.Post extends-by-Inv-loop extends-by-μ-loop
+extends-by-same-length t c = c .before .before .before .via .kept .1 .1 .1 .0 ∙ c .before .before .before .before .before .before .before .loop .inv .0
+
+extends-by-returns : (t : ℕ) → extends-by-lts.Need-returns (extends-by-calls t) (extends-by-at t) extends-by.Post extends-by-Inv-loop extends-by-μ-loop
+extends-by-returns t c = let a = c .before .before .before .before .before .before .before .before .before .before .before .before .before .args in
+    let (long, low, high, rest) = c .before .before .before .before .before .before .before .loop .inv in
+    let v = c .before .before .before .via in
+    λ th T y mem.
+    let told = v .ensures th T (slot-same (a .slot) y low long) (rest th T y mem .0) in
+    told-yes (λ q l. told .low q l ∙ low q l) (λ q l. told .high q l ∙ high q l) (told .memory) (c .before .before .before .before .before .before .before .loop .x, told .sound (c .if2 .taken))
+
+extends-by-add-next-promising-2 : (t : ℕ) → extends-by-lts.Need-add-next-promising-2 (extends-by-calls t) (extends-by-at t) extends-by.Post extends-by-Inv-loop extends-by-μ-loop
+extends-by-add-next-promising-2 t c = let (th, (T, (y, mem))) = c .before .before .before .before .before .before .before .before .before .before .before .before .before .before .pre .1 .0 in omega (arith, c .before .before .before .before .before .before .if1 .taken, y .theorized .found .mostActions)
+
+extends-by-add-next-promising-3 : (t : ℕ) → extends-by-lts.Need-add-next-promising-3 (extends-by-calls t) (extends-by-at t) extends-by.Post extends-by-Inv-loop extends-by-μ-loop
+extends-by-add-next-promising-3 t c = let P = c .before .before .before .before .before .before .before .before .before .before .before .before .before .before .pre .1 in let (th, (T, (y, mem))) = P .0 in omega (arith, P .1, small (y .tabled))
+
+extends-by-next-promising-requires-2 : (t : ℕ) → extends-by-lts.Need-next-promising-requires-2 (extends-by-calls t) (extends-by-at t) extends-by.Post extends-by-Inv-loop extends-by-μ-loop
+extends-by-next-promising-requires-2 t c κs = let P = c .before .before .before .before .before .before .before .before .before .before .before .before .before .before .pre .1 in
+    let a = c .before .before .before .before .before .before .before .before .before .before .before .before .before .before .args in
+    let (long, low, high, rest) = c .before .before .before .before .before .before .before .before .loop .inv in
+    let v = c .before .before .before .before .via in
+    let (th, (T, (y, mem))) = P .0 in
+    let told = v .ensures th T (slot-same (a .slot) y low long) (rest th T y mem .0) in
+    (stage-trying (slot-same (a .slot) y (λ q l. told .low q l ∙ low q l) (v .kept .1 .1 .1 .0 ∙ long)) (omega (arith, P .4)) (omega (arith, P .1)), omega (arith, c .before .before .before .before .before .before .if1 .taken))
+
+extends-by-loop-less : (t : ℕ) → extends-by-lts.Need-loop-less (extends-by-calls t) (extends-by-at t) extends-by.Post extends-by-Inv-loop extends-by-μ-loop
+extends-by-loop-less t c = omega (arith, c .next-promising2 .ensures .from, c .before .before .before .before .before .before .before .if1 .taken)
+
+extends-by-loop-again : (t : ℕ) → extends-by-lts.Need-loop-again (extends-by-calls t) (extends-by-at t) extends-by.Post extends-by-Inv-loop extends-by-μ-loop
+extends-by-loop-again t c = let P = c .before .before .before .before .before .before .before .before .before .before .before .before .before .before .before .pre .1 in
+    let a = c .before .before .before .before .before .before .before .before .before .before .before .before .before .before .before .args in
+    let (long, low, high, rest) = c .before .before .before .before .before .before .before .before .before .loop .inv in
+    let v = c .before .before .before .before .before .via in
+    let (th, (T, (y, mem))) = P .0 in
+    let told = v .ensures th T (slot-same (a .slot) y low long) (rest th T y mem .0) in (
+      v .kept .1 .1 .1 .0 ∙ long,
+      λ q l. told .low q l ∙ low q l,
+      λ q l. told .high q l ∙ high q l,
+      λ th T y mem.
+          let told = v .ensures th T (slot-same (a .slot) y low long) (rest th T y mem .0) in
+          let z = slot-same (a .slot) y (λ q l. told .low q l ∙ low q l) (v .kept .1 .1 .1 .0 ∙ long) in (
+            told .memory,
+            below-far (λ x. AboveBy th (a .k .0) (a .e .0) (a .c) (a .base) (suc (a .left)) x (meaning (a .p .characters) T 0) → ⊥)
+                (below-more (λ x. AboveBy th (a .k .0) (a .e .0) (a .c) (a .base) (suc (a .left)) x (meaning (a .p .characters) T 0) → ⊥) (c .before .before .before .before .before .before .before .before .before .loop .x) (rest th T y mem .1) (told .complete (c .before .before .if2 .left)))
+                (λ j f l. by-hopeless th (a .k .0) (a .e .0) (a .c) (a .base) (a .left) j (meaning (a .p .characters) T 0) (stage-skipped z (omega (arith, P .4)) (c .next-promising2 .ensures) j f l)),
+          ),
+    )
+
+extends-by-same-length-2 : (t : ℕ) → extends-by-lts.Need-same-length-2 (extends-by-calls t) (extends-by-at t) extends-by.Post extends-by-Inv-loop extends-by-μ-loop
+extends-by-same-length-2 t c = c .before .before .loop .inv .0
+
+extends-by-returns-2 : (t : ℕ) → extends-by-lts.Need-returns-2 (extends-by-calls t) (extends-by-at t) extends-by.Post extends-by-Inv-loop extends-by-μ-loop
+extends-by-returns-2 t c = let (long, low, high, rest) = c .before .before .loop .inv in
+    λ th T y mem. told-no low high (rest th T y mem .0) (λ z. rest th T y mem .1 (z .0) (omega (arith, z .1 .1 .there, y .theorized .found .actions, c .if1 .left)) (z .1))
+
+fine-returns :
+    (t : ℕ) → fine-lts.Need-returns (explained-below t, explained.Post) (fine-at t) fine.Post
+fine-returns t c = λ th T y mem. told-yes (λ q l. refl) (λ q l. refl) mem (λ o. absurd (o (c .if1 .taken)))
+
+fine-explained-requires : (t : ℕ) → fine-lts.Need-explained-requires (
+  explained-below t,
+  explained.Post,
+) (fine-at t) fine.Post
+fine-explained-requires t c κs = let (m, P) = c .before .before .before .before .before .pre in (omega (arith, m), (P .0, P .1, P .2, P .3, P .4, P .5))
+
+fine-same-length :
+    (t : ℕ) → fine-lts.Need-same-length (explained-below t, explained.Post) (fine-at t) fine.Post
+fine-same-length t c = search needs
+
+fine-returns-2 :
+    (t : ℕ) → fine-lts.Need-returns-2 (explained-below t, explained.Post) (fine-at t) fine.Post
+fine-returns-2 t c = λ th T y mem. told-by (omega arith) (λ m. m) (λ q l. refl) (λ q l. refl) (c .before .before .explained .ensures th T y mem) (λ z o. z) (λ f. f (c .before .before .before .before .if1 .left))
+
+via-allowed-requires : (t : ℕ) → via-lts.Need-allowed-requires (via-calls t) (via-at t) via.Post
+via-allowed-requires t c κs = let (m, P) = c .before .before .before .before .pre in (omega (arith, m), (P .0, P .2, P .3, P .4, omega (arith, P .5)))
+
+via-same-length : (t : ℕ) → via-lts.Need-same-length (via-calls t) (via-at t) via.Post
+via-same-length t c = search needs
+
+via-returns : (t : ℕ) → via-lts.Need-returns (via-calls t) (via-at t) via.Post
+via-returns t c =
+    let w = c .before .before .before .allowed in
+    λ th T y mem.
+    let told = w .ensures th T y mem in
+    told-no (told .low) (told .high) (told .memory) (λ z. told .complete (not-true (w .result) (c .if1 .taken)) (z .2))
+
+via-known-step-requires : (t : ℕ) → via-lts.Need-known-step-requires (via-calls t) (via-at t) via.Post
+via-known-step-requires t c κs = let P = c .before .before .before .before .before .before .before .before .before .pre .1 in
+    let a = c .before .before .before .before .before .before .before .before .before .args in
+    let (th, (T, (y, mem))) = P .0 in
+    let w = c .before .before .before .before .allowed in
+    let told = w .ensures th T y mem in
+    let z = slot-same (a .slot) y (told .low) (w .kept .1 .1 .1 .0) in
+    (a .k .0, ((th, (T, (z, told .memory))), P .2, z .tabled .some, omega (arith, P .5)))
+
+via-same-length-2 : (t : ℕ) → via-lts.Need-same-length-2 (via-calls t) (via-at t) via.Post
+via-same-length-2 t c = c .before .before .before .known-step .kept .1 .1 .1 .1 .0 ∙ c .before .before .before .before .before .before .before .before .allowed .kept .1 .1 .1 .0
+
+via-returns-2 : (t : ℕ) → via-lts.Need-returns-2 (via-calls t) (via-at t) via.Post
+via-returns-2 t c = let a = c .before .before .before .before .before .before .before .before .before .before .before .before .before .args in
+    let w = c .before .before .before .before .before .before .before .before .allowed in
+    let s = c .before .before .before .known-step in
+    λ th T y mem.
+    let told = w .ensures th T y mem in
+    let played = s .ensures th T (a .k .0) (slot-same (a .slot) y (told .low) (w .kept .1 .1 .1 .0)) (told .memory) in
+    told-no (λ q l. played .low q l ∙ told .low q l) (λ q l. played .high q l ∙ told .high q l) (played .memory) (λ g. played .none (c .if2 .taken) (g .0) (g .1))
+
+via-add-extends : (t : ℕ) → via-lts.Need-add-extends (via-calls t) (via-at t) via.Post
+via-add-extends t c = omega (arith, c .before .before .before .before .before .before .before .before .before .before .before .before .before .before .pre .1 .5)
+
+via-extends-requires : (t : ℕ) → via-lts.Need-extends-requires (via-calls t) (via-at t) via.Post
+via-extends-requires t c κs = let (m, P) = c .before .before .before .before .before .before .before .before .before .before .before .before .before .before .pre in
+    let a = c .before .before .before .before .before .before .before .before .before .before .before .before .before .before .args in
+    let (th, (T, (y, mem))) = P .0 in
+    let w = c .before .before .before .before .before .before .before .before .before .allowed in
+    let s = c .before .before .before .before .known-step in
+    let told = w .ensures th T y mem in
+    let z′ = slot-same (a .slot) y (told .low) (w .kept .1 .1 .1 .0) in
+    let f : Free (a .slot + 961) 1 = omega (arith, P .5) in
+    let long = s .kept .1 .1 .1 .1 .0 in
+    let played = s .ensures th T (a .k .0) z′ (told .memory) in
+    let zero : s .result ≡ 0 = omega (arith, c .before .if2 .left) in
+    (omega (arith, m), ((th, (nextTable z′ 0 played f long zero, (next-stage z′ 0 played f long zero, played .further zero))), P .1, P .3, P .4, omega (arith, P .5)))
+
+via-same-length-3 : (t : ℕ) → via-lts.Need-same-length-3 (via-calls t) (via-at t) via.Post
+via-same-length-3 t c = c .before .before .extends .kept .1 .1 .1 .0 ∙ c .before .before .before .before .before .before .before .known-step .kept .1 .1 .1 .1 .0 ∙ c .before .before .before .before .before .before .before .before .before .before .before .before .allowed .kept .1 .1 .1 .0
+
+via-returns-3 : (t : ℕ) → via-lts.Need-returns-3 (via-calls t) (via-at t) via.Post
+via-returns-3 t c = let P = c .before .before .before .before .before .before .before .before .before .before .before .before .before .before .before .before .before .pre .1 in
+    let a = c .before .before .before .before .before .before .before .before .before .before .before .before .before .before .before .before .before .args in
+    let w = c .before .before .before .before .before .before .before .before .before .before .before .before .allowed in
+    let s = c .before .before .before .before .before .before .before .known-step in
+    let zero : s .result ≡ 0 = omega (arith, c .before .before .before .before .if2 .left) in
+    let f : Free (a .slot + 961) 1 = omega (arith, P .5) in
+    let long = s .kept .1 .1 .1 .1 .0 in
+    λ th T y mem.
+    let told = w .ensures th T y mem in
+    let z′ = slot-same (a .slot) y (told .low) (w .kept .1 .1 .1 .0) in
+    let played = s .ensures th T (a .k .0) z′ (told .memory) in
+    let plays = next-plays z′ 0 played f long zero in
+    told-by (omega arith) (memory-fewer (a .p) (omega arith)) (λ q l. played .low q l ∙ told .low q l) (λ q l. played .high q l ∙ told .high q l) (c .before .before .extends .ensures th (nextTable z′ 0 played f long zero) (next-stage z′ 0 played f long zero) (played .further zero))
+    (λ g. by-from th (a .k .0) (a .e .0) (a .c) (a .base) (suc (a .left)) (a .x) (meaning (a .p .characters) T 0) _ plays (told .sound (not-false (w .result) (c .before .before .before .before .before .before .before .before .before .if1 .left))) g)
+    (λ g. by-to th (a .k .0) (a .e .0) (a .c) (a .base) (suc (a .left)) (a .x) (meaning (a .p .characters) T 0) _ plays g)
+
+pub +allowed+explained+explains+extends+extends-by+fine+via-spec : {M : Type 1} → statement M
++allowed+explained+explains+extends+extends-by+fine+via-spec =
+    close μ-allowed μ-explained μ-explains μ-extends μ-extends-by μ-fine μ-via (λ t. allowed-lts.spec (allowed-calls t)
+    (allowed-at t)
+    allowed.Post
+    allowed-Inv-loop
+    allowed-μ-loop
+    (allowed-mul-at t)
+    (allowed-add-at t)
+    (allowed-mul-at-2 t)
+    (allowed-shared-slice-read-at t)
+    (allowed-cast-at t)
+    (allowed-consenters-requires t)
+    (allowed-loop-holds t)
+    (allowed-consenter-requires t)
+    (allowed-fine-requires t)
+    (allowed-same-length t)
+    (allowed-returns t)
+    (allowed-add-i t)
+    (allowed-loop-less t)
+    (allowed-loop-again t)
+    (allowed-same-length-2 t)
+    (allowed-returns-2 t))
+    (λ t. explained-lts.spec (explained-calls t)
+    (explained-at t)
+    explained.Post
+    (explained-returns t)
+    (explained-recall-requires t)
+    (explained-same-length t)
+    (explained-returns-2 t)
+    (explained-same-length-2 t)
+    (explained-returns-3 t)
+    (explained-explains-requires t)
+    (explained-mark-requires t)
+    (explained-add-remember t)
+    (explained-remember-requires t)
+    (explained-same-length-3 t)
+    (explained-returns-4 t))
+    (λ t. explains-lts.spec (explains-calls t)
+    (explains-at t)
+    explains.Post
+    (explains-add-wide t)
+    (explains-add-wide-2 t)
+    (explains-add-wide-3 t)
+    (explains-slice-read-wide t)
+    (explains-wide-requires t)
+    (explains-known-step-requires t)
+    (explains-same-length t)
+    (explains-returns t)
+    (explains-add-next t)
+    (explains-table-in-requires t)
+    (explains-add-utility t)
+    (explains-mul-utility t)
+    (explains-shared-slice-read-utility t)
+    (explains-cast-utility t)
+    (explains-utility-requires t)
+    (explains-sub-t15 t)
+    (explains-sub-extends t)
+    (explains-extends-requires t)
+    (explains-same-length-2 t)
+    (explains-returns-2 t))
+    (λ t. extends-lts.spec (extends-calls t)
+    (extends-at t)
+    extends.Post
+    (extends-table-in-requires t)
+    (extends-add-utility t)
+    (extends-mul-utility t)
+    (extends-shared-slice-read-utility t)
+    (extends-cast-utility t)
+    (extends-utility-requires t)
+    (extends-same-length t)
+    (extends-returns t)
+    (extends-same-length-2 t)
+    (extends-returns-2 t)
+    (extends-recall-requires t)
+    (extends-same-length-3 t)
+    (extends-returns-3 t)
+    (extends-same-length-4 t)
+    (extends-returns-4 t)
+    (extends-sub-extends-by t)
+    (extends-extends-by-requires t)
+    (extends-mark-requires t)
+    (extends-remember-requires t)
+    (extends-same-length-5 t)
+    (extends-returns-5 t))
+    (λ t. extends-by-lts.spec (extends-by-calls t)
+    (extends-by-at t)
+    extends-by.Post
+    extends-by-Inv-loop
+    extends-by-μ-loop
+    (extends-by-add-next-promising t)
+    (extends-by-next-promising-requires t)
+    (extends-by-loop-holds t)
+    (extends-by-via-requires t)
+    (extends-by-same-length t)
+    (extends-by-returns t)
+    (extends-by-add-next-promising-2 t)
+    (extends-by-add-next-promising-3 t)
+    (extends-by-next-promising-requires-2 t)
+    (extends-by-loop-less t)
+    (extends-by-loop-again t)
+    (extends-by-same-length-2 t)
+    (extends-by-returns-2 t))
+    (λ t. fine-lts.spec
+    (explained-below t, explained.Post)
+    (fine-at t)
+    fine.Post
+    (fine-returns t)
+    (fine-explained-requires t)
+    (fine-same-length t)
+    (fine-returns-2 t))
+    λ t. via-lts.spec (via-calls t)
+    (via-at t)
+    via.Post
+    (via-allowed-requires t)
+    (via-same-length t)
+    (via-returns t)
+    (via-known-step-requires t)
+    (via-same-length-2 t)
+    (via-returns-2 t)
+    (via-add-extends t)
+    (via-extends-requires t)
+    (via-same-length-3 t)
+    (via-returns-3 t)

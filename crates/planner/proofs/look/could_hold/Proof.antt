@@ -1,0 +1,31 @@
+-- No alternative so far could pass. Assumes nothing.
+use native.Mathlib.Omega.{arith}
+use borrow.Author.Needs.{needs}
+use Rattle.pack.specs.Judge.{alternativeAt}
+use Rattle.planner.proofs.Looking.{Rest, run-start, run-stop, run-on, run-none, alternativeRun, condition-parts, hold-told, look-next, look-inside, look-readable, alternative-end, some-by, some-none}
+use Rattle.planner.proofs.look.could_hold.Statement.{statement}
+use Rattle.planner.proofs.look.could_hold.Tie as tie
+
+abbrev Inv-loop : tie.InvT-loop
+Inv-loop pack places triggers x at work t n₀ left₀ n left = Rest (alternativeRun pack places triggers x work t) pack at n left
+
+abbrev μ-loop : tie.MeasureT-loop
+μ-loop pack places triggers x at work t n₀ left₀ n left = left
+
+pub could-hold-spec : {M : Type 1} → statement M
+could-hold-spec =
+    tie.close
+    (tie.spec
+    Inv-loop
+    μ-loop
+    (λ c. omega (arith, look-inside _ _ _ _ _ _ alternativeAt (condition-parts _ _ _ _ _ _ (c .before .before .before .pre))))
+    (λ c. look-inside _ _ _ _ _ _ alternativeAt (condition-parts _ _ _ _ _ _ (c .before .before .before .before .pre)))
+    (λ c κs. search needs)
+    (λ c. run-start (alternativeRun _ _ _ _ _ _) _ _ (omega arith) _ (c .wide .ensures))
+    (λ c κs. look-next _ _ _ _ _ _ alternativeAt (condition-parts _ _ _ _ _ _ (c .before .before .before .before .before .before .before .pre)) (c .before .loop .inv) (c .loop-test .taken))
+    (λ c. hold-told _ _ _ _ _ _ (run-stop (alternativeRun _ _ _ _ _ _) _ _ (c .before .before .before .loop .inv) (c .before .before .loop-test .taken) (λ k x rest g. some-by _ _ x rest (c .before .could-all .ensures (k .0) (k .1) x g) (c .if1 .taken))))
+    (λ c κs. look-readable _ _ _ _ _ _ (look-next _ _ _ _ _ _ alternativeAt (condition-parts _ _ _ _ _ _ (c .before .before .before .before .before .before .before .before .before .pre)) (c .before .before .before .loop .inv) (c .before .before .loop-test .taken)))
+    (λ c. search needs)
+    (λ c. search needs)
+    (λ c. run-on (alternativeRun _ _ _ _ _ _) _ _ (c .before .before .before .before .loop .inv) (c .before .before .before .loop-test .taken) _ (λ k x g. alternative-end _ _ _ _ _ _ (c .after-alternative .ensures) (k .0) (k .1) x g) (λ k x rest g. some-by _ _ x rest (c .before .before .could-all .ensures (k .0) (k .1) x g) (c .before .if1 .left)))
+    (λ c. hold-told _ _ _ _ _ _ (run-none (alternativeRun _ _ _ _ _ _) _ _ (c .before .loop .inv) (c .loop-test .left) (λ k. some-none _ _))))

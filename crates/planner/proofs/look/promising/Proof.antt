@@ -1,0 +1,26 @@
+-- Its condition fails, or it is the last action and nothing could exceed. Assumes nothing.
+use Prim.Native.Nat.{_+_, _*_}
+use native.Mathlib.Omega.{arith}
+use borrow.Author.Needs.{needs}
+use borrow.Author.Tests.{not-true}
+use Rattle.planner.proofs.Looking.{unequal, try-judged, try-forbidden, try-rules, try-hopeless}
+use Rattle.planner.proofs.look.promising.Statement.{statement}
+use Rattle.planner.proofs.look.promising.Tie as tie
+
+pub promising-spec : {M : Type 1} → statement M
+promising-spec =
+    tie.close
+    (tie.spec
+    (λ c. search needs)
+    (λ c. search needs)
+    (λ c. search needs)
+    (λ c. omega (arith, c .shared-slice-known4 .given (9 * c .before .before .before .before .args .x)))
+    (λ c κs. try-judged _ _ _ _ _ _ (c .before .before .before .before .pre))
+    (λ c. λ e. try-forbidden _ _ _ _ _ _ (c .before .holds .ensures) (not-true _ (c .if1 .taken)) _ _ _)
+    (λ c. λ e. absurd (unequal e))
+    (λ c. search needs)
+    (λ c. search needs)
+    (λ c. search needs)
+    (λ c. omega (arith, c .shared-slice-known5 .given (320 + c .before .before .before .before .before .before .before .before .args .whose)))
+    (λ c κs. try-rules _ _ _ _ _ _ (c .before .before .before .before .before .before .before .before .pre))
+    (λ c. λ e. try-hopeless _ _ _ _ _ _ (c .before .before .before .before .before .before .before .before .before .pre .rules) (omega (arith, c .before .before .if2 .left)) (c .could-exceed .ensures) e))

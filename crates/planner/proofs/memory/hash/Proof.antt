@@ -1,0 +1,40 @@
+-- A number below 128. Assumes nothing.
+use Prim.Native.Nat.{_+_, _*_, _-_, _%_, _<_}
+use native.Mathlib.Nat.{mod-lt}
+use native.Mathlib.Omega.{arith}
+use borrow.Author.Needs.{needs}
+use Rattle.planner.proofs.memory.hash.Statement.{statement}
+use Rattle.planner.proofs.memory.hash.Tie as tie
+
+abbrev Inv-loop : tie.InvT-loop
+Inv-loop work from n h₀ i₀ h i = h < 4294967296
+
+abbrev μ-loop : tie.MeasureT-loop
+μ-loop work from n h₀ i₀ h i = n - i
+
+loop-holds : tie.Need-loop-holds Inv-loop μ-loop
+loop-holds c = omega arith
+
+mul-h : tie.Need-mul-h Inv-loop μ-loop
+mul-h c = omega (arith, c .before .loop .inv)
+
+add-wide : tie.Need-add-wide Inv-loop μ-loop
+add-wide c = omega (arith, c .before .before .before .pre, c .loop-test .taken, c .before .before .before .good .0 .0)
+
+shared-slice-read-wide : tie.Need-shared-slice-read-wide Inv-loop μ-loop
+shared-slice-read-wide c = omega (arith, c .before .before .before .before .pre, c .before .loop-test .taken)
+
+add-h : tie.Need-add-h Inv-loop μ-loop
+add-h c = omega (arith, c .before .before .before .loop .inv, c .wide .ensures, c .before .before .before .before .shared-slice-known .given (c .before .before .before .before .before .args .from + c .before .before .before .loop .i))
+
+add-i : tie.Need-add-i Inv-loop μ-loop
+add-i c = omega (arith, c .before .before .loop-test .taken, c .before .before .before .before .before .pre, c .before .before .before .before .before .good .0 .0)
+
+loop-again : tie.Need-loop-again Inv-loop μ-loop
+loop-again c = mod-lt (c .before .before .before .loop .h * 5 + c .wide .result) (omega arith)
+
+returns : tie.Need-returns Inv-loop μ-loop
+returns c = let m : c .before .loop .h % 127 < 127 = mod-lt (c .before .loop .h) (omega arith) in omega (arith, m)
+
+pub hash-spec : {M : Type 1} → statement M
+hash-spec = tie.close (tie.spec Inv-loop μ-loop loop-holds mul-h add-wide shared-slice-read-wide (λ c κs. search needs) add-h add-i (λ c. search needs) loop-again returns)

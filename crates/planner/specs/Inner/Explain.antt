@@ -1,0 +1,83 @@
+-- Where the state stands that is asked about, and what is told of it. Assumes nothing.
+use mathlib.Core.Path.{_≡_}
+use mathlib.Core.Bool.{Bool, true, false}
+use mathlib.Core.Logic.{_≢_}
+use mathlib.Core.List.{List}
+use Prim.Native.Nat.{ℕ, _+_, _*_, _<_, _≤_}
+use lib.ListN.{length}
+use Rattle.pack.specs.Syntax.{Node, Theory}
+use Rattle.pack.specs.State.{State}
+use Rattle.pack.specs.Answer.{dims}
+use Rattle.pack.specs.Table as table
+use Rattle.pack.specs.declared.table.Table.{Table}
+use Rattle.chart.specs.Call.{workRoom, cleared}
+use Rattle.chart.specs.Inner.Look.{NodesRead}
+use Rattle.transition.specs.Inner.Cause.{Tabled}
+use Rattle.transition.specs.Happening.{Plays}
+use Rattle.transition.specs.Inner.Play.{Theorized, Left}
+use Rattle.planner.specs.declared.memory.Shape.{Shape}
+use Rattle.planner.specs.Inner.Memory.{InSlot, Memory}
+
+-- a theory, found in the pack, and a table before the first free slot
+pub record Stage (p : Theory) (T : List Node) (pack places : List ℕ) (h : Shape) (work : List ℕ) (t : Table) (slot : ℕ) : Type 0 where
+  pub theorized : Theorized p pack places (h .actions) (h .triggers)
+  pub tabled : Tabled (dims (p .characters) (p .domains)) T work t
+  pub same-fluents : h .fluents ≡ t .fluents
+  pub same-characters : h .characters ≡ t .characters
+  pub behind : t .rows + t .nodes * t .width ≤ slot
+  pub room : workRoom ≤ length work
+  pub slotted : InSlot work t slot
+  pub free : slot ≡ 961 * slotted .number + 961
+
+abbrev pub Staged : (pack places : List ℕ) (h : Shape) (work : List ℕ) (t : Table) (slot : ℕ) → Type 0
+Staged pack places h work t slot = (p : Theory) × ((T : List Node) × Stage p T pack places h work t slot)
+
+-- and a memory in which all is true
+abbrev pub Prepared : (foresight : ℕ) (pack places : List ℕ) (h : Shape) (work : List ℕ) (t : Table) (slot : ℕ) → Type 0
+Prepared foresight pack places h work t slot = (p : Theory) × ((T : List Node) × (Stage p T pack places h work t slot × Memory p foresight h slot work))
+
+-- n slots from `slot` on lie before the scratch of a step
+abbrev pub Free : (slot n : ℕ) → Type 0
+Free slot n = slot + n * 961 ≤ 28832
+
+-- the flag r says whether P holds; bytes before the free slots, and behind the memory, are as they were, and of what is in the memory M holds
+pub record Told (M : List ℕ → Type 0) (slot : ℕ) (was now : List ℕ) (r : Bool) (P : Type 0) : Type 0 where
+  pub sound : r ≡ true → P
+  pub complete : r ≡ false → P → ⊥
+  pub low : table.Below was now slot
+  pub high : table.Above was now workRoom
+  pub memory : M now
+
+-- an action and a row of the table
+abbrev pub Steppable : (pack places : List ℕ) (h : Shape) (a : ℕ) (work : List ℕ) (t : Table) (root slot : ℕ) → Type 0
+Steppable pack places h a work t root slot = (foresight : ℕ) × (Prepared foresight pack places h work t slot × (a < h .actions) × (root < t .nodes) × Free slot 1)
+
+-- a step into the first free slot: what it leaves stands there, or it does not play
+pub record Advanced (p : Theory) (foresight : ℕ) (h : Shape) (z : State) (a : ℕ) (t : Table) (was now : List ℕ) (slot r : ℕ) : Type 0 where
+  pub plays : r ≡ 0 → (s : State) × Plays p z a s × Left s t now slot
+  pub none : r ≢ 0 → (s : State) → Plays p z a s → ⊥
+  pub low : table.Below was now slot
+  pub high : table.Above was now workRoom
+  pub memory : Memory p foresight h slot now
+  pub further : r ≡ 0 → Memory p foresight h (slot + 961) now
+
+-- an accepted pack and chart, and numbers of something there
+pub record Judging (th : Theory) (T : List Node) (pack places : List ℕ) (h : Shape) (chart : List ℕ) (nodes character action foresight nesting : ℕ) (work : List ℕ) : Type 0 where
+  pub theorized : Theorized th pack places (h .actions) (h .triggers)
+  pub read : NodesRead chart nodes (h .fluents) (h .characters) T
+  pub same-characters : th .characters ≡ h .characters
+  pub same-fluents : length (th .domains) ≡ h .fluents
+  pub who : character < h .characters
+  pub what : action < h .actions
+  pub foreseen : (0 < foresight) × (foresight ≤ 6)
+  pub nested : nesting ≤ 3
+  pub room : workRoom ≤ length work
+
+abbrev pub Judgeable : (pack places : List ℕ) (h : Shape) (chart : List ℕ) (nodes character action foresight nesting : ℕ) (work : List ℕ) → Type 0
+Judgeable pack places h chart nodes character action foresight nesting work = (th : Theory) × ((T : List Node) × Judging th T pack places h chart nodes character action foresight nesting work)
+
+-- the verdict, and the work buffer cleared
+pub record Verdict (P : Type 0) (work work′ : List ℕ) (r : Bool) : Type 0 where
+  pub sound : r ≡ true → P
+  pub complete : r ≡ false → P → ⊥
+  pub scratch : work′ ≡ cleared work

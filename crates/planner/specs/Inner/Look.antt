@@ -1,0 +1,82 @@
+-- What is looked at before an action is tried, and what is told of it. Assumes nothing.
+use mathlib.Core.Path.{_≡_}
+use mathlib.Core.Bool.{Bool, _||_}
+use mathlib.Core.List.{List, []}
+use Prim.Native.Nat.{ℕ, _+_, _<_, _≤_}
+use lib.ListN.{length, getD}
+use Rattle.pack.specs.Syntax.{Theory}
+use Rattle.pack.specs.State.{State}
+use Rattle.pack.specs.Condition.{utility}
+use Rattle.pack.specs.Reading.{Reader}
+use Rattle.pack.specs.Grammar.{Dimensions, dimensions}
+use Rattle.pack.specs.Contents.{Gives}
+use Rattle.pack.specs.Judge.{Over}
+use Rattle.pack.specs.Table.{stateOf, TableFits}
+use Rattle.pack.specs.declared.table.Table.{Table}
+use Rattle.chart.specs.Call.{workRoom}
+use Rattle.transition.specs.Happening.{Plays, actionOf}
+use Rattle.transition.specs.Laws.Still.{writes, triggerWrites}
+use Rattle.transition.specs.Inner.Play.{Theorized}
+use Rattle.planner.specs.declared.memory.Shape.{Shape}
+use Rattle.planner.specs.Inner.Lists.{slotTable}
+
+-- the fluents that action a or a trigger writes in the state itself
+abbrev pub movedBy : Theory → ℕ → ℕ → Bool
+movedBy p a f = writes (actionOf p a .effects) f || triggerWrites (p .triggers) f
+
+-- an action of a theory that is found in the pack
+pub record Acting (p : Theory) (pack places : List ℕ) (triggers a : ℕ) : Type 0 where
+  pub actions : ℕ
+  pub theorized : Theorized p pack places actions triggers
+  pub there : a < actions
+
+pub record Acted (pack places : List ℕ) (triggers a : ℕ) : Type 0 where
+  pub theory : Theory
+  pub acting : Acting theory pack places triggers a
+
+-- the flag r says whether the fluent is one of those
+abbrev pub Moved : (pack places : List ℕ) (triggers a fluent : ℕ) (r : Bool) → Type 0
+Moved pack places triggers a fluent r = (p : Theory) → Acting p pack places triggers a → r ≡ movedBy p a fluent
+
+-- and a table to look at
+pub record Looking (p : Theory) (pack places : List ℕ) (triggers a : ℕ) (work : List ℕ) (t : Table) : Type 0 where
+  pub acting : Acting p pack places triggers a
+  pub over : Over (dimensions p) t
+  pub fits : TableFits t work
+  pub some : 0 < t .nodes
+
+-- a part of the pack is read at a place
+pub record Lookable {A : Type 0} (part : Dimensions → Reader A) (pack places : List ℕ) (triggers a at : ℕ) (work : List ℕ) (t : Table) : Type 0 where
+  pub theory : Theory
+  pub looking : Looking theory pack places triggers a work t
+  pub value : A
+  pub stands : Gives (part (dimensions theory)) pack at value
+
+-- the flag r says of it what `could` says, where what is moved is open
+abbrev pub Looked : {A : Type 0} (part : Dimensions → Reader A) (could : (ℕ → Bool) → State → A → Bool) (pack places : List ℕ) (triggers a at : ℕ) (work : List ℕ) (t : Table) (r : Bool) → Type 0
+Looked part could pack places triggers a at work t r =
+    (p : Theory) → Looking p pack places triggers a work t → (value : _) → Gives (part (dimensions p)) pack at value → r ≡ could (movedBy p a) (stateOf t work 0) value
+
+-- whose utility it is: the author's is the first, then each character's
+pub record Tryable (pack places : List ℕ) (triggers a : ℕ) (work : List ℕ) (t : Table) (whose : ℕ) : Type 0 where
+  pub theory : Theory
+  pub looking : Looking theory pack places triggers a work t
+  pub rules : whose < t .characters + 1
+
+-- if the action plays at all, it is the last one and leaves no utility above base
+abbrev pub Hopeless : (pack places : List ℕ) (triggers a : ℕ) (work : List ℕ) (t : Table) (whose left base : ℕ) → Type 0
+Hopeless pack places triggers a work t whose left base =
+    (p : Theory) → Looking p pack places triggers a work t → (s : State) → Plays p (stateOf t work 0) a s → (left ≡ 0) × (utility s (getD (p .utilities) whose []) ≤ base)
+
+-- every action may be tried in the state in a slot
+pub record Trying (pack places : List ℕ) (h : Shape) (work : List ℕ) (slot whose : ℕ) : Type 0 where
+  pub before : slot + 961 ≤ 28832
+  pub room : workRoom ≤ length work
+  pub narrow : h .fluents + h .characters ≤ 30
+  pub each : (a : ℕ) → a < h .actions → Tryable pack places (h .triggers) a work (slotTable h work slot) whose
+
+-- those from x up to r are hopeless there
+pub record Skipped (pack places : List ℕ) (h : Shape) (work : List ℕ) (slot whose left base x r : ℕ) : Type 0 where
+  pub from : x ≤ r
+  pub few : r ≤ h .actions
+  pub hopeless : (a : ℕ) → x ≤ a → a < r → Hopeless pack places (h .triggers) a work (slotTable h work slot) whose left base

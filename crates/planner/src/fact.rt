@@ -1,0 +1,109 @@
+// What is known of the lists from a state: entries by the name of its table, one for each hash, each true.
+use crate::layout::LISTS;
+use crate::memory::Shape;
+use crate::memory::name_of;
+use pack::number::wide;
+ghost use mathlib.Core.Path.{_≡_};
+ghost use mathlib.Core.Bool.{true};
+ghost use Prim.Native.Nat.{_+_, _*_, _<_, _≤_};
+ghost use lib.ListN.{length};
+ghost use Rattle.planner.specs.Inner.Lists.{slotTable};
+ghost use Rattle.planner.specs.Inner.Memory.{Before, Place, Storable, KeyPut, Recalled, Remembered, keyAt};
+
+// Whose list it is that is known about, at which nesting, how many actions are left to it, and above which utility it is to end.
+pub struct Key {
+    pub who: usize,
+    pub nesting: usize,
+    pub left: usize,
+    pub base: usize,
+}
+
+// The place of the entry for a name and a key.
+pub fn fact_at(name: usize, k: Key) -> usize
+    requires { ⌜ name < 256 ⌝ }
+    ensures { λ r. ⌜ Place 256 44160 7 r ⌝ }
+{
+    let h = name * 11 + k.who % 8 * 37 + k.left % 32 * 5 + k.nesting % 4;
+    LISTS + 7 * (h % 256)
+}
+
+// Whether an entry has a key.
+pub fn keyed(work: &[u8], at: usize, k: Key) -> bool
+    requires { ⌜ at + 6 ≤ length (now work) ⌝ }
+    ensures { λ r. ⌜ (r ≡ true → keyAt (now (work .entry)) at ≡ k) ⌝ }
+{
+    if wide(work[at + 1]) != k.who {
+        return false;
+    }
+    if wide(work[at + 2]) != k.nesting {
+        return false;
+    }
+    if wide(work[at + 3]) != k.left {
+        return false;
+    }
+    wide(work[at + 4]) + 256 * wide(work[at + 5]) == k.base
+}
+
+// Whether a name is one, and a key's numbers fit their bytes.
+pub fn storable(name: usize, k: Key) -> bool
+    ensures { λ r. ⌜ (r ≡ true → Storable name k) ⌝ }
+{
+    if name == 0 {
+        return false;
+    }
+    if 255 < k.who {
+        return false;
+    }
+    if 255 < k.nesting {
+        return false;
+    }
+    if 255 < k.left {
+        return false;
+    }
+    k.base < 65536
+}
+
+// The mark of what is known of the table in a slot by this key; 0 where nothing is.
+pub fn recall(work: &mut [u8], p: Shape, slot: usize, k: Key) -> u8
+    requires { ⌜ Before p (now work) (slotTable p (now work) slot) ⌝ }
+    ensures { λ r. ⌜ Recalled p (slotTable p (now (work .entry)) slot) k (now (work .entry)) (now (work .exit)) r ⌝ }
+{
+    let name = name_of(work, p, slot);
+    if name == 0 {
+        return 0;
+    }
+    let at = fact_at(name, k);
+    if wide(work[at + 6]) != name {
+        return 0;
+    }
+    if !keyed(work, at, k) {
+        return 0;
+    }
+    work[at]
+}
+
+// Writes an entry's mark and key.
+pub fn put_key(work: &mut [u8], at: usize, mark: u8, k: Key)
+    requires { ⌜ (at + 6 ≤ length (now work)) × (k .who < 256) × (k .nesting < 256) × (k .left < 256) × (k .base < 65536) ⌝ }
+    ensures { λ _. ⌜ KeyPut (now (work .entry)) (now (work .exit)) at mark k ⌝ }
+{
+    work[at] = mark;
+    work[at + 1] = k.who as u8;
+    work[at + 2] = k.nesting as u8;
+    work[at + 3] = k.left as u8;
+    work[at + 4] = (k.base % 256) as u8;
+    work[at + 5] = (k.base / 256) as u8;
+}
+
+// Puts down what is known of the table in a slot by this key, in the place of what stood there.
+pub fn remember(work: &mut [u8], p: Shape, slot: usize, mark: u8, k: Key)
+    requires { ⌜ Before p (now work) (slotTable p (now work) slot) ⌝ }
+    ensures { λ _. ⌜ Remembered p (slotTable p (now (work .entry)) slot) mark k (now (work .entry)) (now (work .exit)) ⌝ }
+{
+    let name = name_of(work, p, slot);
+    if storable(name, k) {
+        let at = fact_at(name, k);
+        put_key(work, at, mark, k);
+        work[at + 6] = name as u8;
+    }
+}

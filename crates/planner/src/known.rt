@@ -1,0 +1,127 @@
+// Steps that are known: what an action leaves of a row of a kept table is made once, and then copied.
+use crate::layout::KEPT;
+use crate::layout::NAMES;
+use crate::layout::STEPS;
+use crate::memory::Shape;
+use crate::memory::name_anew;
+use crate::memory::name_of;
+use crate::memory::table_in;
+use chart::bytes::copy_part;
+use pack::number::wide;
+use pack::table::Table;
+use transition::layout::SLOT;
+use transition::step::step_slot;
+ghost use mathlib.Core.Path.{_≡_};
+ghost use mathlib.Core.Bool.{true};
+ghost use mathlib.Core.List.{List};
+ghost use Prim.Native.Nat.{ℕ, _+_, _*_, _<_, _≤_};
+ghost use lib.ListN.{length, getD};
+ghost use Rattle.pack.specs.Syntax.{Node, Theory};
+ghost use Rattle.pack.specs.State.{meaning};
+ghost use Rattle.planner.specs.Inner.Lists.{slotTable};
+ghost use Rattle.planner.specs.Inner.Memory.{Memory, Before, Kept, Place, StepRead, StepPut, Noted, Slot, Again, LeftNoted};
+ghost use Rattle.planner.specs.Inner.Explain.{Stage, Steppable, Advanced};
+
+// The place of the entry for an action in a row of the table of a name.
+pub fn step_at(name: usize, root: usize, action: usize) -> usize
+    requires { ⌜ (name < 256) × (root < 256) × (action < 256) ⌝ }
+    ensures { λ r. ⌜ Place 128 43648 4 r ⌝ }
+{
+    STEPS + 4 * ((name * 11 + root * 5 + action) % 128)
+}
+
+// Whether an entry is that one.
+pub fn step_is(work: &[u8], at: usize, name: usize, root: usize, action: usize) -> bool
+    requires { ⌜ at + 4 ≤ length (now work) ⌝ }
+    ensures { λ r. ⌜ (r ≡ true → StepRead (now (work .entry)) at name root action) ⌝ }
+{
+    if name == 0 {
+        return false;
+    }
+    if wide(work[at]) != name {
+        return false;
+    }
+    if wide(work[at + 1]) != root {
+        return false;
+    }
+    wide(work[at + 2]) == action
+}
+
+// Puts down the name of what the action leaves, or 0 where it does not play.
+pub fn put_step(work: &mut [u8], at: usize, name: usize, root: usize, action: usize, next: usize)
+    requires { ⌜ (at + 4 ≤ length (now work)) × (name < 256) × (root < 256) × (action < 256) × (next < 256) ⌝ }
+    ensures { λ _. ⌜ StepPut (now (work .entry)) (now (work .exit)) at name root action next ⌝ }
+{
+    work[at] = name as u8;
+    work[at + 1] = root as u8;
+    work[at + 2] = action as u8;
+    work[at + 3] = next as u8;
+}
+
+// The same for a table in a slot that has a name.
+pub fn note(work: &mut [u8], p: Shape, t: Table, root: usize, action: usize, next: usize)
+    requires { ⌜ Before p (now work) t × (root < 256) × (action < 256) × (next < 256) ⌝ }
+    ensures { λ _. ⌜ Noted p t root action next (now (work .entry)) (now (work .exit)) ⌝ }
+{
+    let name = wide(work[NAMES + t.rows / SLOT]);
+    if name != 0 {
+        let at = step_at(name, root, action);
+        put_step(work, at, name, root, action, next);
+    }
+}
+
+// Copies the table of a name into a slot, or does nothing where it is 0; a refusal's number or 0, as a step.
+pub fn again(work: &mut [u8], p: Shape, next: usize, slot: usize) -> u8
+    requires { ⌜ Slot p (now work) slot × (next < 256) × (0 < next → Kept p (now work) next) ⌝ }
+    ensures { λ r. ⌜ Again p next slot (now (work .entry)) (now (work .exit)) r ⌝ }
+{
+    if next == 0 {
+        return 10;
+    }
+    let from = KEPT + 12 * next;
+    let nodes = wide(work[from]);
+    copy_part(work, from, slot, 1 + nodes * (p.fluents + p.characters));
+    work[NAMES + slot / SLOT] = next as u8;
+    0
+}
+
+// Names what a step has left in a slot, and puts the step down.
+pub fn note_left(work: &mut [u8], p: Shape, t: Table, root: usize, action: usize, slot: usize)
+    requires { ⌜ Before p (now work) t × (root < 256) × (action < 256) × Slot p (now work) slot × (getD (now work) slot 0 ≤ 32) ⌝ }
+    ensures { λ _. ⌜ LeftNoted p t root action slot (now (work .entry)) (now (work .exit)) ⌝ }
+{
+    work[NAMES + slot / SLOT] = 0;
+    let next = name_anew(work, p, slot);
+    if next != 0 {
+        note(work, p, t, root, action, next);
+    }
+}
+
+// As `step_slot`, of what a row of the table in a slot means, into the next slot.
+pub fn known_step(
+    pack: &[u8],
+    places: &[u16],
+    p: Shape,
+    action: usize,
+    work: &mut [u8],
+    slot: usize,
+    root: usize,
+) -> u8
+    requires { ⌜ Steppable (now pack) (now places) p action (now work) (slotTable p (now work) slot) root (slot + 961) ⌝ }
+    ensures { λ r. ⌜ ((th : Theory) (T : List Node) (foresight : ℕ) → Stage th T (now (pack .entry)) (now (places .entry)) p (now (work .entry)) (slotTable p (now (work .entry)) slot) (slot + 961) → Memory th foresight p (slot + 961) (now (work .entry)) → Advanced th foresight p (meaning (p .characters) T root) action (slotTable p (now (work .entry)) slot) (now (work .entry)) (now (work .exit)) (slot + 961) r) ⌝ }
+{
+    let t = table_in(work, p, slot);
+    let name = name_of(work, p, slot);
+    let at = step_at(name, root, action);
+    if step_is(work, at, name, root, action) {
+        let next = wide(work[at + 3]);
+        return again(work, p, next, slot + SLOT);
+    }
+    let number = step_slot(pack, places, p.triggers, action, work, t, root, slot + SLOT);
+    if number == 0 {
+        note_left(work, p, t, root, action, slot + SLOT);
+    } else {
+        note(work, p, t, root, action, 0);
+    }
+    number
+}

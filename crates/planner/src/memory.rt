@@ -1,0 +1,142 @@
+// What is known of states, behind a step's scratch: tables that are kept, each under a number that is its name. What is known of steps and of lists is known by these names.
+use crate::layout::BEFORE_TABLES;
+use crate::layout::HASHED;
+use crate::layout::KEPT;
+use crate::layout::NAMES;
+use crate::layout::TABLES;
+use crate::layout::TAKEN;
+use chart::bytes::clear;
+use chart::bytes::copy_part;
+use chart::values::first_other;
+use pack::number::wide;
+use pack::table::Table;
+use transition::layout::SLOT;
+ghost use mathlib.Core.Path.{_≡_};
+ghost use mathlib.Core.Bool.{true};
+ghost use Prim.Native.Nat.{_+_, _*_, _<_, _≤_};
+ghost use lib.ListN.{length};
+ghost use Rattle.planner.specs.Inner.Lists.{slotTable};
+ghost use Rattle.planner.specs.Inner.Memory.{Before, Named, Stored, Naming};
+
+// A pack's counts.
+pub struct Shape {
+    pub actions: usize,
+    pub triggers: usize,
+    pub fluents: usize,
+    pub characters: usize,
+}
+
+// The table in a slot.
+pub fn table_in(work: &[u8], p: Shape, slot: usize) -> Table
+    requires { ⌜ (slot < length (now work)) × (p .fluents + p .characters ≤ 30) ⌝ }
+    ensures { λ r. ⌜ r ≡ slotTable p (now (work .entry)) slot ⌝ }
+{
+    Table {
+        rows: slot + 1,
+        nodes: wide(work[slot]),
+        fluents: p.fluents,
+        characters: p.characters,
+        width: p.fluents + p.characters,
+    }
+}
+
+// A number below 128 made of n bytes. Nothing depends on which.
+pub fn hash(work: &[u8], from: usize, n: usize) -> usize
+    requires { ⌜ from + n ≤ length (now work) ⌝ }
+    ensures { λ r. ⌜ r < 128 ⌝ }
+{
+    let mut h = 0;
+    let mut i = 0;
+    while i < n {
+        h = (h * 5 + wide(work[from + i])) % 4294967296;
+        i += 1;
+    }
+    h % 127
+}
+
+// Whether a table is the one that is kept under a name.
+pub fn goes_by(work: &[u8], p: Shape, t: Table, name: usize) -> bool
+    requires { ⌜ Before p (now work) t × (name < 256) ⌝ }
+    ensures { λ r. ⌜ (r ≡ true → Named p (now (work .entry)) t name) ⌝ }
+{
+    if name == 0 {
+        return false;
+    }
+    let n = t.nodes * t.width;
+    if 12 * wide(work[TAKEN]) + 11 < 12 * name + n {
+        return false;
+    }
+    let at = KEPT + 12 * name;
+    if wide(work[at]) != t.nodes {
+        return false;
+    }
+    n <= first_other(work, t.rows, at + 1, n)
+}
+
+// Keeps a table where there is room: its name, or 0.
+pub fn store(work: &mut [u8], p: Shape, t: Table) -> usize
+    requires { ⌜ Before p (now work) t ⌝ }
+    ensures { λ r. ⌜ Stored p t (now (work .entry)) (now (work .exit)) r ⌝ }
+{
+    let n = t.nodes * t.width;
+    let taken = wide(work[TAKEN]);
+    if 3059 < 12 * taken + n {
+        return 0;
+    }
+    let at = TABLES + 12 * taken;
+    work[at] = t.nodes as u8;
+    copy_part(work, t.rows, at + 1, n);
+    work[TAKEN] = (taken + n / 12 + 1) as u8;
+    taken + 1
+}
+
+// Keeps a table; where there is no room, all else is forgotten first.
+pub fn keep(work: &mut [u8], p: Shape, t: Table) -> usize
+    requires { ⌜ Before p (now work) t ⌝ }
+    ensures { λ r. ⌜ Stored p t (now (work .entry)) (now (work .exit)) r ⌝ }
+{
+    let name = store(work, p, t);
+    if name != 0 {
+        return name;
+    }
+    clear(work, NAMES, BEFORE_TABLES);
+    store(work, p, t)
+}
+
+// The name of a table, which is kept if it is not yet; or 0.
+pub fn look_up(work: &mut [u8], p: Shape, t: Table) -> usize
+    requires { ⌜ Before p (now work) t ⌝ }
+    ensures { λ r. ⌜ Stored p t (now (work .entry)) (now (work .exit)) r ⌝ }
+{
+    let at = HASHED + hash(work, t.rows, t.nodes * t.width);
+    let known = wide(work[at]);
+    if goes_by(work, p, t, known) {
+        return known;
+    }
+    let name = keep(work, p, t);
+    work[at] = name as u8;
+    name
+}
+
+// As `look_up`, of the table in a slot, whose name is known from then on.
+pub fn name_anew(work: &mut [u8], p: Shape, slot: usize) -> usize
+    requires { ⌜ Before p (now work) (slotTable p (now work) slot) ⌝ }
+    ensures { λ r. ⌜ Naming p (slotTable p (now (work .entry)) slot) (now (work .entry)) (now (work .exit)) r ⌝ }
+{
+    let t = table_in(work, p, slot);
+    let name = look_up(work, p, t);
+    work[NAMES + (slot + 1) / SLOT] = name as u8;
+    name
+}
+
+// The same where the slot's name is not known yet. It mostly is, so the way there is short.
+pub fn name_of(work: &mut [u8], p: Shape, slot: usize) -> usize
+    requires { ⌜ Before p (now work) (slotTable p (now work) slot) ⌝ }
+    ensures { λ r. ⌜ Naming p (slotTable p (now (work .entry)) slot) (now (work .entry)) (now (work .exit)) r ⌝ }
+{
+    let known = wide(work[NAMES + (slot + 1) / SLOT]);
+    if known != 0 {
+        return known;
+    }
+    name_anew(work, p, slot)
+}

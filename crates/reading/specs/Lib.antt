@@ -1,4 +1,0 @@
-pub mod Reading
-pub mod Number
-pub mod Said
-pub mod Laws

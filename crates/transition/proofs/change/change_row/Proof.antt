@@ -1,0 +1,47 @@
+-- The member's row, and then its beliefs by number. Assumes nothing.
+use mathlib.Core.Path.{sym, _∙_, subst}
+use Prim.Native.Nat.{ℕ, _+_, _*_, _<_, _≤_}
+use lib.ListN.{length}
+use native.Mathlib.Omega.{arith}
+use borrow.Author.Needs.{needs}
+use Rattle.chart.proofs.Numbering.{numbering-same}
+use Rattle.transition.specs.Laws.Changed.{There}
+use Rattle.transition.specs.Inner.Change.{memberOf}
+use Rattle.transition.proofs.Rowing.{row-room, row-made}
+use Rattle.transition.proofs.change.change_row.Statement.{statement}
+use Rattle.transition.proofs.change.change_row.Tie as tie
+
+place : (s : tie.Start) → let a = s .args in let w = a .t .width in
+    (a .i < a .t .nodes * 7 + 1) × (a .u + a .i * w + w ≤ length (a .work .now)) × (a .t .fluents + a .t .characters ≤ w) × (a .b + (a .t .nodes * 7 + 1) + (a .t .nodes * 7 + 1) ≤ a .u) × (a .t .nodes ≤ 32)
+place s = let p = s .pre in let (i, r, w) = row-room (p .0 .0 .1) (p .0 .1) (p .1 .0) (p .1 .1) in (i, r, w, p .0 .1 .scratch, p .0 .0 .1 .tabled .few)
+
+put-member-requires : tie.Need-put-member-requires
+put-member-requires c κs =
+    let p = c .before .before .before .before .before .before .before .before .before .pre in
+    let e = c .before .before .wide .ensures in
+    (p .0 .0, omega (arith, e, p .1 .0 .there _ (p .1 .1)), subst (λ (z : ℕ). There (c .before .before .before .before .before .before .before .before .before .args .t .characters) (memberOf (c .before .before .before .before .before .before .before .before .before .args .h) (c .before .before .before .before .before .before .before .before .before .args .t .nodes) z)) e (p .1 .2), record { behind = omega (arith, place (c .before .before .before .before .before .before .before .before .before), p .0 .1 .source); room = omega (arith, place (c .before .before .before .before .before .before .before .before .before)) })
+
+name-beliefs-requires : tie.Need-name-beliefs-requires
+name-beliefs-requires c κs =
+    let p = c .before .before .before .before .before .before .before .before .before .before .before .before .before .before .pre in
+    let m = c .before .before .before .before .put-member in
+    let q = m .ensures (p .0 .0 .0) (p .0 .0 .1) in
+    ((omega (arith, place (c .before .before .before .before .before .before .before .before .before .before .before .before .before .before)), omega (arith, place (c .before .before .before .before .before .before .before .before .before .before .before .before .before .before), m .kept .1 .1 .1 .1 .0), omega (arith, place (c .before .before .before .before .before .before .before .before .before .before .before .before .before .before))), (numbering-same _ _ _ _ _ (p .1 .0) (λ z f g. q .low z (omega (arith, place (c .before .before .before .before .before .before .before .before .before .before .before .before .before .before)))), λ d l. q .slots d l .below))
+
+pub change-row-spec : {M : Type 1} → statement M
+change-row-spec =
+    tie.close
+    (tie.spec
+    (λ c. omega (arith, place (c .before .before .before .before .before)))
+    (λ c. omega (arith, place (c .before .before .before .before .before)))
+    (λ c. omega (arith, place (c .before .before .before .before .before), c .before .before .before .before .before .good .1 .1 .1 .1 .0 .0))
+    (λ c. omega (arith, place (c .before .before .before .before .before), c .before .before .before .before .before .good .1 .1 .1 .1 .0 .0))
+    (λ c. omega (arith, place (c .before .before .before .before .before .before)))
+    (λ c κs. search needs)
+    (λ c. omega (arith, place (c .before .before .before .before .before .before .before .before), c .before .before .before .before .before .before .before .before .good .1 .1 .1 .1 .0 .0))
+    (λ c. omega (arith, place (c .before .before .before .before .before .before .before .before), c .before .before .before .before .before .before .before .before .good .1 .1 .1 .1 .0 .0))
+    put-member-requires
+    (λ c. omega (arith, place (c .before .before .before .before .before .before .before .before .before .before .before .before .before .before), c .before .before .before .before .before .before .before .before .before .before .before .before .before .before .good .1 .1 .1 .1 .0 .0))
+    name-beliefs-requires
+    (λ c. c .before .before .name-beliefs .kept .0 ∙ c .before .before .before .before .before .before .before .put-member .kept .1 .1 .1 .1 .0)
+    (λ c. let p = c .before .before .before .before .before .before .before .before .before .before .before .before .before .before .before .before .before .pre in λ s x. row-made x (p .0 .1) (p .1 .0) (p .1 .1) (sym (c .before .before .before .before .before .before .before .before .before .before .wide .ensures)) (c .before .before .before .before .before .before .before .put-member .ensures s x) (c .before .before .name-beliefs .ensures)))

@@ -1,0 +1,18 @@
+-- One of the two. Assumes nothing.
+use mathlib.Core.Path.{sym, ap}
+use borrow.Author.Needs.{needs}
+use Rattle.transition.specs.Inner.Change.{rowAfter}
+use Rattle.transition.proofs.Changing.{put-is}
+use Rattle.transition.proofs.change.put_row.Statement.{statement}
+use Rattle.transition.proofs.change.put_row.Tie as tie
+
+pub put-row-spec : {M : Type 1} → statement M
+put-row-spec =
+    tie.close
+    (tie.spec
+    (λ c κs. let p = c .before .before .before .before .before .before .pre in (p .0, p .1, p .3))
+    (λ c κs. let p = c .before .before .before .before .before .before .pre in ((p .0 .0, p .0 .1 .tabled), p .1, p .2 (c .before .if1 .left), p .3))
+    (λ c. search needs)
+    (λ c. λ s x. put-is s _ _ (sym (ap (rowAfter (c .before .before .before .before .before .before .before .before .before .args .m)) (c .before .before .before .before .if1 .taken))) (c .before .before .put-acted .ensures s x))
+    (λ c. search needs)
+    (λ c. λ s x. put-is s _ _ (sym (ap (rowAfter (c .before .before .before .before .before .before .before .before .before .args .m)) (c .before .before .before .before .if1 .left))) (c .before .before .put-old .ensures s (x .tabled))))

@@ -1,0 +1,52 @@
+-- Loaded, played, written out, cleared. Assumes nothing.
+use mathlib.Core.Path.{sym, _∙_}
+use native.Mathlib.Omega.{arith}
+use borrow.Author.Needs.{needs}
+use Rattle.chart.proofs.Loading.{read-copies}
+use Rattle.transition.proofs.Stepping.{step-setting, step-refused, step-writes, step-left}
+use Rattle.transition.proofs.play.play.Statement.{statement}
+use Rattle.transition.proofs.play.play.Tie as tie
+
+step-slot-requires : tie.Need-step-slot-requires
+step-slot-requires c κs = let (p, (T, (n, x))) = c .before .before .before .before .before .before .before .before .before .before .pre in (p, (T, (n, (step-setting x (c .before .before .before .copy-table .ensures), x .there, x .read .some))))
+
+returns : tie.Need-returns
+returns c =
+    let l = c .before .before .before .before .before .before .before .before .before .before .before .copy-table .ensures in
+    let s = c .before .before .before .before .before .before .before .step-slot in
+    let z = c .before .before .sweep in
+    λ p T n x. step-refused x l (s .ensures p T n (step-setting x l) (x .there) (x .read .some)) (c .before .before .before .before .if1 .taken) (z .ensures) (z .kept .0 ∙ s .kept .1 .1 .1 .1 .0 ∙ l .long)
+
+write-chart-requires : tie.Need-write-chart-requires
+write-chart-requires c κs =
+    let (p, (T, (n, x))) = c .before .before .before .before .before .before .before .before .before .before .before .before .before .before .before .before .before .before .pre in
+    let l = c .before .before .before .before .before .before .before .before .before .before .before .copy-table .ensures in
+    let s = c .before .before .before .before .before .before .before .step-slot in
+    step-writes x l (s .ensures p T n (step-setting x l) (x .there) (x .read .some)) (omega (arith, c .before .before .before .before .if1 .left)) (sym (c .before .before .wide .ensures)) (s .kept .1 .1 .1 .1 .0 ∙ l .long)
+
+returns-2 : tie.Need-returns-2
+returns-2 c =
+    let l = c .before .before .before .before .before .before .before .before .before .before .before .before .before .before .before .before .before .before .copy-table .ensures in
+    let s = c .before .before .before .before .before .before .before .before .before .before .before .before .before .before .step-slot in
+    let o = c .before .before .before .before .before .before .write-chart in
+    let z = c .before .before .sweep2 in
+    λ p T n x. step-left x l (s .ensures p T n (step-setting x l) (x .there) (x .read .some)) (omega (arith, c .before .before .before .before .before .before .before .before .before .before .before .if1 .left)) (sym (c .before .before .before .before .before .before .before .before .before .wide .ensures)) (o .ensures) (o .kept .1 .1 .1 .1 .1 .1 .0) (z .ensures) (z .kept .0 ∙ s .kept .1 .1 .1 .1 .0 ∙ l .long)
+
+pub play-spec : {M : Type 1} → statement M
+play-spec =
+    tie.close
+    (tie.spec
+    (λ c κs. let (p, (T, (n, x))) = c .before .before .before .before .before .before .pre in read-copies (x .read) (x .work-room))
+    (λ c. search needs)
+    step-slot-requires
+    (λ c κs. let (p, (T, (n, x))) = c .before .before .before .before .before .before .before .before .before .before .before .before .before .before .before .pre in omega (arith, x .work-room, c .before .before .before .before .step-slot .kept .1 .1 .1 .1 .0, c .before .before .before .before .before .before .before .before .copy-table .ensures .long))
+    (λ c. search needs)
+    returns
+    (λ c. let (p, (T, (n, x))) = c .before .before .before .before .before .before .before .before .before .before .before .before .before .before .before .pre in omega (arith, x .work-room, c .before .before .before .before .step-slot .kept .1 .1 .1 .1 .0, c .before .before .before .before .before .before .before .before .copy-table .ensures .long))
+    (λ c κs. search needs)
+    (λ c. search needs)
+    write-chart-requires
+    (λ c κs. let (p, (T, (n, x))) = c .before .before .before .before .before .before .before .before .before .before .before .before .before .before .before .before .before .before .before .before .before .before .pre in omega (arith, x .work-room, c .before .before .before .before .before .before .before .before .before .before .before .step-slot .kept .1 .1 .1 .1 .0, c .before .before .before .before .before .before .before .before .before .before .before .before .before .before .before .copy-table .ensures .long))
+    (λ c. search needs)
+    (λ c. search needs)
+    returns-2)

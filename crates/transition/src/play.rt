@@ -1,0 +1,89 @@
+// Step: the checks, and an action played in a chart.
+use crate::layout::SLOT;
+use crate::step::step_slot;
+use chart::Charted;
+use chart::bytes::sweep;
+use chart::call::CHART_ROOM;
+use chart::call::WORK_ROOM;
+use chart::call::both_at_most;
+use chart::call::check_lent;
+use chart::call::check_under;
+use chart::write::write_chart;
+use pack::contents::read_pack;
+use pack::copy::copy_table;
+use pack::number::Number;
+use pack::number::wide;
+use pack::places::PLACES;
+use pack::table::Table;
+ghost use Rattle.transition.specs.Promises.{Stepped};
+ghost use Rattle.transition.specs.Inner.Steppable.{Steppable, StepPut};
+
+// Plays an action in a chart of so many nodes and writes the chart of what it leaves. The work buffer is cleared.
+pub fn play(
+    pack: &[u8],
+    places: &[u16],
+    triggers: usize,
+    action: usize,
+    chart: &[u8],
+    nodes: usize,
+    fluents: usize,
+    characters: usize,
+    out: &mut [u8],
+    work: &mut [u8],
+) -> Charted
+    requires { ⌜ Steppable (now pack) (now places) triggers action (now chart) nodes fluents characters (now out) (now work) ⌝ }
+    ensures { λ r. ⌜ StepPut (now (pack .entry)) (now (places .entry)) triggers action (now (chart .entry)) nodes fluents characters (now (out .entry)) (now (work .entry)) (now (out .exit)) (now (work .exit)) r ⌝ }
+{
+    copy_table(chart, 1, nodes, work, 0, fluents, characters);
+    let t = Table {
+        rows: 1,
+        nodes,
+        fluents,
+        characters,
+        width: fluents + characters,
+    };
+    let number = step_slot(pack, places, triggers, action, work, t, 0, SLOT);
+    if number != 0 {
+        sweep(work, 0, WORK_ROOM);
+        return Charted::Refused(number, 0);
+    }
+    let rows = wide(work[SLOT]);
+    let length = write_chart(
+        work,
+        rows,
+        fluents + characters,
+        fluents,
+        characters,
+        962,
+        out,
+    );
+    sweep(work, 0, WORK_ROOM);
+    Charted::Chart(length)
+}
+
+// Step(pack, chart, action, chart out, work): the length of the chart of what the action leaves, which is written, or a refusal's number and place.
+pub fn step(pack: &[u8], chart: &[u8], action: usize, out: &mut [u8], work: &mut [u8]) -> Charted
+    ensures { λ r. ⌜ Stepped (now (pack .entry)) (now (chart .entry)) action (now (out .entry)) (now (work .entry)) (now (out .exit)) (now (work .exit)) r ⌝ }
+{
+    let mut places = [0u16; PLACES];
+    let p = read_pack(pack, &mut places);
+    let sizes = p.sizes;
+    let answer = p.answer;
+    let nodes = check_under(answer, p.characters, &sizes[..p.fluents], chart);
+    let enough = both_at_most(CHART_ROOM, out.len(), WORK_ROOM, work.len());
+    match check_lent(nodes, enough, action < p.actions) {
+        Number::Refused(k, at) => Charted::Refused(k, at),
+        Number::Is(n, _) => play(
+            pack,
+            &places,
+            p.triggers,
+            action,
+            chart,
+            n,
+            p.fluents,
+            p.characters,
+            out,
+            work,
+        ),
+    }
+}
