@@ -10,7 +10,7 @@ use Rattle.pack.specs.Syntax.{Theory, Node, Pack}
 use Rattle.pack.specs.State.{meaning}
 use Rattle.pack.specs.Reading.{Reply, gives, with, told}
 use Rattle.pack.specs.Grammar.{packOf}
-use Rattle.pack.specs.Contents.{PackRead, replied, repliedCount}
+use Rattle.pack.specs.Contracts.Contents.{PackRead, replied, repliedCount}
 use Rattle.pack.specs.declared.contents.Contents.{Contents}
 use Rattle.pack.specs.declared.number.Number.{Number}
 use Rattle.pack.specs.declared.number.Number.the-variants as numbers
@@ -18,9 +18,9 @@ use Rattle.chart.specs.declared.Queried.the-variants as queried
 use Rattle.chart.specs.Call.{fits, workRoom, workAfter}
 use Rattle.chart.specs.Replies.{allBelow, firstOf, queryReply}
 use Rattle.chart.specs.Promises.{Asked}
-use Rattle.chart.specs.Inner.Look.{NodesRead, Lookable, Looked}
-use Rattle.chart.proofs.Calling.{and-true, below-valid}
-use Rattle.chart.proofs.Checking.{counted, lent, checks, Accepted, FirstRead, first-read, nodes-read, refused-by, accepted-by, left-alone, check-one}
+use Rattle.chart.specs.Contracts.Look.{NodesRead, Lookable, Looked}
+use Rattle.chart.specs.Laws.Arguments.{and-true, below-valid}
+use Rattle.chart.specs.Laws.Checks.{counted, lent, checks, Accepted, FirstRead, first-read, nodes-read, refused-by, accepted-by, left-alone, check-one}
 
 module _ {pack places : List ℕ} (chart chain : List ℕ) (fluent : ℕ) (work : List ℕ) {p : Contents} (got : PackRead pack places p) (nodes : Number) (under : repliedCount nodes ≡ with (replied (p .answer)) (λ u. counted p chart))
     (there : Bool) (here : there ≡ (allBelow (p .characters) chain && ltb fluent (p .fluents))) (r : Number) (says : repliedCount r ≡ with (repliedCount nodes) (λ v. lent (fits workRoom work) there (gives v))) where

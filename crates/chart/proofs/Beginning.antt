@@ -9,7 +9,7 @@ use borrow.Author.Tests.{leb-true}
 use Rattle.pack.specs.Syntax.{Node, Pack}
 use Rattle.pack.specs.Reading.{Reply, gives, with, told}
 use Rattle.pack.specs.Layout.{chartBytes, ChartFits}
-use Rattle.pack.specs.Contents.{PackRead, replied, repliedCount}
+use Rattle.pack.specs.Contracts.Contents.{PackRead, replied, repliedCount}
 use Rattle.pack.specs.Laws.Exact.{Bytes}
 use Rattle.pack.specs.Laws.PackExact.{pack-exactly}
 use Rattle.pack.specs.declared.contents.Contents.{Contents}
@@ -20,9 +20,9 @@ use Rattle.chart.specs.Answers.{startTable}
 use Rattle.chart.specs.Call.{fits, chartRoom, workRoom, resultAfter, workAfter}
 use Rattle.chart.specs.Replies.{startReply}
 use Rattle.chart.specs.Promises.{Started}
-use Rattle.chart.specs.Inner.Start.{Startable, StartPut}
-use Rattle.chart.proofs.Calling.{and-true}
-use Rattle.chart.proofs.Checking.{nodes-packed, lent, checks, Accepted, refused-by, accepted-by, left-alone, check-none}
+use Rattle.chart.specs.Contracts.Start.{Startable, StartPut}
+use Rattle.chart.specs.Laws.Arguments.{and-true}
+use Rattle.chart.specs.Laws.Checks.{nodes-packed, lent, checks, Accepted, refused-by, accepted-by, left-alone, check-none}
 
 module _ {pack places : List ℕ} (chart work : List ℕ) {p : Contents} (got : PackRead pack places p) (nodes : Number) (under : repliedCount nodes ≡ with (replied (p .answer)) (λ u. gives (p .nodes)))
     (enough : Bool) (here : enough ≡ (fits chartRoom chart && fits workRoom work)) (r : Number) (says : repliedCount r ≡ with (repliedCount nodes) (λ v. lent enough true (gives v))) where

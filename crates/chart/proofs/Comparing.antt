@@ -7,7 +7,7 @@ use lib.ListN.{length, getD}
 use borrow.Author.Tests.{leb-true}
 use Rattle.pack.specs.Syntax.{Node, Pack}
 use Rattle.pack.specs.Reading.{Reply, gives, refuses, with, told}
-use Rattle.pack.specs.Contents.{PackRead, replied, repliedCount}
+use Rattle.pack.specs.Contracts.Contents.{PackRead, replied, repliedCount}
 use Rattle.pack.specs.declared.contents.Contents.{Contents}
 use Rattle.pack.specs.declared.number.Number.{Number}
 use Rattle.pack.specs.declared.number.Number.the-variants as numbers
@@ -18,10 +18,10 @@ use Rattle.chart.specs.Answers.{compareTable}
 use Rattle.chart.specs.Call.{fits, chainRoom, workRoom, resultAfter, workAfter}
 use Rattle.chart.specs.Replies.{firstOf, secondOf, compareReply, chainOf}
 use Rattle.chart.specs.Promises.{Comparison, difference}
-use Rattle.chart.specs.Inner.Look.{NodesRead}
+use Rattle.chart.specs.Contracts.Look.{NodesRead}
 use Rattle.chart.specs.Inner.Match.{Joinable, ChartsMatched}
-use Rattle.chart.proofs.Calling.{and-true}
-use Rattle.chart.proofs.Checking.{counted, lent, checks, Accepted, FirstRead, first-read, nodes-read, refused-by, accepted-by, left-alone, check-first, check-second}
+use Rattle.chart.specs.Laws.Arguments.{and-true}
+use Rattle.chart.specs.Laws.Checks.{counted, lent, checks, Accepted, FirstRead, first-read, nodes-read, refused-by, accepted-by, left-alone, check-first, check-second}
 
 module _ {pack places : List ℕ} (first second chain work : List ℕ) {p : Contents} (got : PackRead pack places p) (nodes : Number) (under : repliedCount nodes ≡ with (replied (p .answer)) (λ u. counted p first)) where
   abbrev enough : Bool

@@ -8,11 +8,11 @@ use Rattle.pack.specs.Syntax.{Node}
 use Rattle.pack.specs.State.{node, meaning}
 use Rattle.pack.specs.State.{target}
 use Rattle.chart.specs.Laws.Built.{copied}
-use Rattle.pack.specs.Table.{cells, rowsAt, Below, Above}
-use Rattle.chart.specs.Inner.Numbers.{keyAt, Given, RowFilled, Laid, Sound, Copied}
-use Rattle.pack.proofs.Tables.{cells-at}
-use Rattle.chart.proofs.Cells.{cells-same, row-in, rows-node, rows-same}
-use Rattle.chart.proofs.Passing.{Going, going-start, going-row, going-end}
+use Rattle.pack.specs.Contracts.Table.{cells, rowsAt, Below, Above}
+use Rattle.chart.specs.Contracts.Numbers.{keyAt, Given, RowFilled, Laid, Sound, Copied}
+use Rattle.pack.specs.Laws.Rows.{cells-at}
+use Rattle.chart.specs.Laws.Cells.{cells-same, row-in, rows-node, rows-same}
+use Rattle.chart.specs.Laws.PassRows.{Going, going-start, going-row, going-end}
 
 pub laid-same : {was now : List ℕ} {n w f c s m t : ℕ} → Laid was n w f c s m t → length now ≡ length was → Laid now n w f c s m t
 laid-same l e = record { few = l .few; wide = l .wide; source = l .source; scratch = l .scratch; target = omega (arith, l .target) }

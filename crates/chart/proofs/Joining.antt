@@ -10,18 +10,18 @@ use lib.ListN.{length, getD}
 use lib.Seq.{ext-getD}
 use Rattle.pack.specs.Syntax.{Node}
 use Rattle.pack.specs.State.{node, nowhere, target, meaning, Closed}
-use Rattle.pack.specs.Table.{cells, rowsAt}
+use Rattle.pack.specs.Contracts.Table.{cells, rowsAt}
 use Rattle.pack.specs.Grammar.{nodeAt}
-use Rattle.pack.proofs.Copying.{NodeBytes, node-bytes}
-use Rattle.pack.proofs.Found.{many-length}
-use Rattle.pack.proofs.Ready.{rows-stand, rows-end, nodes-closed}
-use Rattle.pack.proofs.Tables.{cells-at}
+use Rattle.pack.specs.Laws.CopiedRows.{NodeBytes, node-bytes}
+use Rattle.pack.specs.Laws.PartsFound.{many-length}
+use Rattle.pack.specs.Laws.Accepted.{rows-stand, rows-end, nodes-closed}
+use Rattle.pack.specs.Laws.Rows.{cells-at}
 use Rattle.chart.specs.Laws.Built.{built, copied}
-use Rattle.chart.specs.Inner.Out.{Shifts, shifted, RowsPut}
-use Rattle.chart.specs.Inner.Look.{NodesRead}
+use Rattle.chart.specs.Contracts.Out.{Shifts, shifted, RowsPut}
+use Rattle.chart.specs.Contracts.Look.{NodesRead}
 use Rattle.chart.specs.Inner.Match.{Joinable, Joined}
-use Rattle.chart.proofs.Cells.{cells-length, row-in, rows-node}
-use Rattle.chart.proofs.Loading.{read-small}
+use Rattle.chart.specs.Laws.Cells.{cells-length, row-in, rows-node}
+use Rattle.chart.specs.Laws.LoadedNodes.{read-small}
 
 -- the bytes of a chart's nodes
 module _ {chart : List ℕ} {n f c : ℕ} {t : List Node} (r : NodesRead chart n f c t) where

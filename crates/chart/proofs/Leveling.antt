@@ -7,11 +7,11 @@ use native.Mathlib.Decide.{decLt}
 use native.Mathlib.Omega.{arith}
 use lib.ListN.{getD, length, set, length-set}
 use lib.Seq.{getD-set-same, getD-set-other}
-use Rattle.pack.specs.Table.{Below, Above, Between}
-use Rattle.chart.specs.Inner.Numbers.{Sound}
-use Rattle.chart.specs.Inner.Classed.{classAt}
-use Rattle.chart.specs.Inner.Level.{Placed, SameValues, Alike, RowOk, Against, Levels, Finer, Sorted, RowClassed, Leveled}
-use Rattle.chart.proofs.Cells.{row-in}
+use Rattle.pack.specs.Contracts.Table.{Below, Above, Between}
+use Rattle.chart.specs.Contracts.Numbers.{Sound}
+use Rattle.chart.specs.Contracts.Classed.{classAt}
+use Rattle.chart.specs.Contracts.Level.{Placed, SameValues, Alike, RowOk, Against, Levels, Finer, Sorted, RowClassed, Leveled}
+use Rattle.chart.specs.Laws.Cells.{row-in}
 use Rattle.chart.proofs.Sorting.{Equivalence, finer-above, sorted-none, sorted-row}
 use Rattle.chart.proofs.Valuing.{values-equivalence, values-same}
 

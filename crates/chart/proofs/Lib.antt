@@ -1,19 +1,10 @@
 -- The modules of `proofs/` that belong to no one function.
-pub mod Cells
-pub mod Numbering
-pub mod Passing
 pub mod Copying
-pub mod Merging
 pub mod Sorting
 pub mod Valuing
 pub mod Leveling
 pub mod Parting
 pub mod Outing
-pub mod Charting
-pub mod Calling
-pub mod Checking
-pub mod Loading
-pub mod Looking
 pub mod Asking
 pub mod Starting
 pub mod Beginning

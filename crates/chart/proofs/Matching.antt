@@ -10,10 +10,10 @@ use lib.ListN.{length, getD, drop}
 use lib.Seq.{ext-getD}
 use Rattle.pack.specs.Syntax.{Node}
 use Rattle.pack.specs.State.{State, node, target, meaning, Closed}
-use Rattle.pack.specs.Table.{cells, rowsAt, Above}
+use Rattle.pack.specs.Contracts.Table.{cells, rowsAt, Above}
 use Rattle.pack.specs.Reading.{gives}
 use Rattle.pack.specs.Laws.Table.{finds-walk}
-use Rattle.pack.proofs.Tables.{cells-at, rows-length}
+use Rattle.pack.specs.Laws.Rows.{cells-at, rows-length}
 use Rattle.chart.specs.declared.Matched.{Matched}
 use Rattle.chart.specs.declared.Matched.the-variants as matched
 use Rattle.chart.specs.Compare.{Verdict, same, differ, Compared, Differ}
@@ -24,18 +24,18 @@ use Rattle.chart.specs.Laws.Tables.{IsFull}
 use Rattle.chart.specs.Laws.Bridge.{val, meaning-at}
 use Rattle.chart.specs.Laws.Comparing.{differ-valid}
 use Rattle.chart.specs.Laws.Moore as moore
-use Rattle.chart.specs.Inner.Numbers.{Sound}
-use Rattle.chart.specs.Inner.Level.{Agrees, SameByte}
+use Rattle.chart.specs.Contracts.Numbers.{Sound}
+use Rattle.chart.specs.Contracts.Level.{Agrees, SameByte}
 use Rattle.chart.specs.Inner.Pairs.{leftAt, rightAt, Paired, PairsIn, FirstMet, FirstOther, Sought, Ways, Writable, LongWay, WayWritten}
-use Rattle.chart.specs.Inner.Look.{NodesRead}
-use Rattle.chart.specs.Inner.Put.{Cleared}
+use Rattle.chart.specs.Contracts.Look.{NodesRead}
+use Rattle.chart.specs.Contracts.Put.{Cleared}
 use Rattle.chart.specs.Inner.Match.{Joinable, Joined, Matchable, Said, RowsMatched, ChartsMatched}
-use Rattle.chart.proofs.Cells.{cells-length, row-in, rows-node, rows-same, rows-most}
+use Rattle.chart.specs.Laws.Cells.{cells-length, row-in, rows-node, rows-same, rows-most}
 use Rattle.chart.proofs.Parting.{sound-closed}
 use Rattle.chart.proofs.Pairing.{pairs-first}
-use Rattle.chart.proofs.Charting.{front-back}
-use Rattle.chart.proofs.Looking.{cleared-all}
-use Rattle.chart.proofs.Loading.{read-slim}
+use Rattle.chart.specs.Laws.ChartBytes.{front-back}
+use Rattle.chart.specs.Laws.LookedUp.{cleared-all}
+use Rattle.chart.specs.Laws.LoadedNodes.{read-slim}
 use Rattle.chart.proofs.Joining.{read-long, read-closed, read-values}
 
 module _ {work : List ℕ} {n m f c : ℕ} {chain : List ℕ} (p : Matchable work n m f c chain) where

@@ -10,8 +10,8 @@ use native.Mathlib.Omega.{arith}
 use lib.ListN.{length, getD, set}
 use lib.Seq.{getD-set-same, getD-set-other}
 use borrow.Author.Count.{below-more}
-use Rattle.chart.specs.Inner.Out.{shifted, PartPut, RowPutIn, RowsPut}
-use Rattle.chart.proofs.Cells.{row-in}
+use Rattle.chart.specs.Contracts.Out.{shifted, PartPut, RowPutIn, RowsPut}
+use Rattle.chart.specs.Laws.Cells.{row-in}
 
 pub put-none : (src was : List ℕ) (from to more less : ℕ) → PartPut src was was from to 0 more less
 put-none src was from to more less = record { part = λ q h. absurd (omega arith); low = λ p h. refl; high = λ p h. refl }

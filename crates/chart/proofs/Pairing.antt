@@ -11,10 +11,10 @@ use Rattle.pack.specs.Syntax.{Node}
 use Rattle.pack.specs.State.{target}
 use Rattle.chart.specs.Laws.Count.{all, count-all, count-inj}
 use Rattle.chart.specs.Laws.Breadth.{met-start, met-known, met-new}
-use Rattle.pack.specs.Table.{rowsAt, Below, Above}
-use Rattle.chart.specs.Inner.Put.{Cleared}
-use Rattle.chart.specs.Inner.Numbers.{Sound}
-use Rattle.chart.proofs.Cells.{row-in}
+use Rattle.pack.specs.Contracts.Table.{rowsAt, Below, Above}
+use Rattle.chart.specs.Contracts.Put.{Cleared}
+use Rattle.chart.specs.Contracts.Numbers.{Sound}
+use Rattle.chart.specs.Laws.Cells.{row-in}
 use Rattle.chart.proofs.Parting.{target-at}
 use Rattle.chart.specs.Inner.Pairs.{leftAt, rightAt, fromAt, charAt, markAt, Paired, Pairs, PairsIn, EntryPut, PairMet, FirstMet, Followed}
 

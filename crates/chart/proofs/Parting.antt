@@ -13,16 +13,16 @@ use Rattle.chart.specs.Chart.{Ordered}
 use Rattle.chart.specs.Laws.Merged.{classes, Numbered, no-more, all-apart, grows, first}
 use Rattle.chart.specs.Laws.Bridge.{val, exact, coarse, many}
 use Rattle.chart.specs.Laws.Moore as moore
-use Rattle.pack.specs.Table.{cells, rowsAt, Below, Above}
-use Rattle.chart.specs.Inner.Put.{PartCopied}
-use Rattle.chart.specs.Inner.Numbers.{Sound}
-use Rattle.chart.specs.Inner.Classed.{classAt}
-use Rattle.chart.specs.Inner.Level.{SameValues, Alike, Levels, Finer, Leveled, Parted}
+use Rattle.pack.specs.Contracts.Table.{cells, rowsAt, Below, Above}
+use Rattle.chart.specs.Contracts.Put.{PartCopied}
+use Rattle.chart.specs.Contracts.Numbers.{Sound}
+use Rattle.chart.specs.Contracts.Classed.{classAt}
+use Rattle.chart.specs.Contracts.Level.{SameValues, Alike, Levels, Finer, Leveled, Parted}
 use Rattle.chart.specs.Inner.Values.{Valued}
-use Rattle.pack.proofs.Tables.{cells-at, rows-length}
-use Rattle.chart.proofs.Cells.{cells-length, row-in, rows-node, rows-same}
+use Rattle.pack.specs.Laws.Rows.{cells-at, rows-length}
+use Rattle.chart.specs.Laws.Cells.{cells-length, row-in, rows-node, rows-same}
 use Rattle.chart.proofs.Sorting.{classes-same}
-use Rattle.chart.proofs.Merging.{ordered-sound}
+use Rattle.chart.specs.Laws.MergedRows.{ordered-sound}
 
 -- Over a table: class numbers `key` that are exact at a depth, and those of the next level
 module _ (C : ℕ) (T : List Node) where

@@ -8,13 +8,13 @@ use native.Mathlib.Omega.{arith}
 use lib.ListN.{length}
 use Rattle.pack.specs.Syntax.{Node}
 use Rattle.pack.specs.State.{node}
-use Rattle.pack.specs.Table.{rowsAt, Below, Above}
+use Rattle.pack.specs.Contracts.Table.{rowsAt, Below, Above}
 use Rattle.chart.specs.Laws.Bridge.{val}
 use Rattle.chart.specs.Laws.Breadth.{met-row, met-first, met-none}
-use Rattle.chart.specs.Inner.Numbers.{Sound}
-use Rattle.chart.specs.Inner.Level.{Agrees, SameByte}
+use Rattle.chart.specs.Contracts.Numbers.{Sound}
+use Rattle.chart.specs.Contracts.Level.{Agrees, SameByte}
 use Rattle.chart.specs.Inner.Pairs.{leftAt, rightAt, Paired, Pairs, PairsIn, Followed, Sought}
-use Rattle.chart.proofs.Cells.{row-in}
+use Rattle.chart.specs.Laws.Cells.{row-in}
 use Rattle.chart.proofs.Parting.{same-rows, still-sound, values-byte, byte-values}
 use Rattle.chart.proofs.Pairing.{entries-most}
 

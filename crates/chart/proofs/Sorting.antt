@@ -7,7 +7,7 @@ use native.Mathlib.Numerals.{add-one}
 use native.Mathlib.Nat.{eq-or-lt-of-le, le-of-suc-le-suc}
 use native.Mathlib.Omega.{arith}
 use Rattle.chart.specs.Laws.Merged.{classes, grows, Numbered, first}
-use Rattle.chart.specs.Inner.Level.{Decides, Agrees, Placed, Sorted}
+use Rattle.chart.specs.Contracts.Level.{Decides, Agrees, Placed, Sorted}
 use native.Mathlib.Decide.{decLt}
 use lib.Dec.{leb}
 use borrow.Author.Tests.{leb-true, le-leb}

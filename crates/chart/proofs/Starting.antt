@@ -8,28 +8,28 @@ use native.Mathlib.Omega.{arith}
 use lib.ListN.{length, drop, set}
 use Rattle.pack.specs.Syntax.{Node}
 use Rattle.pack.specs.State.{meaning, Closed}
-use Rattle.pack.specs.Table.{rowsAt}
+use Rattle.pack.specs.Contracts.Table.{rowsAt}
 use Rattle.pack.specs.Layout.{chartBytes, ChartFits}
-use Rattle.pack.specs.Copy.{TableCopied}
-use Rattle.pack.proofs.Tables.{rows-length}
+use Rattle.pack.specs.Contracts.Copy.{TableCopied}
+use Rattle.pack.specs.Laws.Rows.{rows-length}
 use Rattle.chart.specs.Answers.{startTable}
 use Rattle.chart.specs.Call.{workRoom}
-use Rattle.chart.specs.Inner.Numbers.{Laid, Copied, Sound}
-use Rattle.chart.specs.Inner.Put.{Cleared, PartCopied}
-use Rattle.chart.specs.Inner.Out.{RowsPut}
-use Rattle.chart.specs.Inner.Classed.{classAt, Room, Classed, WrittenOut}
-use Rattle.chart.specs.Inner.Level.{Levels, Parted}
-use Rattle.chart.specs.Inner.Start.{Mergeable, Merged, Startable, StartPut}
+use Rattle.chart.specs.Contracts.Numbers.{Laid, Copied, Sound}
+use Rattle.chart.specs.Contracts.Put.{Cleared, PartCopied}
+use Rattle.chart.specs.Contracts.Out.{RowsPut}
+use Rattle.chart.specs.Contracts.Classed.{classAt, Room, Classed, WrittenOut}
+use Rattle.chart.specs.Contracts.Level.{Levels, Parted}
+use Rattle.chart.specs.Contracts.Start.{Mergeable, Merged, Startable, StartPut}
 use Rattle.chart.specs.States.{AtMost}
-use Rattle.chart.specs.Laws.Merged.{classes}
+use Rattle.chart.specs.Laws.Merged.{classes, grows, no-more}
 use Rattle.chart.specs.Laws.Tabled.{tabled-at}
 use Rattle.chart.specs.Laws.Charted.{chart, few-rows}
 use Rattle.chart.specs.Laws.Answers.{written-short, start-table-iff, fits-table, start-fits}
-use Rattle.chart.proofs.Cells.{rows-same, rows-most}
-use Rattle.chart.proofs.Merging.{ordered-sound, copied-out}
-use Rattle.chart.proofs.Charting.{chart-out}
-use Rattle.chart.proofs.Loading.{read-small, read-same, merged-small}
-use Rattle.chart.proofs.Looking.{cleared-all}
+use Rattle.chart.specs.Laws.Cells.{rows-same, rows-most}
+use Rattle.chart.specs.Laws.MergedRows.{ordered-sound, copied-out}
+use Rattle.chart.specs.Laws.ChartBytes.{chart-out}
+use Rattle.chart.specs.Laws.LoadedNodes.{read-small, read-same, merged-small}
+use Rattle.chart.specs.Laws.LookedUp.{cleared-all}
 
 module _ {was : List ℕ} {n w f c : ℕ} (p : Mergeable was n w f c) where
   -- fewer rows are smaller
@@ -48,9 +48,6 @@ module _ {was : List ℕ} {n w f c : ℕ} (p : Mergeable was n w f c) where
       same-table : rowsAt mid′ w f c 1100 k ≡ rowsAt mid w f c 1100 k
       same-table = rows-same mid mid′ w f c 1100 1100 k (p .wide) (λ q h. y .low (1100 + q) (omega (arith, small k (x .few))))
 
-      pub merge-room : Room mid′ k w f c 1100 2200 2400
-      merge-room = record { wide = p .wide; source = omega (arith, small k (x .few)); classes = omega (arith, x .few, p .few); target = omega (arith, small k (x .few), p .room) }
-
       -- at most 32 rows are at most 32 classes
       pub merge-classed : Classed mid′ k w f c 1100 2200 × (classes (classAt mid′ 2200) k ≡ count)
       merge-classed = by-cases (decLt 32 count) (λ h. absurd (y .many h few-states)) (λ h. y .few (omega arith))
@@ -64,6 +61,12 @@ module _ {was : List ℕ} {n w f c : ℕ} (p : Mergeable was n w f c) where
               let written = chart (tabled-at c t closed 0 pos) in
               few-rows written 32 .1 (omega (arith, written-short c (written .rows) t (written .written) closed pos (written .means), x .few, p .few))
 
+      pub merge-target : 2400 + k * w ≤ length mid′
+      merge-target = omega (arith, small k (x .few), long, long′, p .room)
+
+      pub merge-room : Room mid′ k w f c 1100 2200 2400
+      merge-room = record { wide = p .wide; source = omega (arith, small k (x .few)); classes = omega (arith, x .few, p .few); most = k; below = λ i l. omega (arith, grows (classAt mid′ 2200) i k l, no-more (classAt mid′ 2200) k (merge-classed .0 .numbered)); target = omega (arith, small k (x .few), p .room) }
+
       -- where each row is one, the rows are copied
       pub merge-copied : k ≤ count → {now : List ℕ} → PartCopied mid′ now 1100 2400 (k * w) → WrittenOut mid′ now k w f c 1100 2400 k
       merge-copied h z = copied-out (merge-classed .0) (omega (arith, merge-classed .1)) (p .wide) z
@@ -72,7 +75,7 @@ module _ {was : List ℕ} {n w f c : ℕ} (p : Mergeable was n w f c) where
       merge-merged {now} {r} z = record {
         starts = (z .written, z .means ∙ ap (λ (t : List Node). meaning c t 0) same-table ∙ x .means);
         few = omega (arith, z .few, x .few);
-        high = λ q h. z .high q (omega (arith, small k (x .few))) ∙ y .high q (omega (arith, x .few, p .few)) ∙ x .high q (omega (arith, small n (omega arith)));
+        high = λ q h. z .high q (omega (arith, small r (omega (arith, z .few, x .few)))) ∙ y .high q (omega (arith, x .few, p .few)) ∙ x .high q (omega (arith, small n (omega arith)));
       }
 
 -- The chart of a pack's nodes

@@ -7,10 +7,10 @@ use native.Mathlib.Decide.{ℕ-discrete}
 use native.Mathlib.Omega.{arith}
 use lib.ListN.{getD, length, set, length-append, List·getD-append}
 use lib.Seq.{ext-getD, getD-set-same, getD-set-other, getD-append-seam}
-use Rattle.pack.specs.Table.{Above}
-use Rattle.pack.proofs.Tables.{cells-at}
+use Rattle.pack.specs.Contracts.Table.{Above}
+use Rattle.pack.specs.Laws.Rows.{cells-at}
 use Rattle.chart.specs.Inner.Pairs.{fromAt, charAt, Ways, WayWritten}
-use Rattle.chart.proofs.Cells.{cells-length}
+use Rattle.chart.specs.Laws.Cells.{cells-length}
 
 module _ {bytes : List ℕ} {q e : ℕ} (x : Ways bytes q e) (at p : ℕ) (some : 0 < at) (within : at ≤ e) (back : p ≡ fromAt bytes q at) where
   -- the chain by which an entry was met is that of the entry before it, and a character

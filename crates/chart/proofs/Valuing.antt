@@ -8,11 +8,11 @@ use native.Mathlib.Decide.{decLt}
 use native.Mathlib.Omega.{arith}
 use lib.ListN.{getD, length, set, length-set}
 use lib.Seq.{getD-set-same, getD-set-other}
-use Rattle.pack.specs.Table.{Below, Above}
-use Rattle.chart.specs.Inner.Classed.{classAt}
-use Rattle.chart.specs.Inner.Level.{Agrees, Placed, SameByte, SameValues, Levels, Sorted}
+use Rattle.pack.specs.Contracts.Table.{Below, Above}
+use Rattle.chart.specs.Contracts.Classed.{classAt}
+use Rattle.chart.specs.Contracts.Level.{Agrees, Placed, SameByte, SameValues, Levels, Sorted}
 use Rattle.chart.specs.Inner.Values.{sumOf, markOf, leadMark, Last, Chain, Chained, Valuable, RowValued, Valued}
-use Rattle.chart.proofs.Cells.{row-in}
+use Rattle.chart.specs.Laws.Cells.{row-in}
 use Rattle.chart.proofs.Sorting.{Equivalence, sorted-none, sorted-row}
 
 -- `SameValues` is an equivalence

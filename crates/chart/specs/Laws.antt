@@ -20,3 +20,12 @@ pub mod Replies
 pub mod Needed
 pub mod NoVerdict
 pub mod Breadth
+pub mod Arguments
+pub mod Cells
+pub mod ChartBytes
+pub mod Checks
+pub mod LoadedNodes
+pub mod LookedUp
+pub mod MergedRows
+pub mod Numbering
+pub mod PassRows

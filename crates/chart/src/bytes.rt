@@ -3,7 +3,7 @@ ghost use mathlib.Core.Path.{_≡_};
 ghost use mathlib.Core.Bool.{false};
 ghost use Prim.Native.Nat.{ℕ, _+_, _<_, _≤_};
 ghost use lib.ListN.{length, getD};
-ghost use Rattle.chart.specs.Inner.Put.{Apart, PartCopied, Cleared};
+ghost use Rattle.chart.specs.Contracts.Put.{Apart, PartCopied, Cleared};
 
 // Sets the k bytes from a on to 0.
 pub fn clear(work: &mut [u8], a: usize, k: usize)

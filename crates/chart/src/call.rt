@@ -9,8 +9,8 @@ ghost use lib.ListN.{length};
 ghost use lib.Dec.{ltb, leb};
 ghost use Rattle.pack.specs.Reading.{gives, refuses, with, told, pick, whole};
 ghost use Rattle.pack.specs.Grammar.{nodesAt, inChart};
-ghost use Rattle.pack.specs.Answer.{dims};
-ghost use Rattle.pack.specs.Contents.{replied, repliedCount};
+ghost use Rattle.pack.specs.Contracts.Answer.{dims};
+ghost use Rattle.pack.specs.Contracts.Contents.{replied, repliedCount};
 ghost use Rattle.chart.specs.Replies.{allBelow};
 
 // How long a work buffer must be, of which so many bytes are set to 0 in the end.

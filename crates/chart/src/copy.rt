@@ -7,8 +7,8 @@ use crate::number::number_of;
 use pack::number::wide;
 ghost use Prim.Native.Nat.{_+_, _*_, _<_};
 ghost use lib.ListN.{getD};
-ghost use Rattle.pack.specs.Table.{cells};
-ghost use Rattle.chart.specs.Inner.Numbers.{Numbering, RowFilled, Laid, Sound, Copied, keyAt};
+ghost use Rattle.pack.specs.Contracts.Table.{cells};
+ghost use Rattle.chart.specs.Contracts.Numbers.{Numbering, RowFilled, Laid, Sound, Copied, keyAt};
 
 // Fills row i: the values and the beliefs of the source row that number i was given to.
 pub fn fill_row(

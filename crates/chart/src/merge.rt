@@ -3,8 +3,8 @@ use crate::bytes::copy_part;
 use pack::number::wide;
 ghost use Prim.Native.Nat.{ℕ, _+_, _<_, _≤_};
 ghost use lib.ListN.{length, getD};
-ghost use Rattle.chart.specs.Inner.Numbers.{Sound};
-ghost use Rattle.chart.specs.Inner.Classed.{Mapped, RowPut, ClassPut, Room, Classed, WrittenOut};
+ghost use Rattle.chart.specs.Contracts.Numbers.{Sound};
+ghost use Rattle.chart.specs.Contracts.Classed.{Mapped, RowPut, ClassPut, Room, Classed, WrittenOut};
 
 // Writes the classes of the c rows that stand from `from` on, from `to` on.
 pub fn map_part(work: &mut [u8], from: usize, to: usize, k: usize, n: usize, c: usize)

@@ -3,7 +3,7 @@ use pack::number::wide;
 ghost use mathlib.Core.Path.{_≡_};
 ghost use Prim.Native.Nat.{ℕ, suc, _+_, _<_, _≤_, max};
 ghost use lib.ListN.{length, getD};
-ghost use Rattle.chart.specs.Inner.Numbers.{Numbering, Given, Named};
+ghost use Rattle.chart.specs.Contracts.Numbers.{Numbering, Given, Named};
 
 // How many are numbered once r, a number below `count` or `count` itself, is.
 pub fn more(count: usize, r: usize) -> usize

@@ -5,8 +5,8 @@ use pack::number::wide;
 ghost use mathlib.Core.Path.{_≡_};
 ghost use Prim.Native.Nat.{_+_, _*_, _<_, _≤_};
 ghost use lib.ListN.{length, getD};
-ghost use Rattle.chart.specs.Inner.Numbers.{Sound};
-ghost use Rattle.chart.specs.Inner.Level.{Agrees, SameByte};
+ghost use Rattle.chart.specs.Contracts.Numbers.{Sound};
+ghost use Rattle.chart.specs.Contracts.Level.{Agrees, SameByte};
 ghost use Rattle.chart.specs.Inner.Pairs.{markAt, Paired, PairsIn, PairMet, FirstMet, Followed, Sought, Ways, Writable, LongWay, WayWritten};
 
 // Meets the pair of rows x and y, from entry `from` by character d, where `count` have been met: if it is new, it is marked, and an entry more. How many are met then.

@@ -6,9 +6,9 @@ ghost use mathlib.Core.Path.{_≡_};
 ghost use Prim.Native.Nat.{ℕ, _+_, _*_, _<_, _≤_};
 ghost use lib.ListN.{length, getD};
 ghost use Rattle.chart.specs.Chart.{Ordered};
-ghost use Rattle.pack.specs.Table.{rowsAt};
-ghost use Rattle.chart.specs.Inner.Numbers.{Sound};
-ghost use Rattle.chart.specs.Inner.Level.{Decides, Agrees, Placed, SameValues, SameClass, Alike, RowOk, Against, Levels, Finer, RowClassed, Leveled, Parted};
+ghost use Rattle.pack.specs.Contracts.Table.{rowsAt};
+ghost use Rattle.chart.specs.Contracts.Numbers.{Sound};
+ghost use Rattle.chart.specs.Contracts.Level.{Decides, Agrees, Placed, SameValues, SameClass, Alike, RowOk, Against, Levels, Finer, RowClassed, Leveled, Parted};
 
 // The first of the c characters whose beliefs, from a on and from b on, are of different classes, which stand from k on; c where there is none.
 pub fn first_apart(work: &[u8], a: usize, b: usize, c: usize, k: usize) -> usize

@@ -11,7 +11,7 @@ use pack::number::Number;
 use pack::table::Table;
 use pack::table::follow;
 ghost use Prim.Native.Nat.{_<_};
-ghost use Rattle.chart.specs.Inner.Look.{Lookable, Looked};
+ghost use Rattle.chart.specs.Contracts.Look.{Lookable, Looked};
 ghost use Rattle.chart.specs.Promises.{Asked};
 
 // The value in a chart of so many nodes. The chart is loaded into the work buffer, which is cleared.

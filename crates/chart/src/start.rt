@@ -14,7 +14,7 @@ use pack::contents::read_contents;
 use pack::copy::copy_table;
 use pack::number::Number;
 ghost use Rattle.chart.specs.Promises.{Started};
-ghost use Rattle.chart.specs.Inner.Start.{Mergeable, Merged, Startable, StartPut};
+ghost use Rattle.chart.specs.Contracts.Start.{Mergeable, Merged, Startable, StartPut};
 
 // The numbers and keys of the pass, and the rows that it reaches.
 const NUMBERS: usize = 1024;

@@ -3,7 +3,7 @@ use pack::number::wide;
 ghost use mathlib.Core.Path.{_≡_};
 ghost use Prim.Native.Nat.{_+_, _<_, _≤_};
 ghost use lib.ListN.{length, getD};
-ghost use Rattle.chart.specs.Inner.Level.{Agrees, Placed, SameByte, SameValues, Levels};
+ghost use Rattle.chart.specs.Contracts.Level.{Agrees, Placed, SameByte, SameValues, Levels};
 ghost use Rattle.chart.specs.Inner.Values.{markOf, Chain, Chained, Valuable, RowValued, Valued};
 
 // The first of the f bytes from a on that is not the same from b on; f where all are.

@@ -2,8 +2,8 @@
 ghost use mathlib.Core.Path.{_≡_};
 ghost use Prim.Native.Nat.{ℕ, _+_, _*_, _<_, _≤_};
 ghost use lib.ListN.{length, set};
-ghost use Rattle.chart.specs.Inner.Numbers.{Sound};
-ghost use Rattle.chart.specs.Inner.Out.{Shifts, PartPut, RowPutIn, RowsPut};
+ghost use Rattle.chart.specs.Contracts.Numbers.{Sound};
+ghost use Rattle.chart.specs.Contracts.Out.{Shifts, PartPut, RowPutIn, RowsPut};
 
 // Puts the k bytes of src from `from` on into `out` from `to` on, each with `more` added and `less` taken away.
 pub fn put_part(src: &[u8], from: usize, out: &mut [u8], to: usize, k: usize, more: u8, less: u8)

@@ -9,10 +9,10 @@ use borrow.Author.Tests.{lt-ltb, le-ltb}
 use Rattle.pack.specs.Reading.{done, mapped, many}
 use Rattle.pack.specs.Number.{between, item}
 use Rattle.pack.specs.Grammar.{testAt}
-use Rattle.pack.specs.Said.{forget}
-use Rattle.pack.specs.Answer.{dims, claimAt}
+use Rattle.pack.specs.Contracts.Said.{forget}
+use Rattle.pack.specs.Contracts.Answer.{dims, claimAt}
 use Rattle.pack.specs.Laws.Accepts.{one}
-use Rattle.pack.proofs.Laws.{many-forget, test-forget}
+use Rattle.pack.specs.Laws.Runs.{many-forget, test-forget}
 
 -- a "no" promises nothing
 pub unsaid : {A : Type 0} → false ≡ true → A

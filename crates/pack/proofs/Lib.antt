@@ -1,13 +1,3 @@
 pub mod Tests
-pub mod Tables
-pub mod OneByte
-pub mod Judging
-pub mod Writing
-pub mod Copying
-pub mod Laws
-pub mod Marks
-pub mod Found
-pub mod Bounded
 pub mod InRange
-pub mod Ready
 pub mod Opening

@@ -6,8 +6,8 @@ use native.Mathlib.Omega.{arith}
 use Rattle.pack.specs.Reading.{done, bind, mapped, many}
 use Rattle.pack.specs.Number.{between}
 use Rattle.pack.specs.Grammar.{headAt}
-use Rattle.pack.specs.Said.{said, behind, answered}
-use Rattle.pack.specs.Answer.{dims, inTurn, openingAt}
+use Rattle.pack.specs.Contracts.Said.{said, behind, answered}
+use Rattle.pack.specs.Contracts.Answer.{dims, inTurn, openingAt}
 use Rattle.pack.specs.declared.number.Number.{Number}
 use Rattle.pack.specs.declared.number.Number.the-variants.{Is, Refused}
 use Rattle.pack.specs.declared.number.Checked.{Checked}

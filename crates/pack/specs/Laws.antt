@@ -6,3 +6,13 @@ pub mod Accepts
 pub mod PackBack
 pub mod Exact
 pub mod PackExact
+pub mod Runs
+pub mod Marks
+pub mod Bounded
+pub mod CopiedRows
+pub mod PartsFound
+pub mod Accepted
+pub mod Rows
+pub mod Judged
+pub mod OneByte
+pub mod WrittenValues

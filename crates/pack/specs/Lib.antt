@@ -1,16 +1,9 @@
 pub mod Reading
 pub mod Number
-pub mod Said
 pub mod Laws
+pub mod Contracts
 pub mod Syntax
 pub mod State
 pub mod Condition
 pub mod Grammar
 pub mod Layout
-pub mod Table
-pub mod Judge
-pub mod Write
-pub mod Copy
-pub mod Answer
-pub mod Places
-pub mod Contents

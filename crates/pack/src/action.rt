@@ -8,8 +8,8 @@ use crate::number::Number;
 use crate::number::read_between;
 ghost use Prim.Native.Nat.{_+_, _≤_};
 ghost use lib.ListN.{length};
-ghost use Rattle.pack.specs.Answer.{dims};
-ghost use Rattle.pack.specs.Places.{Within, ObservedRead, ActionRead, ActionsRead};
+ghost use Rattle.pack.specs.Contracts.Answer.{dims};
+ghost use Rattle.pack.specs.Contracts.Places.{Within, ObservedRead, ActionRead, ActionsRead};
 
 // The observation conditions, one for each character.
 pub fn read_observed(

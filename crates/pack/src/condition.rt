@@ -9,8 +9,8 @@ ghost use mathlib.Core.Path.{_≡_};
 ghost use Rattle.pack.specs.Reading.{mapped, many};
 ghost use Rattle.pack.specs.Number.{item, counted};
 ghost use Rattle.pack.specs.Grammar.{testAt, conditionAt};
-ghost use Rattle.pack.specs.Said.{shown, forget};
-ghost use Rattle.pack.specs.Answer.{dims, claimAt};
+ghost use Rattle.pack.specs.Contracts.Said.{shown, forget};
+ghost use Rattle.pack.specs.Contracts.Answer.{dims, claimAt};
 
 // A chain's characters: count of them, from a position on.
 pub fn check_chain(s: &[u8], at: usize, characters: usize, count: usize) -> Checked

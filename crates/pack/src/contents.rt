@@ -11,9 +11,9 @@ use crate::utility::read_utilities;
 ghost use Prim.Native.Nat.{_≤_};
 ghost use lib.ListN.{length, take};
 ghost use mathlib.Core.Path.{_≡_};
-ghost use Rattle.pack.specs.Answer.{dims};
-ghost use Rattle.pack.specs.Places.{Within};
-ghost use Rattle.pack.specs.Contents.{TheoryRead, BodyRead, PartsRead, PackRead, ContentsRead, Refusal};
+ghost use Rattle.pack.specs.Contracts.Answer.{dims};
+ghost use Rattle.pack.specs.Contracts.Places.{Within};
+ghost use Rattle.pack.specs.Contracts.Contents.{TheoryRead, BodyRead, PartsRead, PackRead, ContentsRead, Refusal};
 
 // How many actions and triggers there are.
 pub struct Counts {

@@ -1,6 +1,6 @@
 // The nodes of a pack or chart, copied into a table in a lent buffer. Every number of a node is one byte, and a belief is written plus 1.
 ghost use Prim.Native.Nat.{_<_, _+_, _*_};
-ghost use Rattle.pack.specs.Copy.{Copyable, Copied, RowCopyable, RowCopied, TableCopyable, TableCopied};
+ghost use Rattle.pack.specs.Contracts.Copy.{Copyable, Copied, RowCopyable, RowCopied, TableCopyable, TableCopied};
 
 // Bytes copied from a place to a place, each less by so much.
 pub fn copy_bytes(s: &[u8], from: usize, buffer: &mut [u8], to: usize, count: usize, less: u8)

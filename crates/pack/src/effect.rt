@@ -8,8 +8,8 @@ ghost use mathlib.Core.Path.{_≡_};
 ghost use Prim.Native.Nat.{_+_, _≤_};
 ghost use Rattle.pack.specs.Reading.{mapped};
 ghost use Rattle.pack.specs.Grammar.{effectAt, effectsAt, consentersAt};
-ghost use Rattle.pack.specs.Said.{shown, forget};
-ghost use Rattle.pack.specs.Answer.{dims};
+ghost use Rattle.pack.specs.Contracts.Said.{shown, forget};
+ghost use Rattle.pack.specs.Contracts.Answer.{dims};
 
 // Whom an effect is for, a fluent, a value.
 pub fn check_effect(s: &[u8], at: usize, characters: usize, domains: &[u8]) -> Checked

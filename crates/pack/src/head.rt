@@ -7,8 +7,8 @@ use crate::reader::new;
 use crate::reader::next;
 ghost use mathlib.Core.Path.{_≡_};
 ghost use Prim.Native.Nat.{_≤_};
-ghost use Rattle.pack.specs.Said.{said, answered};
-ghost use Rattle.pack.specs.Answer.{inTurn, openingAt, DomainsRead, HeadRead};
+ghost use Rattle.pack.specs.Contracts.Said.{said, answered};
+ghost use Rattle.pack.specs.Contracts.Answer.{inTurn, openingAt, DomainsRead, HeadRead};
 
 // What a head begins with: how many characters and fluents there are.
 pub struct Opening {

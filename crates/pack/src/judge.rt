@@ -12,8 +12,8 @@ ghost use Rattle.pack.specs.Syntax.{is, isNot, atLeast, Test, Condition,
 ghost use Rattle.pack.specs.Reading.{pick, done};
 ghost use Rattle.pack.specs.Grammar.{Dimensions, testAt, conditionAt, rulesAt};
 ghost use Rattle.pack.specs.Condition.{compares, allPass};
-ghost use Rattle.pack.specs.Table.{stateOf};
-ghost use Rattle.pack.specs.Judge.{alternativeAt, Small, Over, Readable, Judged};
+ghost use Rattle.pack.specs.Contracts.Table.{stateOf};
+ghost use Rattle.pack.specs.Contracts.Judge.{alternativeAt, Small, Over, Readable, Judged};
 
 // A test's kind: 0 is, 1 is not, 2 at least.
 pub fn compare(kind: u8, x: u8, value: u8) -> bool

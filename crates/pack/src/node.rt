@@ -10,9 +10,9 @@ ghost use Prim.Native.Nat.{_+_};
 ghost use Rattle.pack.specs.Reading.{mapped, many, told, whole};
 ghost use Rattle.pack.specs.Number.{beliefAt};
 ghost use Rattle.pack.specs.Grammar.{nodeAt, nodesAt, inChart};
-ghost use Rattle.pack.specs.Said.{shown, said, forget};
-ghost use Rattle.pack.specs.Answer.{dims, valuesAt};
-ghost use Rattle.pack.specs.Contents.{repliedCount};
+ghost use Rattle.pack.specs.Contracts.Said.{shown, said, forget};
+ghost use Rattle.pack.specs.Contracts.Answer.{dims, valuesAt};
+ghost use Rattle.pack.specs.Contracts.Contents.{repliedCount};
 
 // A node's values, one for each fluent.
 pub fn check_values(s: &[u8], at: usize, domains: &[u8]) -> Checked

@@ -1,7 +1,7 @@
 // Numbers, and numbers with their limits.
 ghost use mathlib.Core.Path.{_≡_};
 ghost use Rattle.pack.specs.Number.{numberAt, between, item, beliefAt, risingAt};
-ghost use Rattle.pack.specs.Said.{said, behind};
+ghost use Rattle.pack.specs.Contracts.Said.{said, behind};
 
 // What reading a number finds: its value and the place after it, or a refusal's number and place.
 pub enum Number {

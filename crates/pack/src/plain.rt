@@ -8,8 +8,8 @@ ghost use mathlib.Core.Bool.{true};
 ghost use Rattle.pack.specs.Reading.{done, mapped, many};
 ghost use Rattle.pack.specs.Number.{item};
 ghost use Rattle.pack.specs.Grammar.{testAt};
-ghost use Rattle.pack.specs.Said.{forget};
-ghost use Rattle.pack.specs.Answer.{dims, claimAt};
+ghost use Rattle.pack.specs.Contracts.Said.{forget};
+ghost use Rattle.pack.specs.Contracts.Answer.{dims, claimAt};
 
 // The limit for a byte: below 128 it is a number by itself.
 pub fn byte_limit(limit: usize) -> usize

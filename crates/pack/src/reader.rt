@@ -5,7 +5,7 @@ use crate::number::place_after;
 use crate::number::read_between;
 ghost use mathlib.Core.Path.{_≡_};
 ghost use Rattle.pack.specs.Number.{between};
-ghost use Rattle.pack.specs.Said.{said, behind};
+ghost use Rattle.pack.specs.Contracts.Said.{said, behind};
 
 // The bytes, and the place of the number that comes next.
 pub struct Reader<'a> {

@@ -4,7 +4,7 @@ ghost use Prim.Native.Nat.{_<_, _+_, _≤_};
 ghost use lib.ListN.{length};
 ghost use mathlib.Core.Path.{_≡_};
 ghost use Rattle.pack.specs.State.{walk, Valid};
-ghost use Rattle.pack.specs.Table.{tableOf, TableFits, bytesAt};
+ghost use Rattle.pack.specs.Contracts.Table.{tableOf, TableFits, bytesAt};
 
 // Where the rows of a table begin, how many there are, and what each has: values, then beliefs.
 pub struct Table {

@@ -7,8 +7,8 @@ use crate::number::read_between;
 use crate::places::TRIGGERS;
 ghost use Prim.Native.Nat.{_+_, _≤_};
 ghost use lib.ListN.{length};
-ghost use Rattle.pack.specs.Answer.{dims};
-ghost use Rattle.pack.specs.Places.{Within, TriggerRead, TriggersRead};
+ghost use Rattle.pack.specs.Contracts.Answer.{dims};
+ghost use Rattle.pack.specs.Contracts.Places.{Within, TriggerRead, TriggersRead};
 
 // A trigger: a condition and effects. Its places are marked from base on.
 pub fn read_trigger(

@@ -10,9 +10,9 @@ ghost use mathlib.Core.Path.{_≡_};
 ghost use lib.ListN.{length};
 ghost use Rattle.pack.specs.Reading.{mapped};
 ghost use Rattle.pack.specs.Grammar.{ruleAt, rulesAt};
-ghost use Rattle.pack.specs.Said.{shown, forget};
-ghost use Rattle.pack.specs.Answer.{dims};
-ghost use Rattle.pack.specs.Places.{Within, UtilitiesRead};
+ghost use Rattle.pack.specs.Contracts.Said.{shown, forget};
+ghost use Rattle.pack.specs.Contracts.Answer.{dims};
+ghost use Rattle.pack.specs.Contracts.Places.{Within, UtilitiesRead};
 
 // A condition and a number.
 pub fn check_rule(s: &[u8], at: usize, characters: usize, domains: &[u8]) -> Checked

@@ -6,8 +6,8 @@ ghost use mathlib.Core.List.{List};
 ghost use lib.ListN.{length, getD};
 ghost use Rattle.pack.specs.Reading.{done};
 ghost use Rattle.pack.specs.Grammar.{Dimensions, effectAt, effectsAt, consentersAt};
-ghost use Rattle.pack.specs.Judge.{Small, Readable};
-ghost use Rattle.pack.specs.Write.{Writable, EffectWritten, EffectsWritten};
+ghost use Rattle.pack.specs.Contracts.Judge.{Small, Readable};
+ghost use Rattle.pack.specs.Contracts.Write.{Writable, EffectWritten, EffectsWritten};
 
 // One effect: written where it is meant for whom.
 pub fn write_effect(s: &[u8], at: usize, whom: usize, buffer: &mut [u8], row: usize, fluents: usize)

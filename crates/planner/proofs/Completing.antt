@@ -9,11 +9,11 @@ use lib.ListN.{length, getD}
 use Rattle.pack.specs.Syntax.{Node, Theory, Rule}
 use Rattle.pack.specs.State.{State, meaning}
 use Rattle.pack.specs.Reading.{done}
-use Rattle.pack.specs.Answer.{dims}
+use Rattle.pack.specs.Contracts.Answer.{dims}
 use Rattle.pack.specs.Grammar.{Dimensions, rulesAt}
 use Rattle.pack.specs.Condition as condition
-use Rattle.pack.specs.Judge.{Over, Judged}
-use Rattle.pack.specs.Table.{stateOf, Below, Above}
+use Rattle.pack.specs.Contracts.Judge.{Over, Judged}
+use Rattle.pack.specs.Contracts.Table.{stateOf, Below, Above}
 use Rattle.pack.specs.declared.table.Table.{Table}
 use Rattle.chart.specs.Call.{workRoom}
 use Rattle.chart.specs.Earliest.{Before}

@@ -12,27 +12,27 @@ use Rattle.pack.specs.Syntax.{Theory, Node, Pack}
 use Rattle.pack.specs.State.{meaning}
 use Rattle.pack.specs.Reading.{Reply, gives, with, told}
 use Rattle.pack.specs.Grammar.{packOf}
-use Rattle.pack.specs.Copy.{TableCopied}
-use Rattle.pack.specs.Contents.{PackRead, replied, repliedCount}
-use Rattle.pack.specs.Table.{Above}
+use Rattle.pack.specs.Contracts.Copy.{TableCopied}
+use Rattle.pack.specs.Contracts.Contents.{PackRead, replied, repliedCount}
+use Rattle.pack.specs.Contracts.Table.{Above}
 use Rattle.pack.specs.Laws.Exact.{Bytes}
 use Rattle.pack.specs.declared.contents.Contents.{Contents}
 use Rattle.pack.specs.declared.number.Number.{Number}
 use Rattle.pack.specs.declared.number.Number.the-variants as numbers
 use Rattle.pack.specs.declared.table.Table.{Table}
-use Rattle.pack.proofs.Ready.{small-pack}
+use Rattle.pack.specs.Laws.Accepted.{small-pack}
 use Rattle.chart.specs.Call.{fits, workRoom, workAfter}
 use Rattle.chart.specs.Replies.{firstOf}
 use Rattle.chart.specs.Laws.Answers.{fits-table}
 use Rattle.chart.specs.Laws.Replies.{chart-fits}
-use Rattle.chart.specs.Inner.Look.{NodesRead}
-use Rattle.chart.specs.Inner.Put.{Cleared}
-use Rattle.chart.proofs.Calling.{and-true}
-use Rattle.chart.proofs.Loading.{read-small}
-use Rattle.chart.proofs.Looking.{cleared-all}
-use Rattle.chart.proofs.Checking.{counted, lent, checks, Accepted, FirstRead, first-read, nodes-read, refused-by, accepted-by, left-alone, check-one}
-use Rattle.transition.proofs.Loaded.{read-tabled}
-use Rattle.transition.proofs.Loaded.{short-pack}
+use Rattle.chart.specs.Contracts.Look.{NodesRead}
+use Rattle.chart.specs.Contracts.Put.{Cleared}
+use Rattle.chart.specs.Laws.Arguments.{and-true}
+use Rattle.chart.specs.Laws.LoadedNodes.{read-small}
+use Rattle.chart.specs.Laws.LookedUp.{cleared-all}
+use Rattle.chart.specs.Laws.Checks.{counted, lent, checks, Accepted, FirstRead, first-read, nodes-read, refused-by, accepted-by, left-alone, check-one}
+use Rattle.transition.specs.Laws.Loaded.{read-tabled}
+use Rattle.transition.specs.Laws.Loaded.{short-pack}
 use Rattle.planner.specs.declared.Judged.the-variants as judged
 use Rattle.planner.specs.declared.memory.Shape.{Shape}
 use Rattle.planner.specs.Ending.{Explained}

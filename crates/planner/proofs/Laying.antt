@@ -8,13 +8,13 @@ use lib.ListN.{length, getD, set, length-set}
 use lib.Seq.{getD-set-same, getD-set-other}
 use Rattle.pack.specs.Syntax.{Node}
 use Rattle.pack.specs.State.{meaning}
-use Rattle.pack.specs.Copy.{TableCopied}
-use Rattle.pack.specs.Table.{rowsAt}
+use Rattle.pack.specs.Contracts.Copy.{TableCopied}
+use Rattle.pack.specs.Contracts.Table.{rowsAt}
 use Rattle.chart.specs.Chart.{Starts}
-use Rattle.chart.specs.Inner.Put.{Cleared, Apart, PartCopied}
-use Rattle.chart.specs.Inner.Start.{Merged}
-use Rattle.chart.proofs.Cells.{rows-same}
-use Rattle.chart.proofs.Loading.{read-small, read-same, merged-small}
+use Rattle.chart.specs.Contracts.Put.{Cleared, Apart, PartCopied}
+use Rattle.chart.specs.Contracts.Start.{Merged}
+use Rattle.chart.specs.Laws.Cells.{rows-same}
+use Rattle.chart.specs.Laws.LoadedNodes.{read-small, read-same, merged-small}
 use Rattle.planner.specs.declared.memory.Shape.{Shape}
 use Rattle.planner.specs.Inner.Memory.{memoryAt}
 use Rattle.planner.specs.Inner.Search.{Laying, LaidStart}

@@ -4,5 +4,6 @@ pub mod Telling
 pub mod Looking
 pub mod Judging
 pub mod Laying
+pub mod Repeating
 pub mod Completing
 pub mod Seeking

@@ -15,14 +15,14 @@ use Rattle.pack.specs.Reading.{Reading, done, Reader, pick}
 use Rattle.pack.specs.Number.{counted, numberAt}
 use Rattle.pack.specs.Grammar.{Dimensions, dimensions, testAt, conditionAt, rulesAt, ruleAt, effectAt, effectsAt}
 use Rattle.pack.specs.Condition.{compares, passes, holds, utility}
-use Rattle.pack.specs.Contents.{Gives}
-use Rattle.pack.specs.Judge.{alternativeAt, Small, Over, Readable, Judged}
-use Rattle.pack.specs.Table.{stateOf, bytesAt}
+use Rattle.pack.specs.Contracts.Contents.{Gives}
+use Rattle.pack.specs.Contracts.Judge.{alternativeAt, Small, Over, Readable, Judged}
+use Rattle.pack.specs.Contracts.Table.{stateOf, bytesAt}
 use Rattle.pack.specs.declared.table.Table.{Table}
-use Rattle.pack.proofs.Judging.{Left, Next, left-start, left-one, left-next, left-last, left-none, counted-starts, test-ends, RuleParts, rule-parts}
-use Rattle.pack.proofs.OneByte.{test-bytes, effect-bytes}
+use Rattle.pack.specs.Laws.Judged.{Left, Next, left-start, left-one, left-next, left-last, left-none, counted-starts, test-ends, RuleParts, rule-parts}
+use Rattle.pack.specs.Laws.OneByte.{test-bytes, effect-bytes}
 use Rattle.transition.specs.Happening.{nothing, actionOf, Plays}
-use Rattle.transition.proofs.Changing as changing
+use Rattle.transition.specs.Laws.ChangedRows as changing
 use Rattle.transition.specs.Laws.Still.{writes, triggerWrites, plays-still, couldAt, couldPass, couldAll, couldHold, couldExceed, no-exceed}
 use Rattle.planner.specs.declared.memory.Shape.{Shape}
 use Rattle.planner.specs.Inner.Lists.{slotTable}

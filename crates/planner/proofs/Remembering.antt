@@ -12,14 +12,14 @@ use lib.Seq.{getD-set-same, getD-set-other}
 use Rattle.pack.specs.Syntax.{Node, Theory}
 use Rattle.pack.specs.State.{State, meaning}
 use Rattle.pack.specs.Reading.{pick}
-use Rattle.pack.specs.Table.{rowsAt, tableOf, stateOf}
+use Rattle.pack.specs.Contracts.Table.{rowsAt, tableOf, stateOf}
 use Rattle.pack.specs.declared.table.Table.{Table}
 use Rattle.chart.specs.Chart.{Starts}
 use Rattle.transition.specs.Happening.{Plays}
 use Rattle.chart.specs.Call.{workRoom}
-use Rattle.chart.specs.Inner.Put.{Cleared, PartCopied}
-use Rattle.chart.specs.Inner.Level.{Agrees, SameByte}
-use Rattle.chart.proofs.Cells.{rows-same, row-in, rows-most}
+use Rattle.chart.specs.Contracts.Put.{Cleared, PartCopied}
+use Rattle.chart.specs.Contracts.Level.{Agrees, SameByte}
+use Rattle.chart.specs.Laws.Cells.{rows-same, row-in, rows-most}
 use Rattle.planner.specs.declared.memory.Shape.{Shape}
 use Rattle.planner.specs.declared.fact.Key.{Key}
 use Rattle.planner.specs.Inner.Lists.{slotTable}

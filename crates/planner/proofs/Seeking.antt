@@ -14,26 +14,26 @@ use Rattle.pack.specs.Syntax.{Node, Theory, Pack}
 use Rattle.pack.specs.State.{State, meaning}
 use Rattle.pack.specs.Reading.{Reply, gives, with, told}
 use Rattle.pack.specs.Layout.{ChartFits}
-use Rattle.pack.specs.Contents.{PackRead, replied, repliedCount}
+use Rattle.pack.specs.Contracts.Contents.{PackRead, replied, repliedCount}
 use Rattle.pack.specs.Laws.Exact.{Bytes}
 use Rattle.pack.specs.Laws.PackExact.{pack-exactly}
 use Rattle.pack.specs.declared.contents.Contents.{Contents}
 use Rattle.pack.specs.declared.number.Number.{Number}
 use Rattle.pack.specs.declared.number.Number.the-variants as numbers
-use Rattle.pack.specs.Table.{tableOf, Below, Above, cells}
-use Rattle.pack.proofs.Ready.{small-pack}
-use Rattle.pack.proofs.Tables.{cells-at, rows-length}
+use Rattle.pack.specs.Contracts.Table.{tableOf, Below, Above, cells}
+use Rattle.pack.specs.Laws.Accepted.{small-pack}
+use Rattle.pack.specs.Laws.Rows.{cells-at, rows-length}
 use Rattle.chart.specs.Call.{fits, listRoom, workRoom, cleared, resultAfter, workAfter}
 use Rattle.chart.specs.Laws.Answers.{fits-table}
 use Rattle.chart.specs.Laws.Unique.{some}
-use Rattle.chart.specs.Inner.Put.{Cleared}
-use Rattle.chart.proofs.Calling.{and-true}
-use Rattle.chart.proofs.Cells.{cells-length, rows-most}
-use Rattle.chart.proofs.Charting.{front-back}
-use Rattle.chart.proofs.Checking.{nodes-packed, lent, checks, Accepted, refused-by, accepted-by, left-alone, check-none}
-use Rattle.chart.proofs.Loading.{read-slim}
-use Rattle.chart.proofs.Looking.{cleared-all}
-use Rattle.transition.proofs.Loaded.{short-pack}
+use Rattle.chart.specs.Contracts.Put.{Cleared}
+use Rattle.chart.specs.Laws.Arguments.{and-true}
+use Rattle.chart.specs.Laws.Cells.{cells-length, rows-most}
+use Rattle.chart.specs.Laws.ChartBytes.{front-back}
+use Rattle.chart.specs.Laws.Checks.{nodes-packed, lent, checks, Accepted, refused-by, accepted-by, left-alone, check-none}
+use Rattle.chart.specs.Laws.LoadedNodes.{read-slim}
+use Rattle.chart.specs.Laws.LookedUp.{cleared-all}
+use Rattle.transition.specs.Laws.Loaded.{short-pack}
 use Rattle.planner.specs.declared.Found.{Found}
 use Rattle.planner.specs.declared.Found.the-variants as found
 use Rattle.planner.specs.declared.memory.Shape.{Shape}

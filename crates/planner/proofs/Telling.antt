@@ -13,27 +13,27 @@ use Rattle.pack.specs.Syntax.{Node, Theory, Rule}
 use Rattle.pack.specs.State.{State, belief, meaning, target}
 use Rattle.pack.specs.Reading.{Reader, done, refused, pick, mapped, runs}
 use Rattle.pack.specs.Number.{item, between, risingAt}
-use Rattle.pack.specs.Answer.{dims}
+use Rattle.pack.specs.Contracts.Answer.{dims}
 use Rattle.pack.specs.Grammar.{Dimensions, consentersAt, rulesAt}
 use Rattle.pack.specs.Condition as condition
-use Rattle.pack.specs.Contents.{Gives}
-use Rattle.pack.specs.Judge.{Over, Judged, Small, Readable}
-use Rattle.pack.specs.Table.{rowsAt, tableOf, stateOf, Below, Above}
+use Rattle.pack.specs.Contracts.Contents.{Gives}
+use Rattle.pack.specs.Contracts.Judge.{Over, Judged, Small, Readable}
+use Rattle.pack.specs.Contracts.Table.{rowsAt, tableOf, stateOf, Below, Above}
 use Rattle.pack.specs.Laws.Reading.{both, unmapped, failed}
 use Rattle.pack.specs.Laws.Table.{belief-in}
 use Rattle.pack.specs.declared.table.Table.{Table}
 use Rattle.pack.specs.Laws.Number.{between-within}
-use Rattle.pack.proofs.OneByte.{consenter-bytes}
-use Rattle.pack.proofs.Tables.{rows-length}
+use Rattle.pack.specs.Laws.OneByte.{consenter-bytes}
+use Rattle.pack.specs.Laws.Rows.{rows-length}
 use Rattle.chart.specs.Call.{workRoom}
 use Rattle.chart.specs.Chart.{Starts}
 use Rattle.chart.specs.Laws.Lists.{stands, place}
 use Rattle.chart.specs.Laws.Unique.{some}
-use Rattle.chart.proofs.Cells.{rows-most, rows-same}
+use Rattle.chart.specs.Laws.Cells.{rows-most, rows-same}
 use Rattle.transition.specs.Happening.{nothing, actionOf, Plays}
 use Rattle.transition.specs.Laws.Settled.{plays-one, plays-refuses}
-use Rattle.transition.specs.Inner.Play.{Setting, Left, PlayedIn}
-use Rattle.transition.proofs.Changing.{tabled-same, small, row-inside, belief-is, belief-in as inside-table}
+use Rattle.transition.specs.Contracts.Play.{Setting, Left, PlayedIn}
+use Rattle.transition.specs.Laws.ChangedRows.{tabled-same, small, row-inside, belief-is, belief-in as inside-table}
 use Rattle.planner.specs.declared.memory.Shape.{Shape}
 use Rattle.planner.specs.declared.fact.Key.{Key}
 use Rattle.planner.specs.Ending.{Leads, Explained, utilityTo}
@@ -217,7 +217,7 @@ module _ {th : Theory} {T : List Node} {pack places : List ℕ} {h : Shape} {was
     left-in = record { number = x .slotted .number; rows = x .slotted .rows; counted = left-low (961 * x .slotted .number) (omega (arith, x .free)) ∙ x .slotted .counted; before = x .slotted .before }
 
     left-memory : Memory th K h slot left
-    left-memory = memory-quiet h (grown-by (y .only .high 43518 (omega arith)) (λ q l. y .only .high q (omega (arith, l)))) (omega (arith, bound)) (y .only .low) (λ q l g. y .only .high q l) (λ q l g. y .only .high q (omega (arith, l))) (n .told th K slot (omega (arith, bound)) (x .slotted) m .0)
+    left-memory = memory-quiet h (grown-by (y .only .high 43518 (omega arith)) (λ q l. y .only .high q (omega (arith, l)))) (omega (arith, bound)) (y .only .low) (λ q l g. y .only .high q (omega (arith, l))) (λ q l g. y .only .high q (omega (arith, l))) (n .told th K slot (omega (arith, bound)) (x .slotted) m .0)
 
     -- what it leaves is noted
     pub step-left : {now : List ℕ} → r ≡ 0 → LeftNoted h t root a slot left now → Advanced th K h (meaning (t .characters) T root) a t was now slot r

@@ -19,8 +19,8 @@ ghost use lib.Dec.{eqb};
 ghost use Rattle.pack.specs.Syntax.{Effect};
 ghost use Rattle.pack.specs.State.{State};
 ghost use Rattle.pack.specs.Grammar.{Dimensions, testAt, conditionAt, rulesAt, effectAt, effectsAt};
-ghost use Rattle.pack.specs.Contents.{Gives};
-ghost use Rattle.pack.specs.Judge.{alternativeAt, Small, Readable};
+ghost use Rattle.pack.specs.Contracts.Contents.{Gives};
+ghost use Rattle.pack.specs.Contracts.Judge.{alternativeAt, Small, Readable};
 ghost use Rattle.transition.specs.Laws.Still as still;
 ghost use Rattle.planner.specs.Inner.Look.{Acted, Moved, Lookable, Looked, Tryable, Hopeless, Trying, Skipped};
 

@@ -32,7 +32,7 @@ use pack::places::PLACES;
 use pack::places::UTILITIES;
 use transition::layout::SLOT;
 ghost use mathlib.Core.Path.{_≡_};
-ghost use mathlib.Core.Bool.{true, _&&_};
+ghost use mathlib.Core.Bool.{true, false, _&&_};
 ghost use mathlib.Core.List.{List};
 ghost use Prim.Native.Nat.{suc, _+_, _*_, _<_, _≤_};
 ghost use lib.ListN.{length, getD};
@@ -42,7 +42,7 @@ ghost use Rattle.planner.specs.Ending.{authorUtility};
 ghost use Rattle.planner.specs.Inner.Lists.{slotTable, Ends, EndsBy};
 ghost use Rattle.planner.specs.Inner.Memory.{Memory, Before};
 ghost use Rattle.planner.specs.Inner.Explain.{Stage, Staged, Free};
-ghost use Rattle.planner.specs.Inner.Search.{Best, Trail, Underway, Outset, Repeated, Laying, Layable, LaidStart, Shortest, Seeking, Seekable, SearchPut};
+ghost use Rattle.planner.specs.Inner.Search.{Best, Trail, Underway, Outset, Repeated, OnPath, Laying, Layable, LaidStart, Shortest, Seeking, Seekable, SearchPut};
 ghost use Rattle.planner.specs.Replies.{storyLimit, foresightLimit, nestingLimit};
 ghost use Rattle.planner.specs.Promises.{Searching};
 
@@ -115,10 +115,10 @@ pub fn extent(work: &[u8], p: Shape, slot: usize) -> usize
     1 + n * (p.fluents + p.characters)
 }
 
-// Whether the state in a slot, the last of `done` + 1, is one of those in the slots before it.
+// Whether the state in a slot, the last of `done` + 1, is one of those in the slots before it: exactly so where written charts stand in them.
 pub fn repeats(work: &[u8], p: Shape, slot: usize, done: usize) -> bool
     requires { ⌜ Before p (now work) (slotTable p (now work) slot) × (slot ≡ done * 961) ⌝ }
-    ensures { λ r. ⌜ (r ≡ true → Repeated p (now (work .entry)) slot done) ⌝ }
+    ensures { λ r. ⌜ (r ≡ true → Repeated p (now (work .entry)) slot done) × (r ≡ false → OnPath p (now (work .entry)) done → ¬ Repeated p (now (work .entry)) slot done) ⌝ }
 {
     let n = extent(work, p, slot);
     let mut i = 0;

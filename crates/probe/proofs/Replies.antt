@@ -7,9 +7,9 @@ use lib.ListN.{length, take, length-take}
 use Rattle.pack.specs.Syntax.{Pack}
 use Rattle.pack.specs.Reading.{Reply, gives, refuses, with, told, whole}
 use Rattle.pack.specs.Grammar.{nodesAt, packOf, chartOf, inChart}
-use Rattle.pack.specs.Said.{forget}
-use Rattle.pack.specs.Answer.{dims}
-use Rattle.pack.specs.Contents.{replied, PackRead, PackFound}
+use Rattle.pack.specs.Contracts.Said.{forget}
+use Rattle.pack.specs.Contracts.Answer.{dims}
+use Rattle.pack.specs.Contracts.Contents.{replied, PackRead, PackFound}
 use Rattle.pack.specs.Laws.Reading.{never-gives}
 use Rattle.pack.specs.declared.number.Checked.{Checked}
 use Rattle.pack.specs.declared.number.Checked.the-variants.{Passed, Refused}

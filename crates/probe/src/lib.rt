@@ -9,7 +9,7 @@ use pack::places::PLACES;
 ghost use Prim.Native.Nat.{_≤_};
 ghost use lib.ListN.{length};
 ghost use mathlib.Core.Path.{_≡_};
-ghost use Rattle.pack.specs.Contents.{repliedCount};
+ghost use Rattle.pack.specs.Contracts.Contents.{repliedCount};
 ghost use Rattle.probe.specs.Report.{counts, chartCount, PackProbed, ChartProbed};
 
 fn wide_number(x: u8) -> u32

@@ -8,17 +8,17 @@ use native.Mathlib.Omega.{arith}
 use lib.ListN.{length, getD, replicate, length-replicate, getD-replicate}
 use Rattle.pack.specs.Syntax.{Action, Effect, Node, Theory}
 use Rattle.pack.specs.State.{meaning}
-use Rattle.pack.specs.Answer.{dims}
-use Rattle.pack.specs.Contents.{ActionStands}
+use Rattle.pack.specs.Contracts.Answer.{dims}
+use Rattle.pack.specs.Contracts.Contents.{ActionStands}
 use Rattle.pack.specs.declared.table.Table.{Table}
 use Rattle.transition.specs.declared.change.Change.{Change}
 use Rattle.transition.specs.Happening.{nothing, actionOf, observes, act}
-use Rattle.transition.specs.Inner.Cause.{told, EffectsAt, Telling}
+use Rattle.transition.specs.Contracts.Cause.{told, EffectsAt, Telling}
 use Rattle.transition.specs.Inner.Change.{Scene, Stands, Kinds}
-use Rattle.transition.specs.Inner.Stage.{Staged}
-use Rattle.transition.specs.Inner.Play.{Untold, Setting, Acted}
+use Rattle.transition.specs.Contracts.Stage.{Staged}
+use Rattle.transition.specs.Contracts.Play.{Untold, Setting, Acted}
 use Rattle.transition.proofs.Firing.{effects-inside}
-use Rattle.transition.proofs.Changing.{small}
+use Rattle.transition.specs.Laws.ChangedRows.{small}
 
 -- true is not false
 pub clash : {B : Type 0} {b : Bool} → b ≡ true → b ≡ false → B
@@ -69,7 +69,7 @@ module _ {p : Theory} {T : List Node} {pack places : List ℕ} {actions triggers
       keeps = λ m d hm hd e. omega arith;
     }
 
-    pub act-stands : (u : ℕ) → ((d : Rattle.pack.specs.Grammar.Dimensions) → Rattle.pack.specs.Judge.Small d → (es : List Effect) → EffectsAt d pack (getD places (9 * a + 1) 0) es → Untold es C u)
+    pub act-stands : (u : ℕ) → ((d : Rattle.pack.specs.Grammar.Dimensions) → Rattle.pack.specs.Contracts.Judge.Small d → (es : List Effect) → EffectsAt d pack (getD places (9 * a + 1) 0) es → Untold es C u)
         → Stands scene pack places (replicate 32 (getD places (9 * a + 1) 0)) (part u) work t
     act-stands u y = record {
       tabled = x .tabled;

@@ -13,14 +13,14 @@ use Rattle.pack.specs.State.{meaning}
 use Rattle.pack.specs.Reading.{done}
 use Rattle.pack.specs.Grammar.{Dimensions, conditionAt, effectAt, effectsAt}
 use Rattle.pack.specs.Condition.{holds, write}
-use Rattle.pack.specs.Judge.{Small, Over, Judged}
-use Rattle.pack.specs.Table.{cells, stateOf}
-use Rattle.pack.specs.Write.{Writable, EffectsWritten}
+use Rattle.pack.specs.Contracts.Judge.{Small, Over, Judged}
+use Rattle.pack.specs.Contracts.Table.{cells, stateOf}
+use Rattle.pack.specs.Contracts.Write.{Writable, EffectsWritten}
 use Rattle.pack.specs.declared.table.Table.{Table}
-use Rattle.pack.proofs.Judging.{Left, Next, left-start, left-one, left-next, left-none, counted-starts}
-use Rattle.pack.proofs.OneByte.{effect-bytes}
-use Rattle.pack.proofs.Writing.{only-none}
-use Rattle.transition.specs.Inner.Cause.{told, EffectsAt, Telling, ToldWritten, Watched, Took}
+use Rattle.pack.specs.Laws.Judged.{Left, Next, left-start, left-one, left-next, left-none, counted-starts}
+use Rattle.pack.specs.Laws.OneByte.{effect-bytes}
+use Rattle.pack.specs.Laws.WrittenValues.{only-none}
+use Rattle.transition.specs.Contracts.Cause.{told, EffectsAt, Telling, ToldWritten, Watched, Took}
 
 -- effects that are not meant for whom write nothing for whom
 pub untold-write : (es : List Effect) (whom : ℕ) → told es whom ≡ false → (v : List ℕ) → write whom es v ≡ v

@@ -13,12 +13,12 @@ use Rattle.pack.specs.State.{State, meaning}
 use Rattle.pack.specs.Reading.{done}
 use Rattle.pack.specs.Grammar.{Dimensions, conditionAt, effectAt, effectsAt}
 use Rattle.pack.specs.Condition.{holds}
-use Rattle.pack.specs.Judge.{Over, Judged}
-use Rattle.pack.specs.Table.{stateOf}
+use Rattle.pack.specs.Contracts.Judge.{Over, Judged}
+use Rattle.pack.specs.Contracts.Table.{stateOf}
 use Rattle.pack.specs.declared.table.Table.{Table}
-use Rattle.pack.proofs.Judging.{counted-starts}
+use Rattle.pack.specs.Laws.Judged.{counted-starts}
 use Rattle.transition.specs.Happening.{firing, effectsOf}
-use Rattle.transition.specs.Inner.Cause.{Tabled}
+use Rattle.transition.specs.Contracts.Cause.{Tabled}
 use Rattle.transition.specs.Inner.Fire.{Triggered, FireIs, Firable, Fires, FiredBelow}
 
 -- what stands for a trigger that isn't there

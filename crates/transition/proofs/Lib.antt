@@ -1,6 +1,5 @@
 -- The modules of `proofs/` that belong to no one function.
 pub mod Causing
-pub mod Changing
 pub mod Rowing
 pub mod Firing
 pub mod Staging
@@ -8,6 +7,5 @@ pub mod Acting
 pub mod Settling
 pub mod Rounding
 pub mod Playing
-pub mod Loaded
 pub mod Stepping
 pub mod Stepped

@@ -8,15 +8,15 @@ use lib.ListN.{length, getD}
 use Rattle.pack.specs.Syntax.{Action, Condition, Node, Theory}
 use Rattle.pack.specs.State.{State, meaning}
 use Rattle.pack.specs.Reading.{done}
-use Rattle.pack.specs.Answer.{dims}
+use Rattle.pack.specs.Contracts.Answer.{dims}
 use Rattle.pack.specs.Grammar.{Dimensions, conditionAt}
 use Rattle.pack.specs.Condition.{holds}
-use Rattle.pack.specs.Judge.{Over, Judged}
-use Rattle.pack.specs.Table.{rowsAt, stateOf}
+use Rattle.pack.specs.Contracts.Judge.{Over, Judged}
+use Rattle.pack.specs.Contracts.Table.{rowsAt, stateOf}
 use Rattle.pack.specs.declared.table.Table.{Table}
 use Rattle.chart.specs.States.{AtMost}
 use Rattle.transition.specs.Happening.{nothing, actionOf, act, Settles, Stops, Refuses}
-use Rattle.transition.specs.Inner.Play.{Setting, Slotted, Acted, SettledIn, PlayedIn}
+use Rattle.transition.specs.Contracts.Play.{Setting, Slotted, Acted, SettledIn, PlayedIn}
 use Rattle.transition.proofs.Settling.{only-none, only-then, tableIn, slot-small}
 
 module _ {p : Theory} {T : List Node} {pack places : List ℕ} {actions triggers : ℕ} {was : List ℕ} {t : Table} {slot : ℕ} (x : Setting p T pack places actions triggers was t slot) {a : ℕ} (l : a < actions) (root : ℕ) (inside : root < t .nodes) where

@@ -11,30 +11,30 @@ use borrow.Author.Count.{below-more}
 use Rattle.pack.specs.Syntax.{Effect, Node}
 use Rattle.pack.specs.State.{State, node, target, meaning}
 use Rattle.pack.specs.Condition.{write}
-use Rattle.pack.specs.Table.{cells, rowsAt, tableOf, stateOf}
+use Rattle.pack.specs.Contracts.Table.{cells, rowsAt, tableOf, stateOf}
 use Rattle.pack.specs.declared.table.Table.{Table}
-use Rattle.pack.proofs.Tables.{rows-length}
+use Rattle.pack.specs.Laws.Rows.{rows-length}
 use Rattle.chart.specs.Chart.{met, Ordered, Starts}
-use Rattle.chart.specs.Inner.Put.{PartCopied}
-use Rattle.chart.specs.Inner.Classed.{Room, Classed, WrittenOut}
-use Rattle.chart.specs.Inner.Level.{Levels, Parted}
+use Rattle.chart.specs.Contracts.Put.{PartCopied}
+use Rattle.chart.specs.Contracts.Classed.{classAt, Room, Classed, WrittenOut}
+use Rattle.chart.specs.Contracts.Level.{Levels, Parted}
 use Rattle.chart.specs.Laws.Built.{Rows}
-use Rattle.chart.specs.Laws.Merged.{classes}
+use Rattle.chart.specs.Laws.Merged.{classes, grows}
 use Rattle.chart.specs.Laws.Counted.{at-most}
 use Rattle.chart.specs.Laws.Unique.{ordered-reached, some}
-use Rattle.chart.proofs.Cells.{cells-same, row-in, rows-node, rows-same, rows-most}
-use Rattle.chart.proofs.Merging.{classed-apart}
+use Rattle.chart.specs.Laws.Cells.{cells-same, row-in, rows-node, rows-same, rows-most}
+use Rattle.chart.specs.Laws.MergedRows.{classed-apart}
 use Rattle.transition.specs.declared.change.Change.{Change}
 use Rattle.transition.specs.Happening.{change}
 use Rattle.transition.specs.Laws.Changed as changed
 use Rattle.transition.specs.Laws.Changed.{acted, There}
-use Rattle.transition.specs.Inner.Cause.{told, Telling, Tellable, ToldWritten}
+use Rattle.transition.specs.Contracts.Cause.{told, Telling, Tellable, ToldWritten}
 use Rattle.transition.specs.Inner.Change.{Scene, Stands, at}
-use Rattle.transition.specs.Inner.Stage.{StageRoom, SlotOnly, InSlot, Staged}
-use Rattle.transition.specs.Inner.Play.{Slotted, Acted}
+use Rattle.transition.specs.Contracts.Stage.{StageRoom, SlotOnly, InSlot, Staged}
+use Rattle.transition.specs.Contracts.Play.{Slotted, Acted}
 use Rattle.transition.specs.Inner.Round.{Silent, Caused, Rewritten, SlotTable, Everyone}
 use Rattle.transition.proofs.Causing.{untold-write}
-use Rattle.transition.proofs.Changing.{small}
+use Rattle.transition.specs.Laws.ChangedRows.{small}
 use Rattle.transition.proofs.Staging.{put-down}
 use Rattle.transition.proofs.Settling.{only-then}
 
@@ -198,7 +198,7 @@ module _ {was : List ℕ} {t : Table} {slot : ℕ} (p : SlotTable was t slot) wh
     }
 
     pub slot-room : length mid ≡ length was → Room mid n w f C (t .rows) 36264 36720
-    slot-room long = record { wide = p .wide; source = omega (arith, sized n (p .few), p .rows, p .slot-room); classes = omega (arith, p .few); target = omega (arith, sized n (p .few), long, p .room) }
+    slot-room long = record { wide = p .wide; source = omega (arith, sized n (p .few), p .rows, p .slot-room); classes = omega (arith, p .few); most = count; below = λ i l. omega (arith, grows (classAt mid 36264) i n l, z .few few-classes .1); target = omega (arith, sized count few-classes, long, p .room) }
 
     module _ {now : List ℕ} {r : ℕ} (o : WrittenOut mid now n w f C (t .rows) 36720 r) where
       pub slot-few : (0 < r) × (r ≤ 32) × (r * w ≤ 960)
@@ -210,7 +210,7 @@ module _ {was : List ℕ} {t : Table} {slot : ℕ} (p : SlotTable was t slot) wh
       slot-done {now′} long c =
           let (pos, most, narrow) = slot-few in
           let (holds, only) = put-down t was now now′ (p .wide) (p .slot-room) (omega arith) (omega (arith, long, p .room)) pos most narrow (o .written, o .means ∙ ap (λ (T : List Node). meaning C T 0) same-table)
-          (λ q l. o .low q (omega arith) ∙ z .low q (omega arith)) (λ q l. o .high q (omega (arith, sized n (p .few))) ∙ z .high q (omega (arith, p .few))) c in
+          (λ q l. o .low q (omega arith) ∙ z .low q (omega arith)) (λ q l. o .high q (omega (arith, narrow)) ∙ z .high q (omega (arith, p .few))) c in
           record { holds = holds; only = only }
 
 -- A round in a slot

@@ -4,12 +4,12 @@ use mathlib.Core.Path.{_≡_, refl, sym, ap, _∙_, subst}
 use mathlib.Core.List.{List}
 use native.Mathlib.Omega.{arith}
 use lib.ListN.{length, getD}
-use Rattle.pack.specs.Table.{Below, Above}
+use Rattle.pack.specs.Contracts.Table.{Below, Above}
 use Rattle.pack.specs.declared.table.Table.{Table}
-use Rattle.chart.specs.Inner.Numbers.{Numbering, Named, Given, keyAt}
-use Rattle.chart.proofs.Cells.{row-in}
-use Rattle.chart.proofs.Numbering.{few}
-use Rattle.chart.proofs.Passing.{row-filled, Going, going-start, going-row, going-end}
+use Rattle.chart.specs.Contracts.Numbers.{Numbering, Named, Given, keyAt}
+use Rattle.chart.specs.Laws.Cells.{row-in}
+use Rattle.chart.specs.Laws.Numbering.{few}
+use Rattle.chart.specs.Laws.PassRows.{row-filled, Going, going-start, going-row, going-end}
 use Rattle.transition.specs.declared.change.Change.{Change}
 use Rattle.transition.specs.Happening.{change}
 use Rattle.transition.specs.Laws.Changed as changed

@@ -9,25 +9,25 @@ use native.Mathlib.Omega.{arith}
 use lib.ListN.{length}
 use Rattle.pack.specs.Syntax.{Node, Theory}
 use Rattle.pack.specs.State.{State, meaning}
-use Rattle.pack.specs.Answer.{dims}
-use Rattle.pack.specs.Table.{rowsAt}
+use Rattle.pack.specs.Contracts.Answer.{dims}
+use Rattle.pack.specs.Contracts.Table.{rowsAt}
 use Rattle.pack.specs.declared.table.Table.{Table}
-use Rattle.pack.proofs.Tables.{rows-length}
+use Rattle.pack.specs.Laws.Rows.{rows-length}
 use Rattle.chart.specs.Chart.{Starts}
 use Rattle.chart.specs.States.{AtMost}
 use Rattle.chart.specs.Laws.Counted.{counted}
 use Rattle.chart.specs.Laws.Unique.{ordered-reached, some}
-use Rattle.chart.proofs.Cells.{rows-most}
+use Rattle.chart.specs.Laws.Cells.{rows-most}
 use Rattle.transition.specs.declared.change.Change.{Change}
 use Rattle.transition.specs.Happening.{Quiet, Settles, Stops, firing, fires, round}
 use Rattle.transition.specs.Laws.Quiet.{quiet}
 use Rattle.transition.specs.Laws.Settled.{Going, going-start, going-on}
-use Rattle.transition.specs.Inner.Cause.{Tabled}
+use Rattle.transition.specs.Contracts.Cause.{Tabled}
 use Rattle.transition.specs.Inner.Change.{Scene, Stands}
 use Rattle.transition.specs.Inner.Fire.{Triggered, Firable, FiredBelow}
-use Rattle.transition.specs.Inner.Stage.{StageRoom, SlotOnly, InSlot, Staged}
-use Rattle.transition.specs.Inner.Play.{Theorized, Setting, Slotted, Left, SettledIn}
-use Rattle.transition.proofs.Changing.{small}
+use Rattle.transition.specs.Contracts.Stage.{StageRoom, SlotOnly, InSlot, Staged}
+use Rattle.transition.specs.Contracts.Play.{Theorized, Setting, Slotted, Left, SettledIn}
+use Rattle.transition.specs.Laws.ChangedRows.{small}
 use Rattle.transition.proofs.Acting.{clash}
 use Rattle.transition.proofs.Firing.{fires-none}
 

@@ -9,30 +9,30 @@ use lib.ListN.{length, getD, set}
 use lib.Seq.{getD-set-same, getD-set-other}
 use Rattle.pack.specs.Syntax.{Node}
 use Rattle.pack.specs.State.{State, meaning, walk, after}
-use Rattle.pack.specs.Table.{rowsAt, Below, Above}
+use Rattle.pack.specs.Contracts.Table.{rowsAt, Below, Above}
 use Rattle.pack.specs.Laws.Table.{walk-inside, after-walk}
 use Rattle.pack.specs.declared.table.Table.{Table}
-use Rattle.pack.proofs.Tables.{rows-length}
+use Rattle.pack.specs.Laws.Rows.{rows-length}
 use Rattle.chart.specs.Call.{workRoom}
 use Rattle.chart.specs.Chart.{Ordered, Written, Starts}
 use Rattle.chart.specs.States.{AtMost}
-use Rattle.chart.specs.Inner.Put.{PartCopied}
-use Rattle.chart.specs.Inner.Classed.{classAt, Room, Classed, WrittenOut}
-use Rattle.chart.specs.Inner.Level.{Levels, Parted}
+use Rattle.chart.specs.Contracts.Put.{PartCopied}
+use Rattle.chart.specs.Contracts.Classed.{classAt, Room, Classed, WrittenOut}
+use Rattle.chart.specs.Contracts.Level.{Levels, Parted}
 use Rattle.chart.specs.Laws.Merged.{classes, grows}
 use Rattle.chart.specs.Laws.Unique.{ordered-reached, some}
-use Rattle.chart.proofs.Cells.{rows-same, rows-most}
-use Rattle.chart.proofs.Merging.{classed-apart}
-use Rattle.chart.proofs.Numbering.{pigeons}
+use Rattle.chart.specs.Laws.Cells.{rows-same, rows-most}
+use Rattle.chart.specs.Laws.MergedRows.{classed-apart}
+use Rattle.chart.specs.Laws.Numbering.{pigeons}
 use Rattle.transition.specs.declared.change.Change.{Change}
 use Rattle.transition.specs.Happening.{change}
 use Rattle.transition.specs.Inner.Change.{Scene, Stands, at, Laid, ChangeMade}
-use Rattle.transition.specs.Inner.Stage.{StageRoom, SlotOnly, InSlot, Staged}
-use Rattle.transition.proofs.Changing.{small}
+use Rattle.transition.specs.Contracts.Stage.{StageRoom, SlotOnly, InSlot, Staged}
+use Rattle.transition.specs.Laws.ChangedRows.{small}
 
 -- a written chart of r rows in the scratch, its count put into a slot and its rows copied down behind it
 pub put-down : (t : Table) (was now now′ : List ℕ) {z : State} {slot from r : ℕ} → t .fluents + t .characters ≤ t .width → slot + 961 ≤ 28832 → 28832 ≤ from → workRoom ≤ length now → 0 < r → r ≤ 32 → r * t .width ≤ 960
-    → Starts (t .characters) z (rowsAt now (t .width) (t .fluents) (t .characters) from r) → Below was now 28832 → Above was now 43470 → PartCopied (set now slot r) now′ from (slot + 1) (r * t .width)
+    → Starts (t .characters) z (rowsAt now (t .width) (t .fluents) (t .characters) from r) → Below was now 28832 → Above was now 37680 → PartCopied (set now slot r) now′ from (slot + 1) (r * t .width)
     → InSlot t z now′ slot r × SlotOnly was now′ slot
 put-down t was now now′ {z} {slot} {from} {r} wide slot-room behind room some few narrow starts below above c =
     let kept : (q : ℕ) → q ≢ slot → getD (set now slot r) q 0 ≡ getD now q 0 = λ q g. getD-set-other now slot q r 0 g in
@@ -139,12 +139,12 @@ module _ {s : Scene} {pack places effects was : List ℕ} {h : Change} {t : Tabl
         only = record { low = λ q g. below q (omega (arith, p .slot-room)); mid = λ q g k. below q k; high = λ q g. above q (omega arith) };
       }
 
-      pub stage-room : Room mid′ k w f C 29284 36264 36720
-      stage-room = record { wide = wide; source = omega (arith, sized k 225 some-rows); classes = omega (arith, some-rows); target = omega (arith, sized k 225 some-rows, p .room) }
-
       module _ (few : count ≤ 32) where
         pub stage-classed : Classed mid′ k w f C 29284 36264
         stage-classed = z .few few .0
+
+        pub stage-room : Room mid′ k w f C 29284 36264 36720
+        stage-room = record { wide = wide; source = omega (arith, sized k 225 some-rows); classes = omega (arith, some-rows); most = count; below = λ i l. omega (arith, grows (classAt mid′ 36264) i k l, z .few few .1); target = omega (arith, sized count 32 few, long, long′, p .room) }
 
         -- each row is a class of its own: the rows are put down as they stand
         module _ (all : k ≤ count) where
@@ -174,5 +174,5 @@ module _ {s : Scene} {pack places effects was : List ℕ} {h : Change} {t : Tabl
           pub stage-done : {now′ : List ℕ} → length now ≡ length was → PartCopied (set now slot r) now′ 36720 (slot + 1) (r * w) → Staged s (h .root) t was now′ slot r
           stage-done {now′} size c =
               let (some, most) = stage-few in
-              let (holds, only) = put-down t was now now′ wide (p .slot-room) (omega arith) (omega (arith, size, p .room)) some most (sized r 32 most) (o .written, o .means ∙ means) (λ q l. o .low q (omega arith) ∙ below q l) (λ q l. o .high q (omega (arith, sized k 225 some-rows)) ∙ above q (omega arith)) c in
+              let (holds, only) = put-down t was now now′ wide (p .slot-room) (omega arith) (omega (arith, size, p .room)) some most (sized r 32 most) (o .written, o .means ∙ means) (λ q l. o .low q (omega arith) ∙ below q l) (λ q l. o .high q (omega (arith, sized r 32 most)) ∙ above q (omega arith)) c in
               record { holds = holds; only = only }

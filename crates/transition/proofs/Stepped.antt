@@ -11,25 +11,25 @@ use Rattle.pack.specs.Syntax.{Theory, Node, Pack}
 use Rattle.pack.specs.Reading.{Reply, gives, with, told}
 use Rattle.pack.specs.Grammar.{packOf}
 use Rattle.pack.specs.Layout.{ChartFits}
-use Rattle.pack.specs.Contents.{PackRead, replied, repliedCount}
+use Rattle.pack.specs.Contracts.Contents.{PackRead, replied, repliedCount}
 use Rattle.pack.specs.Laws.Exact.{Bytes}
 use Rattle.pack.specs.declared.contents.Contents.{Contents}
 use Rattle.pack.specs.declared.number.Number.{Number}
 use Rattle.pack.specs.declared.number.Number.the-variants as numbers
-use Rattle.pack.proofs.Ready.{small-pack}
+use Rattle.pack.specs.Laws.Accepted.{small-pack}
 use Rattle.chart.specs.declared.Charted.{Charted}
 use Rattle.chart.specs.declared.Charted.the-variants as charted
 use Rattle.chart.specs.Call.{fits, chartRoom, workRoom, resultAfter, workAfter}
 use Rattle.chart.specs.Replies.{firstOf}
 use Rattle.chart.specs.Laws.Replies.{given-fits, chart-fits}
-use Rattle.chart.specs.Inner.Look.{NodesRead}
-use Rattle.chart.proofs.Calling.{and-true}
-use Rattle.chart.proofs.Checking.{counted, lent, checks, Accepted, FirstRead, first-read, nodes-read, refused-by, accepted-by, left-alone, check-one}
+use Rattle.chart.specs.Contracts.Look.{NodesRead}
+use Rattle.chart.specs.Laws.Arguments.{and-true}
+use Rattle.chart.specs.Laws.Checks.{counted, lent, checks, Accepted, FirstRead, first-read, nodes-read, refused-by, accepted-by, left-alone, check-one}
 use Rattle.transition.specs.Answers.{stepTable}
 use Rattle.transition.specs.Replies.{outcomeReply, stepReply}
 use Rattle.transition.specs.Promises.{Stepped}
 use Rattle.transition.specs.Laws.Step.{step-fits}
-use Rattle.transition.proofs.Loaded.{short-pack}
+use Rattle.transition.specs.Laws.Loaded.{short-pack}
 use Rattle.transition.specs.Inner.Steppable.{Stepping, Steppable, StepPut}
 use Rattle.transition.proofs.Stepping.{step-cleared}
 

@@ -11,28 +11,28 @@ use Rattle.pack.specs.Syntax.{Node, Theory}
 use Rattle.pack.specs.State.{State, meaning}
 use Rattle.pack.specs.Reading.{gives, told, pick}
 use Rattle.pack.specs.Layout.{ChartFits}
-use Rattle.pack.specs.Table.{rowsAt}
-use Rattle.pack.specs.Copy.{TableCopied}
+use Rattle.pack.specs.Contracts.Table.{rowsAt}
+use Rattle.pack.specs.Contracts.Copy.{TableCopied}
 use Rattle.pack.specs.declared.table.Table.{Table}
 use Rattle.chart.specs.Call.{workRoom, resultAfter, workAfter, cleared}
 use Rattle.chart.specs.Chart.{Starts}
 use Rattle.chart.specs.declared.Charted.the-variants as charted
-use Rattle.chart.specs.Inner.Numbers.{Sound}
-use Rattle.chart.specs.Inner.Out.{RowsPut}
-use Rattle.chart.specs.Inner.Put.{Cleared}
+use Rattle.chart.specs.Contracts.Numbers.{Sound}
+use Rattle.chart.specs.Contracts.Out.{RowsPut}
+use Rattle.chart.specs.Contracts.Put.{Cleared}
 use Rattle.chart.specs.Laws.Answers.{fits-table}
-use Rattle.chart.proofs.Charting.{chart-out}
-use Rattle.chart.proofs.Loading.{read-slim, read-small}
-use Rattle.chart.proofs.Looking.{cleared-all}
-use Rattle.chart.proofs.Merging.{ordered-sound}
-use Rattle.chart.proofs.Cells.{rows-most}
+use Rattle.chart.specs.Laws.ChartBytes.{chart-out}
+use Rattle.chart.specs.Laws.LoadedNodes.{read-slim, read-small}
+use Rattle.chart.specs.Laws.LookedUp.{cleared-all}
+use Rattle.chart.specs.Laws.MergedRows.{ordered-sound}
+use Rattle.chart.specs.Laws.Cells.{rows-most}
 use Rattle.transition.specs.Happening.{Plays, Refuses, Stops}
 use Rattle.transition.specs.Step.{Outcome, leaves, refused, Steps}
 use Rattle.transition.specs.Answers.{stepTable}
 use Rattle.transition.specs.Replies.{outcomeReply}
 use Rattle.transition.specs.Laws.Step.{step-table, step-table-iff}
-use Rattle.transition.specs.Inner.Play.{Setting, Left, PlayedIn}
-use Rattle.transition.proofs.Loaded.{read-tabled}
+use Rattle.transition.specs.Contracts.Play.{Setting, Left, PlayedIn}
+use Rattle.transition.specs.Laws.Loaded.{read-tabled}
 use Rattle.transition.specs.Inner.Steppable.{Stepping, StepSaid}
 
 module _ {p : Theory} {T : List Node} {pack places : List ℕ} {actions triggers action : ℕ} {chart : List ℕ} {nodes f c : ℕ} {out work : List ℕ} (x : Stepping p T pack places actions triggers action chart nodes f c out work) where

@@ -1,8 +1,5 @@
 -- What the functions inside this layer promise each other; no public promise cites these.
-pub mod Cause
 pub mod Change
 pub mod Fire
-pub mod Stage
-pub mod Play
 pub mod Round
 pub mod Steppable

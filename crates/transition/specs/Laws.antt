@@ -10,3 +10,5 @@ pub mod Step
 pub mod Replies
 pub mod Missing
 pub mod Met
+pub mod ChangedRows
+pub mod Loaded

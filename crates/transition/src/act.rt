@@ -8,10 +8,10 @@ ghost use Prim.Native.Nat.{ℕ, _<_};
 ghost use Rattle.pack.specs.Syntax.{Effect, Node, Theory};
 ghost use Rattle.pack.specs.State.{meaning};
 ghost use Rattle.pack.specs.Grammar.{Dimensions};
-ghost use Rattle.pack.specs.Judge.{Small};
+ghost use Rattle.pack.specs.Contracts.Judge.{Small};
 ghost use Rattle.transition.specs.Happening.{actionOf};
-ghost use Rattle.transition.specs.Inner.Cause.{EffectsAt, Telling};
-ghost use Rattle.transition.specs.Inner.Play.{Untold, Setting, Actable, Acted};
+ghost use Rattle.transition.specs.Contracts.Cause.{EffectsAt, Telling};
+ghost use Rattle.transition.specs.Contracts.Play.{Untold, Setting, Actable, Acted};
 
 // The lowest character that no effect at a place is meant for, or 7.
 pub fn lowest_untold(pack: &[u8], at: usize, characters: usize) -> usize

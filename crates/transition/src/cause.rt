@@ -8,8 +8,8 @@ ghost use mathlib.Core.Path.{_≡_};
 ghost use mathlib.Core.List.{List};
 ghost use Rattle.pack.specs.Syntax.{Effect};
 ghost use Rattle.pack.specs.Grammar.{Dimensions};
-ghost use Rattle.pack.specs.Judge.{Small};
-ghost use Rattle.transition.specs.Inner.Cause.{told, EffectsAt, Telling, Tellable, ToldWritten, Watched, Took};
+ghost use Rattle.pack.specs.Contracts.Judge.{Small};
+ghost use Rattle.transition.specs.Contracts.Cause.{told, EffectsAt, Telling, Tellable, ToldWritten, Watched, Took};
 
 // Whether some effect at a place is meant for whom.
 pub fn tells(pack: &[u8], at: usize, whom: usize) -> bool

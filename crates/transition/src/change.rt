@@ -16,9 +16,9 @@ ghost use mathlib.Core.List.{List};
 ghost use mathlib.Core.Logic.{_≢_};
 ghost use Prim.Native.Nat.{ℕ, _+_, _*_, _<_, _≤_};
 ghost use lib.ListN.{length};
-ghost use Rattle.chart.specs.Inner.Numbers.{Numbering, keyAt};
+ghost use Rattle.chart.specs.Contracts.Numbers.{Numbering, keyAt};
 ghost use Rattle.transition.specs.Laws.Changed.{acted, old, There};
-ghost use Rattle.transition.specs.Inner.Cause.{Tabled};
+ghost use Rattle.transition.specs.Contracts.Cause.{Tabled};
 ghost use Rattle.transition.specs.Inner.Change.{Scene, Stands, Scened, Seen, believed, rowAfter, memberOf, Sourced, SlotIs, SlotsPut, RowRoom, Puts, Laid, RowMade, ChangeMade};
 
 // Which of a row's seven slots stand for the row having taken part and for the row as it was, the others being its characters'; where the observation conditions are; and the

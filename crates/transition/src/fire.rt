@@ -10,7 +10,7 @@ ghost use mathlib.Core.List.{List};
 ghost use lib.ListN.{length};
 ghost use Rattle.pack.specs.Syntax.{Trigger, Node};
 ghost use Rattle.pack.specs.Grammar.{Dimensions};
-ghost use Rattle.transition.specs.Inner.Cause.{Tabled};
+ghost use Rattle.transition.specs.Contracts.Cause.{Tabled};
 ghost use Rattle.transition.specs.Inner.Fire.{Triggered, Firable, Fires, FiredBelow};
 
 // The place of the effects of the lowest trigger that holds in row m, or 8192, which is behind every pack.

@@ -18,12 +18,12 @@ ghost use Prim.Native.Nat.{ℕ, _<_, _≤_};
 ghost use lib.ListN.{length, getD};
 ghost use Rattle.pack.specs.Syntax.{Effect};
 ghost use Rattle.pack.specs.Grammar.{Dimensions};
-ghost use Rattle.pack.specs.Judge.{Small};
-ghost use Rattle.pack.specs.Table.{tableOf, stateOf};
-ghost use Rattle.transition.specs.Inner.Cause.{EffectsAt, Telling};
+ghost use Rattle.pack.specs.Contracts.Judge.{Small};
+ghost use Rattle.pack.specs.Contracts.Table.{tableOf, stateOf};
+ghost use Rattle.transition.specs.Contracts.Cause.{EffectsAt, Telling};
 ghost use Rattle.transition.specs.Inner.Change.{Scene, Stands, Scened};
-ghost use Rattle.transition.specs.Inner.Stage.{StageRoom, Staged};
-ghost use Rattle.transition.specs.Inner.Play.{Slotted, Acted};
+ghost use Rattle.transition.specs.Contracts.Stage.{StageRoom, Staged};
+ghost use Rattle.transition.specs.Contracts.Play.{Slotted, Acted};
 ghost use Rattle.transition.specs.Inner.Round.{Silent, Caused, CausedSome, Rewritten, SlotTable, Everyone};
 
 // Whether the effects at a place are meant for nobody's beliefs.

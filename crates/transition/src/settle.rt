@@ -8,7 +8,7 @@ ghost use mathlib.Core.List.{List};
 ghost use Prim.Native.Nat.{ℕ};
 ghost use Rattle.pack.specs.Syntax.{Node, Theory};
 ghost use Rattle.pack.specs.State.{meaning};
-ghost use Rattle.transition.specs.Inner.Play.{Setting, Slotted, SettledIn, Settleable};
+ghost use Rattle.transition.specs.Contracts.Play.{Setting, Slotted, SettledIn, Settleable};
 
 // Settles the state in a slot, of which t is the table: 0 where it does, 12 where there are more than 32 states, 11 where a trigger holds after round 16.
 pub fn settle(

@@ -13,9 +13,9 @@ use chart::partition::partition;
 use pack::table::Table;
 ghost use Prim.Native.Nat.{_+_, _*_, _≤_};
 ghost use lib.ListN.{length, set};
-ghost use Rattle.chart.specs.Inner.Put.{PartCopied};
+ghost use Rattle.chart.specs.Contracts.Put.{PartCopied};
 ghost use Rattle.transition.specs.Inner.Change.{Scene, Stands, Scened};
-ghost use Rattle.transition.specs.Inner.Stage.{StageRoom, Staged};
+ghost use Rattle.transition.specs.Contracts.Stage.{StageRoom, Staged};
 
 // Puts n rows of w bytes, which stand from `from` on in the scratch, into the slot at `slot`: their count there and the rows behind it.
 pub fn put_down(work: &mut [u8], from: usize, n: usize, w: usize, slot: usize)

@@ -7,7 +7,7 @@ ghost use mathlib.Core.List.{List};
 ghost use Prim.Native.Nat.{ℕ, _<_};
 ghost use Rattle.pack.specs.Syntax.{Node, Theory};
 ghost use Rattle.pack.specs.State.{meaning};
-ghost use Rattle.transition.specs.Inner.Play.{Setting, Playable, PlayedIn};
+ghost use Rattle.transition.specs.Contracts.Play.{Setting, Playable, PlayedIn};
 
 // Plays an action in what a row of a table means, into a slot: 0, or 10, 11 or 12.
 pub fn step_slot(

@@ -6,15 +6,15 @@ use lib.ListN.{length, drop}
 use Rattle.pack.specs.Syntax.{Node}
 use Rattle.pack.specs.State.{meaning}
 use Rattle.pack.specs.Reading.{gives}
-use Rattle.pack.specs.Table.{rowsAt, Above}
+use Rattle.pack.specs.Contracts.Table.{rowsAt, Above}
 use Rattle.chart.specs.declared.Matched.{Matched}
 use Rattle.chart.specs.Compare.{Verdict, Compared}
 use Rattle.chart.specs.Answers.{compareTable}
 use Rattle.chart.specs.Call.{chainRoom, workRoom, cleared}
 use Rattle.chart.specs.Replies.{chainOf}
 use Rattle.chart.specs.Promises.{compareSaid, difference}
-use Rattle.chart.specs.Inner.Numbers.{Sound}
-use Rattle.chart.specs.Inner.Look.{NodesRead}
+use Rattle.chart.specs.Contracts.Numbers.{Sound}
+use Rattle.chart.specs.Contracts.Look.{NodesRead}
 
 -- two charts of n and m nodes, and room for both
 pub record Joinable (first : List ℕ) (n : ℕ) (second : List ℕ) (m f c : ℕ) (work : List ℕ) : Type 0 where

@@ -7,7 +7,7 @@ use Prim.Native.Nat.{ℕ, _+_, _*_, _<_, _≤_}
 use lib.ListN.{getD, length}
 use Rattle.pack.specs.Syntax.{Node}
 use Rattle.pack.specs.State.{Valid, meaning}
-use Rattle.pack.specs.Table.{cells, rowsAt, Below, Above}
+use Rattle.pack.specs.Contracts.Table.{cells, rowsAt, Below, Above}
 use Rattle.chart.specs.Earliest.{Earliest}
 use Rattle.chart.specs.Laws.Breadth.{Met}
 

@@ -3,9 +3,9 @@ use mathlib.Core.Path.{_≡_}
 use mathlib.Core.List.{List}
 use Prim.Native.Nat.{ℕ, zero, suc, _+_, _*_, _%_, _<_, _≤_}
 use lib.ListN.{getD, length}
-use Rattle.chart.specs.Inner.Classed.{classAt}
-use Rattle.chart.specs.Inner.Level.{Placed, SameValues, Sorted}
-use Rattle.pack.specs.Table.{Below, Above}
+use Rattle.chart.specs.Contracts.Classed.{classAt}
+use Rattle.chart.specs.Contracts.Level.{Placed, SameValues, Sorted}
+use Rattle.pack.specs.Contracts.Table.{Below, Above}
 
 -- the f bytes from a on as one number of 32 bits, each byte counted twice as much as the one behind it
 unfoldable pub sumOf : List ℕ → ℕ → ℕ → ℕ

@@ -7,14 +7,14 @@ use Prim.Native.Nat.{ℕ, _+_, _*_, _<_, _≤_}
 use lib.ListN.{length}
 use Rattle.pack.specs.Syntax.{Node, Theory}
 use Rattle.pack.specs.State.{State}
-use Rattle.pack.specs.Answer.{dims}
-use Rattle.pack.specs.Table as table
+use Rattle.pack.specs.Contracts.Answer.{dims}
+use Rattle.pack.specs.Contracts.Table as table
 use Rattle.pack.specs.declared.table.Table.{Table}
 use Rattle.chart.specs.Call.{workRoom, cleared}
-use Rattle.chart.specs.Inner.Look.{NodesRead}
-use Rattle.transition.specs.Inner.Cause.{Tabled}
+use Rattle.chart.specs.Contracts.Look.{NodesRead}
+use Rattle.transition.specs.Contracts.Cause.{Tabled}
 use Rattle.transition.specs.Happening.{Plays}
-use Rattle.transition.specs.Inner.Play.{Theorized, Left}
+use Rattle.transition.specs.Contracts.Play.{Theorized, Left}
 use Rattle.planner.specs.declared.memory.Shape.{Shape}
 use Rattle.planner.specs.Inner.Memory.{InSlot, Memory}
 

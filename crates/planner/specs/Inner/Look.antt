@@ -9,14 +9,14 @@ use Rattle.pack.specs.State.{State}
 use Rattle.pack.specs.Condition.{utility}
 use Rattle.pack.specs.Reading.{Reader}
 use Rattle.pack.specs.Grammar.{Dimensions, dimensions}
-use Rattle.pack.specs.Contents.{Gives}
-use Rattle.pack.specs.Judge.{Over}
-use Rattle.pack.specs.Table.{stateOf, TableFits}
+use Rattle.pack.specs.Contracts.Contents.{Gives}
+use Rattle.pack.specs.Contracts.Judge.{Over}
+use Rattle.pack.specs.Contracts.Table.{stateOf, TableFits}
 use Rattle.pack.specs.declared.table.Table.{Table}
 use Rattle.chart.specs.Call.{workRoom}
 use Rattle.transition.specs.Happening.{Plays, actionOf}
 use Rattle.transition.specs.Laws.Still.{writes, triggerWrites}
-use Rattle.transition.specs.Inner.Play.{Theorized}
+use Rattle.transition.specs.Contracts.Play.{Theorized}
 use Rattle.planner.specs.declared.memory.Shape.{Shape}
 use Rattle.planner.specs.Inner.Lists.{slotTable}
 

@@ -7,7 +7,7 @@ use Prim.Native.Nat.{ℕ, suc, _+_, _*_, _<_, _≤_}
 use lib.ListN.{length, getD}
 use Rattle.pack.specs.Syntax.{Theory}
 use Rattle.pack.specs.State.{State}
-use Rattle.pack.specs.Table as table
+use Rattle.pack.specs.Contracts.Table as table
 use Rattle.pack.specs.declared.table.Table.{Table}
 use Rattle.chart.specs.Call.{workRoom}
 use Rattle.chart.specs.Chart.{Starts}

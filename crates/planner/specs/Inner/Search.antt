@@ -6,12 +6,12 @@ use lib.ListN.{length, getD}
 use Rattle.pack.specs.Syntax.{Node, Theory}
 use Rattle.pack.specs.State.{State, meaning}
 use Rattle.pack.specs.Reading.{told}
-use Rattle.pack.specs.Table.{tableOf, stateOf, Below, Above}
+use Rattle.pack.specs.Contracts.Table.{tableOf, stateOf, Below, Above}
 use Rattle.chart.specs.Call.{listRoom, workRoom, cleared, resultAfter}
-use Rattle.chart.specs.Chart.{Starts}
+use Rattle.chart.specs.Chart.{Written, Starts}
 use Rattle.chart.specs.Earliest.{Before}
-use Rattle.chart.specs.Inner.Look.{NodesFrom}
-use Rattle.transition.specs.Inner.Play.{Theorized}
+use Rattle.chart.specs.Contracts.Look.{NodesFrom}
+use Rattle.transition.specs.Contracts.Play.{Theorized}
 use Rattle.planner.specs.declared.Found.{Found}
 use Rattle.planner.specs.declared.memory.Shape.{Shape}
 use Rattle.planner.specs.declared.search.Ended.{Ended}
@@ -66,6 +66,10 @@ Outset K base pack places h work = (p : Theory) × ((T : List Node) × (Stage p 
 -- the state in a slot is one of those before it
 abbrev pub Repeated : (h : Shape) (work : List ℕ) (slot n : ℕ) → Type 0
 Repeated h work slot n = (i : ℕ) × (i < n) × (stateOf (slotTable h work (i * 961)) work 0 ≡ stateOf (slotTable h work slot) work 0)
+
+-- in the slots of the path, n before the last, stand written charts
+abbrev pub OnPath : (h : Shape) (work : List ℕ) (n : ℕ) → Type 0
+OnPath h work n = (i : ℕ) → i ≤ n → Written (h .characters) (tableOf (slotTable h work (i * 961)) work)
 
 -- the shortest of the good lists of 1 to T actions, and of those the earliest, is put down; or its length is 0, there is none, and nothing is put down
 pub record Shortest (Good : List ℕ → ℕ → Type 0) (story : ℕ) (was now work work′ : List ℕ) (r : Ended) : Type 0 where

@@ -1,6 +1,6 @@
 -- The report is too short, or what was counted or refused is told. Assumes nothing.
 use mathlib.Core.Path.{ap, _∙_}
-use Rattle.pack.specs.Contents.{repliedCount}
+use Rattle.pack.specs.Contracts.Contents.{repliedCount}
 use Rattle.probe.proofs.Reports.{chart-short, chart-refused, chart-counted}
 use borrow.Author.Needs.{needs}
 use Rattle.probe.proofs.pirwodd_probe_chart.Statement.{statement}

@@ -10,16 +10,16 @@ use Rattle.pack.specs.Syntax.{Effect, Node}
 use Rattle.pack.specs.State.{State, meaning, target}
 use Rattle.pack.specs.Reading.{pick}
 use Rattle.pack.specs.Grammar.{Dimensions}
-use Rattle.pack.specs.Table.{cells, rowsAt, Below, Above}
+use Rattle.pack.specs.Contracts.Table.{cells, rowsAt, Below, Above}
 use Rattle.pack.specs.declared.table.Table.{Table}
 use Rattle.chart.specs.Chart.{Ordered}
-use Rattle.chart.specs.Inner.Numbers.{keyAt, RowFilled}
+use Rattle.chart.specs.Contracts.Numbers.{keyAt, RowFilled}
 use Rattle.transition.specs.declared.change.Change.{Change}
 use Rattle.transition.specs.declared.change.Source.{Source}
 use Rattle.transition.specs.Happening.{change}
 use Rattle.transition.specs.Laws.Changed as changed
 use Rattle.transition.specs.Laws.Changed.{Member, acted, edge, old}
-use Rattle.transition.specs.Inner.Cause.{told, EffectsAt, Observes, Tabled}
+use Rattle.transition.specs.Contracts.Cause.{told, EffectsAt, Observes, Tabled}
 
 -- a table, and what happens in it
 pub record Scene : Type 0 where

@@ -8,10 +8,10 @@ use lib.ListN.{length, getD}
 use Rattle.pack.specs.Syntax.{Trigger, Node}
 use Rattle.pack.specs.State.{State, meaning}
 use Rattle.pack.specs.Grammar.{Dimensions}
-use Rattle.pack.specs.Contents.{TriggerStands}
+use Rattle.pack.specs.Contracts.Contents.{TriggerStands}
 use Rattle.pack.specs.declared.table.Table.{Table}
 use Rattle.transition.specs.Happening.{firing, effectsOf}
-use Rattle.transition.specs.Inner.Cause.{EffectsAt, Tabled}
+use Rattle.transition.specs.Contracts.Cause.{EffectsAt, Tabled}
 
 -- the triggers of a pack, at the places marked for them
 pub record Triggered (d : Dimensions) (pack places : List ℕ) (ts : List Trigger) (count : ℕ) : Type 0 where

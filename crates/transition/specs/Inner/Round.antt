@@ -7,12 +7,12 @@ use Prim.Native.Nat.{ℕ, suc, _+_, _*_, _<_, _≤_}
 use lib.ListN.{length, getD}
 use Rattle.pack.specs.Syntax.{Effect}
 use Rattle.pack.specs.Condition.{write}
-use Rattle.pack.specs.Table.{cells, tableOf}
+use Rattle.pack.specs.Contracts.Table.{cells, tableOf}
 use Rattle.pack.specs.declared.table.Table.{Table}
 use Rattle.chart.specs.Call.{workRoom}
 use Rattle.chart.specs.Chart.{Ordered}
 use Rattle.transition.specs.declared.change.Change.{Change}
-use Rattle.transition.specs.Inner.Cause.{told, EffectsAt, Tabled}
+use Rattle.transition.specs.Contracts.Cause.{told, EffectsAt, Tabled}
 use Rattle.transition.specs.Inner.Change.{Scene, at}
 
 -- effects that are meant for nobody's beliefs

@@ -8,12 +8,12 @@ use Rattle.pack.specs.Layout.{ChartFits}
 use Rattle.pack.specs.Reading as reading
 use Rattle.chart.specs.Call.{chartRoom, workRoom, resultAfter, cleared}
 use Rattle.chart.specs.Promises.{chartSaid}
-use Rattle.chart.specs.Inner.Look.{NodesRead}
+use Rattle.chart.specs.Contracts.Look.{NodesRead}
 use Rattle.chart.specs.declared.Charted.{Charted}
 use Rattle.transition.specs.Step.{Outcome, leaves}
 use Rattle.transition.specs.Answers.{stepTable}
 use Rattle.transition.specs.Replies.{outcomeReply}
-use Rattle.transition.specs.Inner.Play.{Theorized}
+use Rattle.transition.specs.Contracts.Play.{Theorized}
 
 -- an accepted pack and chart, the action and the buffers that Step is lent
 pub record Stepping (p : Theory) (T : List Node) (pack places : List ℕ) (actions triggers action : ℕ) (chart : List ℕ) (nodes fluents characters : ℕ) (out work : List ℕ) : Type 0 where

@@ -4,8 +4,8 @@ use Prim.Native.Nat.{_≤_, _-_}
 use lib.ListN.{length, length-set}
 use native.Mathlib.Omega.{arith}
 use borrow.Author.Needs.{needs}
-use Rattle.chart.specs.Inner.Put.{Cleared}
-use Rattle.chart.proofs.Cells.{cleared-none, cleared-more}
+use Rattle.chart.specs.Contracts.Put.{Cleared}
+use Rattle.chart.specs.Laws.Cells.{cleared-none, cleared-more}
 use Rattle.chart.proofs.bytes.clear.Statement.{statement}
 use Rattle.chart.proofs.bytes.clear.Tie as tie
 

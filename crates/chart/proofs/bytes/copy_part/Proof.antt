@@ -4,8 +4,8 @@ use Prim.Native.Nat.{_≤_, _-_}
 use lib.ListN.{length, length-set}
 use native.Mathlib.Omega.{arith}
 use borrow.Author.Needs.{needs}
-use Rattle.chart.specs.Inner.Put.{PartCopied}
-use Rattle.chart.proofs.Cells.{part-none, part-more}
+use Rattle.chart.specs.Contracts.Put.{PartCopied}
+use Rattle.chart.specs.Laws.Cells.{part-none, part-more}
 use Rattle.chart.proofs.bytes.copy_part.Statement.{statement}
 use Rattle.chart.proofs.bytes.copy_part.Tie as tie
 

@@ -4,8 +4,8 @@ use Prim.Native.Nat.{ℕ, _+_, _-_, _≤_}
 use lib.ListN.{length}
 use native.Mathlib.Omega.{arith}
 use borrow.Author.Needs.{needs}
-use Rattle.chart.specs.Inner.Put.{Cleared}
-use Rattle.chart.proofs.Cells.{cleared-none, cleared-on}
+use Rattle.chart.specs.Contracts.Put.{Cleared}
+use Rattle.chart.specs.Laws.Cells.{cleared-none, cleared-on}
 use Rattle.chart.proofs.bytes.sweep.Statement.{statement}
 use Rattle.chart.proofs.bytes.sweep.Tie as tie
 

@@ -1,6 +1,6 @@
 -- Written where a byte was seen, and clear already where none was. Assumes nothing.
 use borrow.Author.Needs.{needs}
-use Rattle.chart.proofs.Cells.{cleared-already}
+use Rattle.chart.specs.Laws.Cells.{cleared-already}
 use Rattle.chart.proofs.bytes.sweep_part.Statement.{statement}
 use Rattle.chart.proofs.bytes.sweep_part.Tie as tie
 

@@ -5,7 +5,7 @@ use lib.ListN.{length, getD}
 use native.Mathlib.Omega.{arith}
 use borrow.Author.Needs.{needs}
 use borrow.Author.Count.{below-more}
-use Rattle.chart.proofs.Calling.{not-below, all-there}
+use Rattle.chart.specs.Laws.Arguments.{not-below, all-there}
 use Rattle.chart.proofs.call.all_below.Statement.{statement}
 use Rattle.chart.proofs.call.all_below.Tie as tie
 

@@ -1,7 +1,7 @@
 -- Both tests, one after the other. Assumes nothing.
 use mathlib.Core.Path.{refl}
 use borrow.Author.Tests.{le-leb, lt-leb}
-use Rattle.chart.proofs.Calling.{both-there, not-there}
+use Rattle.chart.specs.Laws.Arguments.{both-there, not-there}
 use Rattle.chart.proofs.call.both_at_most.Statement.{statement}
 use Rattle.chart.proofs.call.both_at_most.Tie as tie
 

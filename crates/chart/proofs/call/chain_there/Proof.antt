@@ -1,6 +1,6 @@
 -- Both tests, one after the other. Assumes nothing.
 use borrow.Author.Needs.{needs}
-use Rattle.chart.proofs.Calling.{both-there, not-there}
+use Rattle.chart.specs.Laws.Arguments.{both-there, not-there}
 use Rattle.chart.proofs.call.chain_there.Statement.{statement}
 use Rattle.chart.proofs.call.chain_there.Tie as tie
 

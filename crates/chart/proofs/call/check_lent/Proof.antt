@@ -1,6 +1,6 @@
 -- Each case of what was said before. Assumes nothing.
 use borrow.Author.Needs.{needs}
-use Rattle.chart.proofs.Calling.{lent-refused, lent-passed}
+use Rattle.chart.specs.Laws.Arguments.{lent-refused, lent-passed}
 use Rattle.chart.proofs.call.check_lent.Statement.{statement}
 use Rattle.chart.proofs.call.check_lent.Tie as tie
 

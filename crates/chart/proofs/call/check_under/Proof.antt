@@ -1,7 +1,7 @@
 -- A refusal stays, else the chart is checked. Assumes nothing.
 use mathlib.Core.Path.{sym, _∙_}
 use borrow.Author.Needs.{needs}
-use Rattle.chart.proofs.Calling.{under-refused, under-passed}
+use Rattle.chart.specs.Laws.Arguments.{under-refused, under-passed}
 use Rattle.chart.proofs.call.check_under.Statement.{statement}
 use Rattle.chart.proofs.call.check_under.Tie as tie
 

@@ -1,6 +1,6 @@
 -- Each case of what was said. Assumes nothing.
 use borrow.Author.Needs.{needs}
-use Rattle.chart.proofs.Calling.{under-refused, under-passed}
+use Rattle.chart.specs.Laws.Arguments.{under-refused, under-passed}
 use Rattle.chart.proofs.call.unless_refused.Statement.{statement}
 use Rattle.chart.proofs.call.unless_refused.Tie as tie
 

@@ -4,7 +4,7 @@ use Prim.Native.Nat.{_-_}
 use lib.ListN.{length}
 use native.Mathlib.Omega.{arith}
 use borrow.Author.Needs.{needs}
-use Rattle.chart.proofs.Numbering.{numbering-none}
+use Rattle.chart.specs.Laws.Numbering.{numbering-none}
 use Rattle.chart.proofs.Copying.{Copying, copying-start, copying-row, copying-end, laid-same, sound-same}
 use Rattle.chart.proofs.copy.copy_table.Statement.{statement}
 use Rattle.chart.proofs.copy.copy_table.Tie as tie

@@ -4,10 +4,10 @@ use Prim.Native.Nat.{ℕ, _<_, _≤_, _+_, _*_}
 use lib.ListN.{length, getD}
 use native.Mathlib.Omega.{arith}
 use borrow.Author.Needs.{needs}
-use Rattle.pack.specs.Table.{cells}
-use Rattle.chart.proofs.Cells.{cells-same, row-in, part-behind}
-use Rattle.chart.proofs.Numbering.{few, numbering-same}
-use Rattle.chart.proofs.Passing.{row-filled}
+use Rattle.pack.specs.Contracts.Table.{cells}
+use Rattle.chart.specs.Laws.Cells.{cells-same, row-in, part-behind}
+use Rattle.chart.specs.Laws.Numbering.{few, numbering-same}
+use Rattle.chart.specs.Laws.PassRows.{row-filled}
 use Rattle.chart.proofs.copy.fill_row.Statement.{statement}
 use Rattle.chart.proofs.copy.fill_row.Tie as tie
 

@@ -4,8 +4,8 @@ use Prim.Native.Nat.{_<_, _≤_, _-_, _+_}
 use lib.ListN.{length, length-set}
 use native.Mathlib.Omega.{arith}
 use borrow.Author.Needs.{needs}
-use Rattle.chart.specs.Inner.Classed.{Mapped}
-use Rattle.chart.proofs.Merging.{mapped-none, mapped-more}
+use Rattle.chart.specs.Contracts.Classed.{Mapped}
+use Rattle.chart.specs.Laws.MergedRows.{mapped-none, mapped-more}
 use Rattle.chart.proofs.merge.map_part.Statement.{statement}
 use Rattle.chart.proofs.merge.map_part.Tie as tie
 

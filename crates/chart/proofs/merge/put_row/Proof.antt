@@ -2,7 +2,7 @@
 use Prim.Native.Nat.{_+_}
 use native.Mathlib.Omega.{arith}
 use borrow.Author.Needs.{needs}
-use Rattle.chart.proofs.Merging.{row-put}
+use Rattle.chart.specs.Laws.MergedRows.{row-put}
 use Rattle.chart.proofs.merge.put_row.Statement.{statement}
 use Rattle.chart.proofs.merge.put_row.Tie as tie
 

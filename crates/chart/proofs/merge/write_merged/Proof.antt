@@ -4,7 +4,7 @@ use Prim.Native.Nat.{_≤_, _-_}
 use lib.ListN.{length}
 use native.Mathlib.Omega.{arith}
 use borrow.Author.Needs.{needs}
-use Rattle.chart.proofs.Merging.{Writing, writing-none, writing-more, written-out, ordered-sound, room-same, sound-below}
+use Rattle.chart.specs.Laws.MergedRows.{Writing, writing-none, writing-more, written-out, ordered-sound, room-same, sound-below}
 use Rattle.chart.proofs.merge.write_merged.Statement.{statement}
 use Rattle.chart.proofs.merge.write_merged.Tie as tie
 
@@ -18,7 +18,7 @@ write-class-requires : tie.Need-write-class-requires Inv-loop μ-loop
 write-class-requires c κs =
     let s = c .before .before .before .before in
     let l = c .before .before .loop .inv in
-    (room-same (s .pre .0) (l .1), sound-below (s .pre .0) (ordered-sound (s .pre .1 .ordered)) (l .2 .low), c .before .loop-test .taken, omega (arith, l .2 .few))
+    (room-same (s .pre .0) (l .1) (l .2 .low), sound-below (s .pre .0) (ordered-sound (s .pre .1 .ordered)) (l .2 .low), c .before .loop-test .taken, omega (arith, l .2 .few))
 
 loop-again : tie.Need-loop-again Inv-loop μ-loop
 loop-again c =

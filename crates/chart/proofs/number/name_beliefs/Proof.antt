@@ -4,8 +4,8 @@ use Prim.Native.Nat.{_<_, _≤_, _-_, _+_}
 use lib.ListN.{length, length-set, getD}
 use native.Mathlib.Omega.{arith}
 use borrow.Author.Needs.{needs}
-use Rattle.chart.specs.Inner.Numbers.{Named}
-use Rattle.chart.proofs.Passing.{named-none, named-more}
+use Rattle.chart.specs.Contracts.Numbers.{Named}
+use Rattle.chart.specs.Laws.PassRows.{named-none, named-more}
 use Rattle.chart.proofs.number.name_beliefs.Statement.{statement}
 use Rattle.chart.proofs.number.name_beliefs.Tie as tie
 

@@ -3,7 +3,7 @@ use Prim.Native.Nat.{_-_, _<_}
 use lib.Seq.{lt-length-set}
 use native.Mathlib.Omega.{arith}
 use borrow.Author.Needs.{needs}
-use Rattle.chart.proofs.Numbering.{room, given-old, given-new}
+use Rattle.chart.specs.Laws.Numbering.{room, given-old, given-new}
 use Rattle.chart.proofs.number.number_of.Statement.{statement}
 use Rattle.chart.proofs.number.number_of.Tie as tie
 

@@ -4,7 +4,7 @@ use Prim.Native.Nat.{ℕ, _+_, _*_}
 use lib.ListN.{getD}
 use native.Mathlib.Omega.{arith}
 use borrow.Author.Needs.{needs}
-use Rattle.chart.specs.Inner.Level.{Agrees, SameByte}
+use Rattle.chart.specs.Contracts.Level.{Agrees, SameByte}
 use Rattle.chart.proofs.pairs.other_value.Statement.{statement}
 use Rattle.chart.proofs.pairs.other_value.Tie as tie
 

@@ -5,7 +5,7 @@ use lib.ListN.{getD, length}
 use native.Mathlib.Omega.{arith}
 use borrow.Author.Count.{below-more}
 use borrow.Author.Needs.{needs}
-use Rattle.chart.specs.Inner.Level.{SameClass}
+use Rattle.chart.specs.Contracts.Level.{SameClass}
 use Rattle.chart.proofs.partition.first_apart.Statement.{statement}
 use Rattle.chart.proofs.partition.first_apart.Tie as tie
 

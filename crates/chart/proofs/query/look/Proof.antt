@@ -3,8 +3,8 @@ use mathlib.Core.Path.{refl}
 use Prim.Native.Nat.{_+_, _*_, _<_}
 use native.Mathlib.Omega.{arith}
 use borrow.Author.Needs.{needs}
-use Rattle.chart.proofs.Loading.{read-copies}
-use Rattle.chart.proofs.Looking.{look-follows, look-in, looked}
+use Rattle.chart.specs.Laws.LoadedNodes.{read-copies}
+use Rattle.chart.specs.Laws.LookedUp.{look-follows, look-in, looked}
 use Rattle.chart.proofs.query.look.Statement.{statement}
 use Rattle.chart.proofs.query.look.Tie as tie
 

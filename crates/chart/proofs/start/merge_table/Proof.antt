@@ -2,7 +2,7 @@
 use mathlib.Core.Path.{_∙_}
 use native.Mathlib.Omega.{arith}
 use borrow.Author.Needs.{needs}
-use Rattle.chart.proofs.Starting.{merge-laid, merge-levels, merge-room, merge-classed, merge-copied, merge-merged}
+use Rattle.chart.proofs.Starting.{merge-laid, merge-levels, merge-room, merge-target, merge-classed, merge-copied, merge-merged}
 use Rattle.chart.proofs.start.merge_table.Statement.{statement}
 use Rattle.chart.proofs.start.merge_table.Tie as tie
 
@@ -18,14 +18,15 @@ mul-copy-part : tie.Need-mul-copy-part
 mul-copy-part c =
     let x = c .before .before .before .before .before .before .before .before .copy-table in
     let y = c .before .before .before .before .partition in
-    omega (arith, merge-room (c .before .before .before .before .before .before .before .before .before .before .before .pre) (x .ensures) (x .kept .0) (y .ensures) (y .kept .0))
+    omega (arith, merge-target (c .before .before .before .before .before .before .before .before .before .before .before .pre) (x .ensures) (x .kept .0) (y .ensures) (y .kept .0))
 
 copy-part-requires : tie.Need-copy-part-requires
 copy-part-requires c κs =
     let x = c .before .before .before .before .before .before .before .before .copy-table in
     let y = c .before .before .before .before .partition in
+    let target = merge-target (c .before .before .before .before .before .before .before .before .before .before .before .pre) (x .ensures) (x .kept .0) (y .ensures) (y .kept .0) in
     let room = merge-room (c .before .before .before .before .before .before .before .before .before .before .before .pre) (x .ensures) (x .kept .0) (y .ensures) (y .kept .0) in
-    (omega (arith, room .source), omega (arith, room .target), room .target)
+    (omega (arith, room .source), omega (arith, target), target)
 
 same-length : tie.Need-same-length
 same-length c = c .before .before .copy-part .kept .0 ∙ c .before .before .before .before .before .before .before .partition .kept .0 ∙ c .before .before .before .before .before .before .before .before .before .before .before .copy-table .kept .0

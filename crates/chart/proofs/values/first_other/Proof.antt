@@ -3,7 +3,7 @@ use Prim.Native.Nat.{ℕ, _≤_, _<_, _-_}
 use native.Mathlib.Omega.{arith}
 use borrow.Author.Count.{below-more}
 use borrow.Author.Needs.{needs}
-use Rattle.chart.specs.Inner.Level.{SameByte}
+use Rattle.chart.specs.Contracts.Level.{SameByte}
 use Rattle.chart.proofs.values.first_other.Statement.{statement}
 use Rattle.chart.proofs.values.first_other.Tie as tie
 

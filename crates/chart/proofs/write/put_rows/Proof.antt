@@ -4,8 +4,8 @@ use Prim.Native.Nat.{_-_, _≤_, _+_, _*_}
 use lib.ListN.{length}
 use native.Mathlib.Omega.{arith}
 use borrow.Author.Needs.{needs}
-use Rattle.chart.specs.Inner.Out.{RowsPut}
-use Rattle.chart.proofs.Cells.{row-in}
+use Rattle.chart.specs.Contracts.Out.{RowsPut}
+use Rattle.chart.specs.Laws.Cells.{row-in}
 use Rattle.chart.proofs.Outing.{rows-start, rows-next, rows-all}
 use Rattle.chart.proofs.write.put_rows.Statement.{statement}
 use Rattle.chart.proofs.write.put_rows.Tie as tie

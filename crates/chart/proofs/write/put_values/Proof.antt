@@ -4,7 +4,7 @@ use Prim.Native.Nat.{_-_, _≤_}
 use lib.ListN.{length, length-set}
 use native.Mathlib.Omega.{arith}
 use borrow.Author.Needs.{needs}
-use Rattle.chart.specs.Inner.Out.{PartPut}
+use Rattle.chart.specs.Contracts.Out.{PartPut}
 use Rattle.chart.proofs.Outing.{put-none, put-same, put-all}
 use Rattle.chart.proofs.write.put_values.Statement.{statement}
 use Rattle.chart.proofs.write.put_values.Tie as tie

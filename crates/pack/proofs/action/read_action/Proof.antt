@@ -4,13 +4,13 @@ use native.Mathlib.Omega.{arith}
 use Prim.Native.Nat.{_+_}
 use mathlib.Core.Path.{ap, _∙_}
 use lib.ListN.{length-set}
-use Rattle.pack.specs.Places.{Marked, ActionParts}
+use Rattle.pack.specs.Contracts.Places.{Marked, ActionParts}
 use Rattle.pack.specs.Grammar.{conditionAt}
-use Rattle.pack.specs.Said.{shown}
-use Rattle.pack.specs.Answer.{dims}
-use Rattle.pack.proofs.Marks.{first-one, first-two, first-three, kept-one, kept-two, kept-three, action-first, action-kept, action-parts, when-passed}
-use Rattle.pack.proofs.Laws.{action-forget}
-use Rattle.pack.proofs.Bounded.{condition-within, effects-within, consenters-within}
+use Rattle.pack.specs.Contracts.Said.{shown}
+use Rattle.pack.specs.Contracts.Answer.{dims}
+use Rattle.pack.specs.Laws.Marks.{first-one, first-two, first-three, kept-one, kept-two, kept-three, action-first, action-kept, action-parts, when-passed}
+use Rattle.pack.specs.Laws.Runs.{action-forget}
+use Rattle.pack.specs.Laws.Bounded.{condition-within, effects-within, consenters-within}
 use Rattle.pack.proofs.action.read_action.Statement.{statement}
 use Rattle.pack.proofs.action.read_action.Tie as tie
 

@@ -4,14 +4,14 @@ use native.Mathlib.Omega.{arith}
 use Prim.Native.Nat.{ℕ, _*_, _<_}
 use mathlib.Core.Path.{_≡_, refl, ap, _∙_}
 use lib.ListN.{length}
-use Rattle.pack.specs.Places.{ActionParts}
+use Rattle.pack.specs.Contracts.Places.{ActionParts}
 use Rattle.pack.specs.Grammar.{actionAt}
-use Rattle.pack.specs.Said.{said, shown}
-use Rattle.pack.specs.Answer.{dims}
-use Rattle.pack.proofs.Marks.{Marking, marking-start, marking-more, marking-within, marking-refused, marking-whole, marking-all, when-given, actions-more, all-of}
+use Rattle.pack.specs.Contracts.Said.{said, shown}
+use Rattle.pack.specs.Contracts.Answer.{dims}
+use Rattle.pack.specs.Laws.Marks.{Marking, marking-start, marking-more, marking-within, marking-refused, marking-whole, marking-all, when-given, actions-more, all-of}
 use Rattle.pack.specs.Laws.Number.{between-within}
-use Rattle.pack.proofs.Laws.{counted-length}
-use Rattle.pack.proofs.Bounded.{action-bounded, count-within}
+use Rattle.pack.specs.Laws.Runs.{counted-length}
+use Rattle.pack.specs.Laws.Bounded.{action-bounded, count-within}
 use Rattle.pack.proofs.action.read_actions.Statement.{statement}
 use Rattle.pack.proofs.action.read_actions.Tie as tie
 

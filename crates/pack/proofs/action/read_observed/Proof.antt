@@ -5,10 +5,10 @@ use Prim.Native.Nat.{_+_}
 use mathlib.Core.Path.{_≡_, refl, ap, _∙_}
 use lib.ListN.{length, length-set}
 use Rattle.pack.specs.Grammar.{conditionAt}
-use Rattle.pack.specs.Said.{shown}
-use Rattle.pack.specs.Answer.{dims}
-use Rattle.pack.proofs.Marks.{Marking, marking-start, marking-set, marking-within, marking-refused, marking-whole, marking-all, set-below}
-use Rattle.pack.proofs.Bounded.{condition-bounded}
+use Rattle.pack.specs.Contracts.Said.{shown}
+use Rattle.pack.specs.Contracts.Answer.{dims}
+use Rattle.pack.specs.Laws.Marks.{Marking, marking-start, marking-set, marking-within, marking-refused, marking-whole, marking-all, set-below}
+use Rattle.pack.specs.Laws.Bounded.{condition-bounded}
 use Rattle.pack.proofs.action.read_observed.Statement.{statement}
 use Rattle.pack.proofs.action.read_observed.Tie as tie
 

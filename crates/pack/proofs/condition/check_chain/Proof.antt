@@ -4,8 +4,8 @@ use Prim.Native.Nat.{_-_}
 use mathlib.Core.Path.{_≡_}
 use Rattle.pack.specs.Reading.{mapped, many}
 use Rattle.pack.specs.Number.{item}
-use Rattle.pack.specs.Said.{forget}
-use Rattle.pack.proofs.Laws.{runs-none, many-forget}
+use Rattle.pack.specs.Contracts.Said.{forget}
+use Rattle.pack.specs.Laws.Runs.{runs-none, many-forget}
 use Rattle.pack.proofs.condition.check_chain.Statement.{statement}
 use Rattle.pack.proofs.condition.check_chain.Tie as tie
 

@@ -3,8 +3,8 @@ use borrow.Author.Needs.{needs}
 use Prim.Native.Nat.{_-_}
 use mathlib.Core.Path.{ap, _∙_}
 use lib.ListN.{length}
-use Rattle.pack.specs.Said.{said}
-use Rattle.pack.specs.Answer.{claimAt}
+use Rattle.pack.specs.Contracts.Said.{said}
+use Rattle.pack.specs.Contracts.Answer.{claimAt}
 use Rattle.pack.specs.Laws.Number.{between-within}
 use Rattle.pack.proofs.condition.check_claim.Statement.{statement}
 use Rattle.pack.proofs.condition.check_claim.Tie as tie

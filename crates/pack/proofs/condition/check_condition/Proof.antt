@@ -5,9 +5,9 @@ use mathlib.Core.Path.{_≡_}
 use Rattle.pack.specs.Reading.{mapped, many}
 use Rattle.pack.specs.Number.{counted}
 use Rattle.pack.specs.Grammar.{testAt, conditionAt}
-use Rattle.pack.specs.Said.{forget}
-use Rattle.pack.specs.Answer.{dims}
-use Rattle.pack.proofs.Laws.{runs-none, many-forget}
+use Rattle.pack.specs.Contracts.Said.{forget}
+use Rattle.pack.specs.Contracts.Answer.{dims}
+use Rattle.pack.specs.Laws.Runs.{runs-none, many-forget}
 use Rattle.pack.proofs.condition.check_condition.Statement.{statement}
 use Rattle.pack.proofs.condition.check_condition.Tie as tie
 

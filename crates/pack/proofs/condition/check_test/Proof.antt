@@ -1,7 +1,7 @@
 -- A test is read in the order of its definition. Assumes nothing.
 use borrow.Author.Needs.{needs}
 use Prim.Native.Nat.{_-_}
-use Rattle.pack.proofs.Laws.{test-forget}
+use Rattle.pack.specs.Laws.Runs.{test-forget}
 use Rattle.pack.proofs.condition.check_test.Statement.{statement}
 use Rattle.pack.proofs.condition.check_test.Tie as tie
 

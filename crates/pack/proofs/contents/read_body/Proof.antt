@@ -4,12 +4,12 @@ use native.Mathlib.Omega.{arith}
 use mathlib.Core.Path.{_≡_, sym, ap, _∙_}
 use lib.Seq.{length-take-le}
 use lib.ListN.{take}
-use Rattle.pack.specs.Contents.{bodyAt}
+use Rattle.pack.specs.Contracts.Contents.{bodyAt}
 use Rattle.pack.specs.Reading.{refused, mapped}
-use Rattle.pack.specs.Said.{said, shown, forget}
-use Rattle.pack.specs.Answer.{dims}
-use Rattle.pack.proofs.Found.{no-value, body-forget, body-found}
-use Rattle.pack.proofs.Bounded.{count-within, rows-within}
+use Rattle.pack.specs.Contracts.Said.{said, shown, forget}
+use Rattle.pack.specs.Contracts.Answer.{dims}
+use Rattle.pack.specs.Laws.PartsFound.{no-value, body-forget, body-found}
+use Rattle.pack.specs.Laws.Bounded.{count-within, rows-within}
 use Rattle.pack.proofs.contents.read_body.Statement.{statement}
 use Rattle.pack.proofs.contents.read_body.Tie as tie
 

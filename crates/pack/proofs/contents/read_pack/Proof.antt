@@ -2,11 +2,11 @@
 use borrow.Author.Needs.{needs}
 use mathlib.Core.Path.{sym, ap, _∙_}
 use lib.ListN.{length}
-use Rattle.pack.specs.Contents.{replied}
+use Rattle.pack.specs.Contracts.Contents.{replied}
 use Rattle.pack.specs.Reading.{told}
-use Rattle.pack.specs.Said.{forget}
+use Rattle.pack.specs.Contracts.Said.{forget}
 use Rattle.pack.specs.Laws.Reading.{never-gives}
-use Rattle.pack.proofs.Found.{pack-long, pack-told, pack-all, ended-refused, ended-passed, ended-early, no-pack}
+use Rattle.pack.specs.Laws.PartsFound.{pack-long, pack-told, pack-all, ended-refused, ended-passed, ended-early, no-pack}
 use Rattle.pack.proofs.contents.read_pack.Statement.{statement}
 use Rattle.pack.proofs.contents.read_pack.Tie as tie
 

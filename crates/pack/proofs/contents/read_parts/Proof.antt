@@ -3,13 +3,13 @@ use borrow.Author.Needs.{needs}
 use native.Mathlib.Omega.{arith}
 use mathlib.Core.Path.{_≡_, sym, ap, _∙_}
 use lib.ListN.{take}
-use Rattle.pack.specs.Contents.{bodyAt}
+use Rattle.pack.specs.Contracts.Contents.{bodyAt}
 use Rattle.pack.specs.Grammar.{packAt}
 use Rattle.pack.specs.Reading.{refused, bind, mapped}
-use Rattle.pack.specs.Said.{shown, answered, forget}
-use Rattle.pack.specs.Answer.{dims}
-use Rattle.pack.proofs.Found.{no-value, parts-forget, parts-body}
-use Rattle.pack.proofs.Bounded.{head-within}
+use Rattle.pack.specs.Contracts.Said.{shown, answered, forget}
+use Rattle.pack.specs.Contracts.Answer.{dims}
+use Rattle.pack.specs.Laws.PartsFound.{no-value, parts-forget, parts-body}
+use Rattle.pack.specs.Laws.Bounded.{head-within}
 use Rattle.pack.proofs.contents.read_parts.Statement.{statement}
 use Rattle.pack.proofs.contents.read_parts.Tie as tie
 

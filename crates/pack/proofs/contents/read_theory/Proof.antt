@@ -4,11 +4,11 @@ use native.Mathlib.Omega.{arith}
 use mathlib.Core.Path.{_≡_, ap, _∙_}
 use Rattle.pack.specs.Reading.{refused, mapped}
 use Rattle.pack.specs.Grammar.{theoryAt}
-use Rattle.pack.specs.Said.{said, shown, forget}
-use Rattle.pack.specs.Answer.{dims}
-use Rattle.pack.proofs.Found.{no-value, theory-marked}
-use Rattle.pack.proofs.Laws.{theory-forget}
-use Rattle.pack.proofs.Bounded.{actions-within, triggers-within}
+use Rattle.pack.specs.Contracts.Said.{said, shown, forget}
+use Rattle.pack.specs.Contracts.Answer.{dims}
+use Rattle.pack.specs.Laws.PartsFound.{no-value, theory-marked}
+use Rattle.pack.specs.Laws.Runs.{theory-forget}
+use Rattle.pack.specs.Laws.Bounded.{actions-within, triggers-within}
 use Rattle.pack.proofs.contents.read_theory.Statement.{statement}
 use Rattle.pack.proofs.contents.read_theory.Tie as tie
 

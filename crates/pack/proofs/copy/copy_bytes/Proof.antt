@@ -3,7 +3,7 @@ use borrow.Author.Needs.{needs}
 use native.Mathlib.Omega.{arith}
 use Prim.Native.Nat.{_-_, _≤_}
 use mathlib.Core.Path.{_≡_, refl}
-use Rattle.pack.proofs.Copying.{Copying, copying-start, copying-more}
+use Rattle.pack.specs.Laws.CopiedRows.{Copying, copying-start, copying-more}
 use Rattle.pack.proofs.copy.copy_bytes.Statement.{statement}
 use Rattle.pack.proofs.copy.copy_bytes.Tie as tie
 

@@ -1,7 +1,7 @@
 -- The values come first, the beliefs behind them. Assumes nothing.
 use native.Mathlib.Omega.{arith}
 use mathlib.Core.Path.{_∙_}
-use Rattle.pack.proofs.Copying.{node-bytes, row-values, row-beliefs, row-ends, row-copied}
+use Rattle.pack.specs.Laws.CopiedRows.{node-bytes, row-values, row-beliefs, row-ends, row-copied}
 use Rattle.pack.proofs.copy.copy_row.Statement.{statement}
 use Rattle.pack.proofs.copy.copy_row.Tie as tie
 

@@ -7,11 +7,11 @@ use mathlib.Core.List.{List}
 use lib.Seq.{getD-set-same, getD-set-other}
 use lib.ListN.{length, length-set}
 use Rattle.pack.specs.Grammar.{Dimensions, nodeAt}
-use Rattle.pack.specs.Table.{rowsAt, upto, Below, Above}
+use Rattle.pack.specs.Contracts.Table.{rowsAt, upto, Below, Above}
 use Rattle.pack.specs.Syntax.{Node}
-use Rattle.pack.specs.Copy.{Shaped}
+use Rattle.pack.specs.Contracts.Copy.{Shaped}
 use Rattle.pack.specs.Reading.{done, many}
-use Rattle.pack.proofs.Copying.{node-bytes, row-ends, row-fits, Rowing, rowing-one, rowing-next, rowing-none}
+use Rattle.pack.specs.Laws.CopiedRows.{node-bytes, row-ends, row-fits, Rowing, rowing-one, rowing-next, rowing-none}
 use Rattle.pack.proofs.copy.copy_table.Statement.{statement}
 use Rattle.pack.proofs.copy.copy_table.Tie as tie
 

@@ -6,9 +6,9 @@ use mathlib.Core.Path.{_≡_, ap, _∙_}
 use Rattle.pack.specs.Reading.{mapped, runs}
 use Rattle.pack.specs.Number.{risingAt}
 use Rattle.pack.specs.Grammar.{consentersAt}
-use Rattle.pack.specs.Said.{said, forget}
-use Rattle.pack.specs.Answer.{dims}
-use Rattle.pack.proofs.Laws.{runs-none, runs-one, rising-below}
+use Rattle.pack.specs.Contracts.Said.{said, forget}
+use Rattle.pack.specs.Contracts.Answer.{dims}
+use Rattle.pack.specs.Laws.Runs.{runs-none, runs-one, rising-below}
 use Rattle.pack.proofs.effect.check_consenters.Statement.{statement}
 use Rattle.pack.proofs.effect.check_consenters.Tie as tie
 

@@ -1,7 +1,7 @@
 -- An effect is read in the order of its definition. Assumes nothing.
 use borrow.Author.Needs.{needs}
 use Prim.Native.Nat.{_-_}
-use Rattle.pack.proofs.Laws.{effect-forget}
+use Rattle.pack.specs.Laws.Runs.{effect-forget}
 use Rattle.pack.proofs.effect.check_effect.Statement.{statement}
 use Rattle.pack.proofs.effect.check_effect.Tie as tie
 

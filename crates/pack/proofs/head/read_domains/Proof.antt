@@ -7,9 +7,9 @@ use mathlib.Core.List.{_++_}
 use lib.ListN.{length, take, length-set}
 use Rattle.pack.specs.Reading.{mapped, many}
 use Rattle.pack.specs.Number.{between}
-use Rattle.pack.specs.Said.{said}
+use Rattle.pack.specs.Contracts.Said.{said}
 use Rattle.pack.specs.Laws.Number.{between-within}
-use Rattle.pack.proofs.Laws.{mapped-id, stored-one, stored-all}
+use Rattle.pack.specs.Laws.Runs.{mapped-id, stored-one, stored-all}
 use Rattle.pack.proofs.head.read_domains.Statement.{statement}
 use Rattle.pack.proofs.head.read_domains.Tie as tie
 

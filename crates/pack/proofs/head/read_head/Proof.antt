@@ -2,8 +2,8 @@
 use borrow.Author.Needs.{needs}
 use native.Mathlib.Omega.{arith}
 use mathlib.Core.Path.{refl}
-use Rattle.pack.specs.Answer.{dims}
-use Rattle.pack.proofs.Laws.{mapped-answered}
+use Rattle.pack.specs.Contracts.Answer.{dims}
+use Rattle.pack.specs.Laws.Runs.{mapped-answered}
 use Rattle.pack.proofs.Opening.{head-opening, opening-limits}
 use Rattle.pack.proofs.head.read_head.Statement.{statement}
 use Rattle.pack.proofs.head.read_head.Tie as tie

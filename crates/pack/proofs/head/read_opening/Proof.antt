@@ -41,9 +41,9 @@ use denote.Triple.Walked.{says, Stays, stay-none, stay-none-slice, walkOf, goes-
 use denote.Exit.{yes}
 use denote.Triple.Clauses.{ensured, lasts}
 use Rattle.pack.specs.Number.{between}
-use Rattle.pack.specs.Said.{behind, answered}
-use Rattle.pack.specs.Said.{said as told}
-use Rattle.pack.specs.Answer.{inTurn, openingAt}
+use Rattle.pack.specs.Contracts.Said.{behind, answered}
+use Rattle.pack.specs.Contracts.Said.{said as told}
+use Rattle.pack.specs.Contracts.Answer.{inTurn, openingAt}
 use Rattle.pack.specs.declared.reader.Reader.{Reader}
 use Rattle.pack.specs.declared.number.Number.{Number}
 use Rattle.pack.specs.declared.head.Opening.{Opening}

@@ -4,11 +4,11 @@ use native.Mathlib.Omega.{arith}
 use Prim.Native.Nat.{ℕ}
 use mathlib.Core.Path.{_≡_, refl}
 use mathlib.Core.List.{List}
-use Rattle.pack.specs.Judge.{alternativeAt, Small}
+use Rattle.pack.specs.Contracts.Judge.{alternativeAt, Small}
 use Rattle.pack.specs.Grammar.{Dimensions, testAt}
 use Rattle.pack.specs.Syntax.{Test}
 use Rattle.pack.specs.Reading.{done}
-use Rattle.pack.proofs.Judging.{Left, left-start, left-one, left-next, left-end, counted-starts, test-ends}
+use Rattle.pack.specs.Laws.Judged.{Left, left-start, left-one, left-next, left-end, counted-starts, test-ends}
 use Rattle.pack.proofs.judge.after_alternative.Statement.{statement}
 use Rattle.pack.proofs.judge.after_alternative.Tie as tie
 

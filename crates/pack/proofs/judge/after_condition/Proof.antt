@@ -3,11 +3,11 @@ use borrow.Author.Needs.{needs}
 use native.Mathlib.Omega.{arith}
 use Prim.Native.Nat.{ℕ}
 use mathlib.Core.Path.{_≡_, refl, sym}
-use Rattle.pack.specs.Judge.{alternativeAt, Small}
+use Rattle.pack.specs.Contracts.Judge.{alternativeAt, Small}
 use Rattle.pack.specs.Grammar.{Dimensions, conditionAt}
 use Rattle.pack.specs.Syntax.{Condition}
 use Rattle.pack.specs.Reading.{done}
-use Rattle.pack.proofs.Judging.{Left, left-start, left-one, left-next, left-end, counted-starts}
+use Rattle.pack.specs.Laws.Judged.{Left, left-start, left-one, left-next, left-end, counted-starts}
 use Rattle.pack.proofs.judge.after_condition.Statement.{statement}
 use Rattle.pack.proofs.judge.after_condition.Tie as tie
 

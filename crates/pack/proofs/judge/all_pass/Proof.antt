@@ -4,13 +4,13 @@ use native.Mathlib.Omega.{arith}
 use Prim.Native.Nat.{ℕ}
 use mathlib.Core.Path.{_≡_, refl, sym, _∙_}
 use mathlib.Core.List.{List}
-use Rattle.pack.specs.Table.{stateOf}
-use Rattle.pack.specs.Judge.{alternativeAt, Over}
+use Rattle.pack.specs.Contracts.Table.{stateOf}
+use Rattle.pack.specs.Contracts.Judge.{alternativeAt, Over}
 use Rattle.pack.specs.Condition.{allPass}
 use Rattle.pack.specs.Grammar.{Dimensions, testAt}
 use Rattle.pack.specs.Syntax.{Test}
 use Rattle.pack.specs.Reading.{done}
-use Rattle.pack.proofs.Judging.{Left, left-start, left-one, left-next, left-none, counted-starts, all-next, all-fails, all-none, test-ends}
+use Rattle.pack.specs.Laws.Judged.{Left, left-start, left-one, left-next, left-none, counted-starts, all-next, all-fails, all-none, test-ends}
 use Rattle.pack.proofs.judge.all_pass.Statement.{statement}
 use Rattle.pack.proofs.judge.all_pass.Tie as tie
 

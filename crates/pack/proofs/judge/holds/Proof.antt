@@ -4,12 +4,12 @@ use native.Mathlib.Omega.{arith}
 use Prim.Native.Nat.{ℕ}
 use mathlib.Core.Bool.{true}
 use mathlib.Core.Path.{_≡_, refl, sym, _∙_}
-use Rattle.pack.specs.Table.{stateOf}
-use Rattle.pack.specs.Judge.{alternativeAt, Over}
+use Rattle.pack.specs.Contracts.Table.{stateOf}
+use Rattle.pack.specs.Contracts.Judge.{alternativeAt, Over}
 use Rattle.pack.specs.Grammar.{Dimensions, conditionAt}
 use Rattle.pack.specs.Syntax.{Condition}
 use Rattle.pack.specs.Reading.{done}
-use Rattle.pack.proofs.Judging.{Left, left-start, left-one, left-next, left-last, left-none, counted-starts, some-next, some-holds, some-none}
+use Rattle.pack.specs.Laws.Judged.{Left, left-start, left-one, left-next, left-last, left-none, counted-starts, some-next, some-holds, some-none}
 use Rattle.pack.proofs.judge.holds.Statement.{statement}
 use Rattle.pack.proofs.judge.holds.Tie as tie
 

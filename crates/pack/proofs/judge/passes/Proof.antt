@@ -6,9 +6,9 @@ use mathlib.Core.Path.{sym, ap, _∙_}
 use lib.ListN.{getD}
 use Rattle.pack.specs.Condition.{compares}
 use Rattle.pack.specs.Grammar.{kindOf}
-use Rattle.pack.proofs.Tables.{cell-in}
-use Rattle.pack.proofs.OneByte.{test-bytes, test-in}
-use Rattle.pack.proofs.Judging.{passes-by}
+use Rattle.pack.specs.Laws.Rows.{cell-in}
+use Rattle.pack.specs.Laws.OneByte.{test-bytes, test-in}
+use Rattle.pack.specs.Laws.Judged.{passes-by}
 use Rattle.pack.proofs.judge.passes.Statement.{statement}
 use Rattle.pack.proofs.judge.passes.Tie as tie
 

@@ -5,15 +5,15 @@ use native.Mathlib.Omega.{arith}
 use Prim.Native.Nat.{ℕ}
 use mathlib.Core.Path.{_≡_, refl, sym, ap, _∙_}
 use mathlib.Core.List.{List}
-use Rattle.pack.specs.Table.{stateOf}
-use Rattle.pack.specs.Judge.{Over}
+use Rattle.pack.specs.Contracts.Table.{stateOf}
+use Rattle.pack.specs.Contracts.Judge.{Over}
 use Rattle.pack.specs.Grammar.{Dimensions, ruleAt, rulesAt}
 use Rattle.pack.specs.Syntax.{Rule}
 use Rattle.pack.specs.Reading.{done}
 use Rattle.pack.specs.Number.{numberAt}
-use Rattle.pack.specs.Said.{said}
+use Rattle.pack.specs.Contracts.Said.{said}
 use Rattle.pack.specs.Laws.Reading.{never, same-value, same-place}
-use Rattle.pack.proofs.Judging.{Left, left-start, left-one, left-next, left-last, left-none, counted-starts, rule-parts, rule-holds, rule-next, rule-none}
+use Rattle.pack.specs.Laws.Judged.{Left, left-start, left-one, left-next, left-last, left-none, counted-starts, rule-parts, rule-holds, rule-next, rule-none}
 use Rattle.pack.proofs.judge.utility.Statement.{statement}
 use Rattle.pack.proofs.judge.utility.Tie as tie
 

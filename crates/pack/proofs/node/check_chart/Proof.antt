@@ -5,10 +5,10 @@ use native.Mathlib.Omega.{arith}
 use mathlib.Core.Path.{ap, _∙_}
 use lib.ListN.{length}
 use Rattle.pack.specs.Grammar.{nodesAt}
-use Rattle.pack.specs.Said.{said}
-use Rattle.pack.specs.Answer.{dims}
-use Rattle.pack.proofs.Bounded.{nodes-bounded, refusal-bounded}
-use Rattle.pack.proofs.Found.{chart-refused, chart-read}
+use Rattle.pack.specs.Contracts.Said.{said}
+use Rattle.pack.specs.Contracts.Answer.{dims}
+use Rattle.pack.specs.Laws.Bounded.{nodes-bounded, refusal-bounded}
+use Rattle.pack.specs.Laws.PartsFound.{chart-refused, chart-read}
 use Rattle.pack.proofs.node.check_chart.Statement.{statement}
 use Rattle.pack.proofs.node.check_chart.Tie as tie
 

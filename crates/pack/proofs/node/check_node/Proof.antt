@@ -1,7 +1,7 @@
 -- A node is its values and then its beliefs. Assumes nothing.
 use borrow.Author.Needs.{needs}
 use Prim.Native.Nat.{_-_}
-use Rattle.pack.proofs.Laws.{node-forget}
+use Rattle.pack.specs.Laws.Runs.{node-forget}
 use Rattle.pack.proofs.node.check_node.Statement.{statement}
 use Rattle.pack.proofs.node.check_node.Tie as tie
 

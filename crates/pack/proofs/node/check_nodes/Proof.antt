@@ -1,7 +1,7 @@
 -- There are as many nodes as the count says. Assumes nothing.
 use borrow.Author.Needs.{needs}
 use Prim.Native.Nat.{_-_}
-use Rattle.pack.proofs.Laws.{nodes-length}
+use Rattle.pack.specs.Laws.Runs.{nodes-length}
 use Rattle.pack.proofs.node.check_nodes.Statement.{statement}
 use Rattle.pack.proofs.node.check_nodes.Tie as tie
 

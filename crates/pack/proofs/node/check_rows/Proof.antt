@@ -4,9 +4,9 @@ use Prim.Native.Nat.{_-_}
 use mathlib.Core.Path.{_≡_}
 use Rattle.pack.specs.Reading.{mapped, many}
 use Rattle.pack.specs.Grammar.{nodeAt}
-use Rattle.pack.specs.Said.{forget}
-use Rattle.pack.specs.Answer.{dims}
-use Rattle.pack.proofs.Laws.{runs-none, many-forget}
+use Rattle.pack.specs.Contracts.Said.{forget}
+use Rattle.pack.specs.Contracts.Answer.{dims}
+use Rattle.pack.specs.Laws.Runs.{runs-none, many-forget}
 use Rattle.pack.proofs.node.check_rows.Statement.{statement}
 use Rattle.pack.proofs.node.check_rows.Tie as tie
 

@@ -6,9 +6,9 @@ use mathlib.Core.Path.{_≡_}
 use lib.ListN.{length, getD}
 use Rattle.pack.specs.Reading.{mapped, runs}
 use Rattle.pack.specs.Number.{item}
-use Rattle.pack.specs.Said.{forget}
-use Rattle.pack.specs.Answer.{valuesAt}
-use Rattle.pack.proofs.Laws.{runs-none, runs-one}
+use Rattle.pack.specs.Contracts.Said.{forget}
+use Rattle.pack.specs.Contracts.Answer.{valuesAt}
+use Rattle.pack.specs.Laws.Runs.{runs-none, runs-one}
 use Rattle.pack.proofs.node.check_values.Statement.{statement}
 use Rattle.pack.proofs.node.check_values.Tie as tie
 

@@ -5,8 +5,8 @@ use Prim.Native.Nat.{_+_, _-_}
 use mathlib.Core.Path.{_≡_, refl, ap, _∙_}
 use Rattle.pack.specs.Reading.{done, mapped, many}
 use Rattle.pack.specs.Number.{item}
-use Rattle.pack.specs.Said.{forget}
-use Rattle.pack.proofs.Laws.{runs-none}
+use Rattle.pack.specs.Contracts.Said.{forget}
+use Rattle.pack.specs.Laws.Runs.{runs-none}
 use Rattle.pack.proofs.InRange.{unsaid, chain-more}
 use Rattle.pack.proofs.plain.plain_chain.Statement.{statement}
 use Rattle.pack.proofs.plain.plain_chain.Tie as tie

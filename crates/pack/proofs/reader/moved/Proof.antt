@@ -41,7 +41,7 @@ use denote.Triple.Table.{entered, cited}
 use denote.Triple.Walked.{says, Stays, stay-none, walkOf, goes-none, Walks, ends-at, walked, walk-meets}
 use denote.Exit.{yes}
 use denote.Triple.Clauses.{ensured, lasts}
-use Rattle.pack.specs.Said.{behind}
+use Rattle.pack.specs.Contracts.Said.{behind}
 use Rattle.pack.specs.declared.reader.Reader.{Reader}
 use Rattle.pack.specs.declared.number.Number.{Number}
 use Rattle.pack.proofs.reader.Reader as T

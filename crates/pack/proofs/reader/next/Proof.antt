@@ -44,7 +44,7 @@ use denote.Triple.Walked.{says, Stays, stay-none, walkOf, goes-none, Walks, ends
 use denote.Exit.{yes}
 use denote.Triple.Clauses.{ensured, lasts}
 use Rattle.pack.specs.Number.{between}
-use Rattle.pack.specs.Said.{said as told}
+use Rattle.pack.specs.Contracts.Said.{said as told}
 use Rattle.pack.specs.declared.reader.Reader.{Reader}
 use Rattle.pack.specs.declared.number.Number.{Number}
 use Rattle.pack.proofs.reader.Reader as T

@@ -5,9 +5,9 @@ use Prim.Native.Nat.{_+_, _*_, _-_, _<_, _≤_}
 use mathlib.Core.Path.{_≡_, refl, sym, ap, _∙_}
 use lib.ListN.{length, getD}
 use Rattle.pack.specs.State.{walk, Valid}
-use Rattle.pack.specs.Table.{tableOf, bytesAt}
-use Rattle.pack.proofs.Tables.{cell-in, belief-in-table, walk-one}
-use Rattle.pack.proofs.OneByte.{bytes-one, bytes-none, valid-first, valid-rest}
+use Rattle.pack.specs.Contracts.Table.{tableOf, bytesAt}
+use Rattle.pack.specs.Laws.Rows.{cell-in, belief-in-table, walk-one}
+use Rattle.pack.specs.Laws.OneByte.{bytes-one, bytes-none, valid-first, valid-rest}
 use Rattle.pack.proofs.table.follow.Statement.{statement}
 use Rattle.pack.proofs.table.follow.Tie as tie
 

@@ -3,11 +3,11 @@ use borrow.Author.Needs.{needs}
 use native.Mathlib.Omega.{arith}
 use mathlib.Core.Path.{ap, _∙_}
 use lib.ListN.{length-set}
-use Rattle.pack.specs.Said.{shown}
-use Rattle.pack.specs.Answer.{dims}
-use Rattle.pack.proofs.Marks.{first-one, first-two, kept-one, kept-two, trigger-parts, when-always}
-use Rattle.pack.proofs.Laws.{trigger-forget}
-use Rattle.pack.proofs.Bounded.{condition-within}
+use Rattle.pack.specs.Contracts.Said.{shown}
+use Rattle.pack.specs.Contracts.Answer.{dims}
+use Rattle.pack.specs.Laws.Marks.{first-one, first-two, kept-one, kept-two, trigger-parts, when-always}
+use Rattle.pack.specs.Laws.Runs.{trigger-forget}
+use Rattle.pack.specs.Laws.Bounded.{condition-within}
 use Rattle.pack.proofs.trigger.read_trigger.Statement.{statement}
 use Rattle.pack.proofs.trigger.read_trigger.Tie as tie
 

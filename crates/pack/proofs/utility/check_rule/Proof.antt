@@ -1,7 +1,7 @@
 -- A rule is a condition and then a number. Assumes nothing.
 use borrow.Author.Needs.{needs}
 use Prim.Native.Nat.{_-_}
-use Rattle.pack.proofs.Laws.{rule-forget}
+use Rattle.pack.specs.Laws.Runs.{rule-forget}
 use Rattle.pack.proofs.utility.check_rule.Statement.{statement}
 use Rattle.pack.proofs.utility.check_rule.Tie as tie
 

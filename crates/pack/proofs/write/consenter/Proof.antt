@@ -2,7 +2,7 @@
 use borrow.Author.Needs.{needs}
 use native.Mathlib.Omega.{arith}
 use mathlib.Core.Path.{sym, _∙_}
-use Rattle.pack.proofs.OneByte.{consenter-bytes}
+use Rattle.pack.specs.Laws.OneByte.{consenter-bytes}
 use Rattle.pack.proofs.write.consenter.Statement.{statement}
 use Rattle.pack.proofs.write.consenter.Tie as tie
 

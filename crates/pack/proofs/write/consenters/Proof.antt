@@ -1,7 +1,7 @@
 -- The count stands before the consenters. Assumes nothing.
 use borrow.Author.Needs.{needs}
 use mathlib.Core.Path.{sym, _∙_}
-use Rattle.pack.proofs.OneByte.{consenter-bytes}
+use Rattle.pack.specs.Laws.OneByte.{consenter-bytes}
 use Rattle.pack.proofs.write.consenters.Statement.{statement}
 use Rattle.pack.proofs.write.consenters.Tie as tie
 

@@ -3,8 +3,8 @@ use borrow.Author.Needs.{needs}
 use native.Mathlib.Omega.{arith}
 use mathlib.Core.Path.{refl}
 use lib.ListN.{length-set}
-use Rattle.pack.proofs.OneByte.{effect-bytes}
-use Rattle.pack.proofs.Writing.{effect-meant, effect-other}
+use Rattle.pack.specs.Laws.OneByte.{effect-bytes}
+use Rattle.pack.specs.Laws.WrittenValues.{effect-meant, effect-other}
 use Rattle.pack.proofs.write.write_effect.Statement.{statement}
 use Rattle.pack.proofs.write.write_effect.Tie as tie
 

@@ -5,16 +5,16 @@ use Prim.Native.Nat.{ℕ}
 use mathlib.Core.Path.{_≡_, refl, sym}
 use mathlib.Core.List.{List}
 use lib.ListN.{length}
-use Rattle.pack.specs.Judge.{Small}
+use Rattle.pack.specs.Contracts.Judge.{Small}
 use Rattle.pack.specs.Grammar.{Dimensions, effectAt, effectsAt}
 use Rattle.pack.specs.Condition.{write}
-use Rattle.pack.specs.Table.{cells}
-use Rattle.pack.specs.Write.{RowOnly}
+use Rattle.pack.specs.Contracts.Table.{cells}
+use Rattle.pack.specs.Contracts.Write.{RowOnly}
 use Rattle.pack.specs.Syntax.{Effect}
 use Rattle.pack.specs.Reading.{done}
-use Rattle.pack.proofs.OneByte.{effect-bytes}
-use Rattle.pack.proofs.Judging.{counted-starts}
-use Rattle.pack.proofs.Writing.{only-none, only-then, Owed, owed-one, owed-next, owed-none}
+use Rattle.pack.specs.Laws.OneByte.{effect-bytes}
+use Rattle.pack.specs.Laws.Judged.{counted-starts}
+use Rattle.pack.specs.Laws.WrittenValues.{only-none, only-then, Owed, owed-one, owed-next, owed-none}
 use Rattle.pack.proofs.write.write_effects.Statement.{statement}
 use Rattle.pack.proofs.write.write_effects.Tie as tie
 

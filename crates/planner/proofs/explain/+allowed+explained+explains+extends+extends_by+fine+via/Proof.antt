@@ -9,10 +9,10 @@ use borrow.Author.Needs.{needs}
 use borrow.Author.Tests.{not-true, not-false}
 use Rattle.pack.specs.Syntax.{Node, Theory}
 use Rattle.pack.specs.State.{State, meaning, belief}
-use Rattle.pack.specs.Table.{Below, Above}
+use Rattle.pack.specs.Contracts.Table.{Below, Above}
 use Rattle.chart.specs.Call.{workRoom}
 use Rattle.transition.specs.Happening.{Plays}
-use Rattle.transition.proofs.Changing.{small}
+use Rattle.transition.specs.Laws.ChangedRows.{small}
 use Rattle.planner.specs.Ending.{Explained, utilityTo}
 use Rattle.planner.specs.Inner.Lists.{slotTable, AboveBy}
 use Rattle.planner.specs.Inner.Lists as inner

@@ -2,7 +2,7 @@
 use mathlib.Core.Path.{refl, _∙_}
 use borrow.Author.Needs.{needs}
 use borrow.Author.Tests.{lt-ltb, le-ltb}
-use Rattle.chart.proofs.Calling.{both-there, not-there}
+use Rattle.chart.specs.Laws.Arguments.{both-there, not-there}
 use Rattle.planner.proofs.judge.in_range.Statement.{statement}
 use Rattle.planner.proofs.judge.in_range.Tie as tie
 

@@ -1,7 +1,7 @@
 -- The chart laid out as a table, an empty memory, the verdict, and all cleared. Assumes nothing.
 use native.Mathlib.Omega.{arith}
 use borrow.Author.Needs.{needs}
-use Rattle.chart.proofs.Loading.{read-copies}
+use Rattle.chart.specs.Laws.LoadedNodes.{read-copies}
 use Rattle.planner.proofs.Judging.{judge-ready, judge-memory, judge-high, judge-free, judge-verdict}
 use Rattle.planner.proofs.judge.judge_chart.Statement.{statement}
 use Rattle.planner.proofs.judge.judge_chart.Tie as tie

@@ -3,8 +3,8 @@ use Prim.Native.Nat.{ℕ, _+_, _*_, _/_}
 use mathlib.Core.Path.{sym, ap, subst}
 use mathlib.Core.List.{List}
 use native.Mathlib.Omega.{arith}
-use Rattle.chart.specs.Inner.Put.{PartCopied}
-use Rattle.chart.proofs.Cells.{rows-most}
+use Rattle.chart.specs.Contracts.Put.{PartCopied}
+use Rattle.chart.specs.Laws.Cells.{rows-most}
 use Rattle.planner.proofs.Remembering.{copied-again, refused-again}
 use borrow.Author.Needs.{needs}
 use Rattle.planner.proofs.known.again.Statement.{statement}

@@ -4,7 +4,7 @@ use mathlib.Core.Path.{sym, _∙_, subst}
 use native.Mathlib.Omega.{arith}
 use Rattle.pack.specs.State.{meaning}
 use Rattle.pack.specs.declared.table.Table.{Table}
-use Rattle.transition.proofs.Changing.{small}
+use Rattle.transition.specs.Laws.ChangedRows.{small}
 use Rattle.planner.specs.Inner.Memory.{Naming}
 use Rattle.planner.specs.Inner.Explain.{Advanced}
 use Rattle.planner.proofs.Telling.{stage-before, stage-slot, stage-same, stage-setting, table-stage, known-fact, step-again, step-left, step-refused}

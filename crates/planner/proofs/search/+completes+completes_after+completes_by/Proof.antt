@@ -10,7 +10,7 @@ use borrow.Author.Needs.{needs}
 use borrow.Author.Tests.{not-true, not-false}
 use Rattle.pack.specs.Syntax.{Node, Theory}
 use Rattle.pack.specs.State.{meaning}
-use Rattle.pack.specs.Table.{Below, Above}
+use Rattle.pack.specs.Contracts.Table.{Below, Above}
 use Rattle.chart.specs.Call.{workRoom}
 use Rattle.planner.specs.Inner.Lists.{slotTable, Ends, EndsBy}
 use Rattle.planner.specs.Inner.Memory.{Memory}
@@ -115,7 +115,7 @@ completes-same-length-2 t c = search needs
 
 completes-returns-2 : (t : ℕ) → completes-lts.Need-returns-2 (completes-calls t) (completes-at t) completes.Post
 completes-returns-2 t c = let a = c .before .before .before .before .before .before .before .before .args in
-    let again = c .before .repeats .ensures (c .if2 .taken) in
+    let again = c .before .repeats .ensures .0 (c .if2 .taken) in
     λ th T y mem trail. best-none _ (λ q l. refl) (λ q l. refl) mem (trail-repeats th (a .k .0) (a .e .0) (a .base) (meaning (a .p .characters) T 0) (a .slot) trail (stage-state y 0) again)
 
 completes-recall-requires : (t : ℕ) → completes-lts.Need-recall-requires (completes-calls t) (completes-at t) completes.Post

@@ -2,7 +2,7 @@
 use mathlib.Core.Path.{refl}
 use native.Mathlib.Omega.{arith}
 use lib.ListN.{getD}
-use Rattle.transition.proofs.Changing.{small}
+use Rattle.transition.specs.Laws.ChangedRows.{small}
 use Rattle.planner.proofs.Telling.{rules-in, utility-in}
 use Rattle.planner.proofs.Completing.{author-rules, author-utility}
 use Rattle.planner.proofs.search.ends.Statement.{statement}

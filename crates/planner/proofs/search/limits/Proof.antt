@@ -1,7 +1,7 @@
 -- The three tests, one after the other. Assumes nothing.
 use mathlib.Core.Path.{_∙_}
 use borrow.Author.Needs.{needs}
-use Rattle.chart.proofs.Calling.{both-there, not-there}
+use Rattle.chart.specs.Laws.Arguments.{both-there, not-there}
 use Rattle.planner.proofs.search.limits.Statement.{statement}
 use Rattle.planner.proofs.search.limits.Tie as tie
 

@@ -1,20 +1,34 @@
 -- A state held against those before it. Assumes nothing.
-use Prim.Native.Nat.{_*_, _-_, _≤_}
-use mathlib.Core.Path.{sym}
+use Prim.Native.Nat.{ℕ, _+_, _*_, _-_, _<_, _≤_}
+use mathlib.Core.Path.{_≡_, sym, ap, _∙_, subst}
+use mathlib.Core.Bool.{Bool, true, false}
+use mathlib.Core.Logic.{by-cases}
+use native.Mathlib.Decide.{ℕ-discrete}
+use lib.ListN.{getD}
+use Rattle.pack.specs.Reading.{pick}
+use Rattle.pack.specs.Contracts.Table.{tableOf}
+use Rattle.chart.specs.Chart.{Written}
+use Rattle.chart.specs.Contracts.Level.{SameByte}
 use native.Mathlib.Omega.{arith}
 use borrow.Author.Needs.{needs}
+use Rattle.planner.specs.Inner.Lists.{slotTable}
 use Rattle.planner.proofs.Remembering.{unset, table-size, state-moved}
+use Rattle.planner.proofs.Repeating.{same-state-bytes}
 use Rattle.planner.proofs.search.repeats.Statement.{statement}
 use Rattle.planner.proofs.search.repeats.Tie as tie
 
+-- a flag that is set
+set-not : {A : Type 0} → true ≡ false → A
+set-not e = let z : _≡_ {A = ℕ} 1 0 = ap (λ (b : Bool). pick b 1 0) e in absurd (omega arith)
+
 abbrev Inv-loop : tie.InvT-loop
-Inv-loop work slot done n i₀ i = i ≤ done
+Inv-loop work slot done n i₀ i = (i ≤ done) × ((j : ℕ) → j < i → ((q : ℕ) → q < n → SameByte work slot (j * 961) q) → ⊥)
 
 abbrev μ-loop : tie.MeasureT-loop
 μ-loop work slot done n i₀ i = done - i
 
 loop-holds : tie.Need-loop-holds Inv-loop μ-loop
-loop-holds c = omega arith
+loop-holds c = (omega arith, λ j l. absurd (omega (arith, l)))
 
 mul-first-other : tie.Need-mul-first-other Inv-loop μ-loop
 mul-first-other c = omega (arith, c .loop-test .taken, c .before .before .before .before .pre .1, c .before .before .before .before .pre .0 .before)
@@ -30,13 +44,33 @@ returns c =
     let a = c .before .before .before .before .before .before .args in
     let i = c .before .before .before .loop .i in
     let same = c .before .first-other .ensures in
-    λ e. (i, c .before .before .loop-test .taken, state-moved (a .p) (a .work .now) (a .work .now) (a .slot) (i * 961) (λ q l. sym (same .before q (omega (arith, l, c .before .before .before .before .extent .ensures, c .if1 .taken)))))
+    (λ e. (i, c .before .before .loop-test .taken, state-moved (a .p) (a .work .now) (a .work .now) (a .slot) (i * 961) (λ q l. sym (same .before q (omega (arith, l, c .before .before .before .before .extent .ensures, c .if1 .taken))))), λ e. set-not e)
 
 add-i : tie.Need-add-i Inv-loop μ-loop
 add-i c = omega (arith, c .before .before .loop-test .taken, c .before .before .before .before .before .before .pre .1, c .before .before .before .before .before .before .pre .0 .before)
 
 loop-again : tie.Need-loop-again Inv-loop μ-loop
-loop-again c = omega (arith, c .before .before .loop-test .taken)
+loop-again c =
+    let i = c .before .before .before .loop .i in
+    let a = c .before .before .before .before .before .before .args in
+    let n = c .before .before .before .before .extent .result in
+    let other = c .before .first-other .ensures in (
+      omega (arith, c .before .before .loop-test .taken),
+      λ j l all. by-cases (ℕ-discrete j i)
+          (λ z. other .here (omega (arith, c .if1 .left)) (all (c .before .first-other .result) (omega (arith, c .if1 .left)) ∙ ap (λ (j : ℕ). getD (a .work .now) (j * 961 + c .before .first-other .result) 0) z))
+          (λ z. c .before .before .before .loop .inv .1 j (omega (arith, l, z)) all),
+    )
+
+returns-2 : tie.Need-returns-2 Inv-loop μ-loop
+returns-2 c =
+    let a = c .before .before .before .before .args in
+    let P = c .before .before .before .before .pre in (
+      unset,
+      λ e path (i, less, same). c .before .loop .inv .1 i (omega (arith, less, c .loop-test .left, c .before .loop .inv .0))
+          (λ q l. same-state-bytes (a .p) (a .work .now) (a .slot) (i * 961)
+          (subst (λ (k : ℕ). Written (a .p .characters) (tableOf (slotTable (a .p) (a .work .now) k) (a .work .now))) (sym (P .1)) (path (a .done) (omega arith)))
+          (path i (omega (arith, less))) same q (omega (arith, l, c .before .before .extent .ensures))),
+    )
 
 pub repeats-spec : {M : Type 1} → statement M
-repeats-spec = tie.close (tie.spec Inv-loop μ-loop (λ c κs. search needs) loop-holds mul-first-other first-other-requires returns add-i (λ c. search needs) loop-again (λ c. unset))
+repeats-spec = tie.close (tie.spec Inv-loop μ-loop (λ c κs. search needs) loop-holds mul-first-other first-other-requires returns add-i (λ c. search needs) loop-again returns-2)

@@ -8,7 +8,7 @@ use lib.ListN.{length}
 use borrow.Author.Needs.{needs}
 use Rattle.pack.specs.Syntax.{Node, Theory}
 use Rattle.pack.specs.State.{meaning}
-use Rattle.pack.specs.Table.{Below, Above}
+use Rattle.pack.specs.Contracts.Table.{Below, Above}
 use Rattle.chart.specs.Call.{workRoom}
 use Rattle.planner.specs.Ending.{authorUtility}
 use Rattle.planner.specs.Inner.Lists.{slotTable, Ends}

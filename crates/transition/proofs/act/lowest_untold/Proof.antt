@@ -11,8 +11,8 @@ use borrow.Author.Tests.{not-true, not-false}
 use borrow.Author.Count.{below-more}
 use Rattle.pack.specs.Syntax.{Effect}
 use Rattle.pack.specs.Grammar.{Dimensions}
-use Rattle.pack.specs.Judge.{Small}
-use Rattle.transition.specs.Inner.Cause.{told, EffectsAt}
+use Rattle.pack.specs.Contracts.Judge.{Small}
+use Rattle.transition.specs.Contracts.Cause.{told, EffectsAt}
 use Rattle.transition.proofs.act.lowest_untold.Statement.{statement}
 use Rattle.transition.proofs.act.lowest_untold.Tie as tie
 

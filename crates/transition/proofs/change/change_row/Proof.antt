@@ -4,7 +4,7 @@ use Prim.Native.Nat.{ℕ, _+_, _*_, _<_, _≤_}
 use lib.ListN.{length}
 use native.Mathlib.Omega.{arith}
 use borrow.Author.Needs.{needs}
-use Rattle.chart.proofs.Numbering.{numbering-same}
+use Rattle.chart.specs.Laws.Numbering.{numbering-same}
 use Rattle.transition.specs.Laws.Changed.{There}
 use Rattle.transition.specs.Inner.Change.{memberOf}
 use Rattle.transition.proofs.Rowing.{row-room, row-made}

@@ -3,7 +3,7 @@ use mathlib.Core.Path.{sym}
 use Prim.Native.Nat.{_*_, _/_}
 use native.Mathlib.Omega.{arith}
 use borrow.Author.Needs.{needs}
-use Rattle.transition.proofs.Changing.{slot-acted, member-first}
+use Rattle.transition.specs.Laws.ChangedRows.{slot-acted, member-first}
 use Rattle.transition.proofs.change.first_slot.Statement.{statement}
 use Rattle.transition.proofs.change.first_slot.Tie as tie
 

@@ -6,7 +6,7 @@ use lib.ListN.{length}
 use native.Mathlib.Omega.{arith}
 use borrow.Author.Needs.{needs}
 use Rattle.pack.specs.State.{target}
-use Rattle.transition.proofs.Changing.{row-inside, watched, belief-is, belief-in, believed-row, believed-keeps, member-first, member-old, member-acted, member-edge, member-there}
+use Rattle.transition.specs.Laws.ChangedRows.{row-inside, watched, belief-is, belief-in, believed-row, believed-keeps, member-first, member-old, member-acted, member-edge, member-there}
 use Rattle.transition.proofs.change.made_of.Statement.{statement}
 use Rattle.transition.proofs.change.made_of.Tie as tie
 

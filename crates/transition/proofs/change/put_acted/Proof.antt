@@ -4,7 +4,7 @@ use Prim.Native.Nat.{_+_, _*_, _≤_}
 use lib.ListN.{length}
 use native.Mathlib.Omega.{arith}
 use borrow.Author.Needs.{needs}
-use Rattle.transition.proofs.Changing.{row-inside, tellable, later, acted-put}
+use Rattle.transition.specs.Laws.ChangedRows.{row-inside, tellable, later, acted-put}
 use Rattle.transition.proofs.change.put_acted.Statement.{statement}
 use Rattle.transition.proofs.change.put_acted.Tie as tie
 

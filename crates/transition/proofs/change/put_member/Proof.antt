@@ -2,7 +2,7 @@
 use mathlib.Core.Path.{_∙_}
 use Prim.Native.Nat.{_/_, _<_}
 use native.Mathlib.Omega.{arith}
-use Rattle.transition.proofs.Changing.{tellable, edge-put, put-is}
+use Rattle.transition.specs.Laws.ChangedRows.{tellable, edge-put, put-is}
 use Rattle.transition.proofs.change.put_member.Statement.{statement}
 use Rattle.transition.proofs.change.put_member.Tie as tie
 

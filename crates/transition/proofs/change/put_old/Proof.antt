@@ -9,9 +9,9 @@ use Rattle.pack.specs.Syntax.{Node}
 use Rattle.pack.specs.State.{target}
 use Rattle.pack.specs.Grammar.{Dimensions}
 use Rattle.transition.specs.Laws.Changed.{old}
-use Rattle.transition.specs.Inner.Cause.{Tabled}
+use Rattle.transition.specs.Contracts.Cause.{Tabled}
 use Rattle.transition.specs.Inner.Change.{Scene, SlotsPut}
-use Rattle.transition.proofs.Changing.{row-inside, belief-is, belief-in, tabled-same, old-slot, slots-none, slots-more, slots-all, old-put}
+use Rattle.transition.specs.Laws.ChangedRows.{row-inside, belief-is, belief-in, tabled-same, old-slot, slots-none, slots-more, slots-all, old-put}
 use Rattle.transition.proofs.change.put_old.Statement.{statement}
 use Rattle.transition.proofs.change.put_old.Tie as tie
 

@@ -2,7 +2,7 @@
 use mathlib.Core.Path.{sym, ap}
 use borrow.Author.Needs.{needs}
 use Rattle.transition.specs.Inner.Change.{rowAfter}
-use Rattle.transition.proofs.Changing.{put-is}
+use Rattle.transition.specs.Laws.ChangedRows.{put-is}
 use Rattle.transition.proofs.change.put_row.Statement.{statement}
 use Rattle.transition.proofs.change.put_row.Tie as tie
 

@@ -5,7 +5,7 @@ use lib.ListN.{length, length-set}
 use native.Mathlib.Omega.{arith}
 use borrow.Author.Needs.{needs}
 use Rattle.transition.specs.Inner.Change.{Scene, Stands, believed, SlotsPut}
-use Rattle.transition.proofs.Changing.{stands-same, slots-none, slots-more, slots-all}
+use Rattle.transition.specs.Laws.ChangedRows.{stands-same, slots-none, slots-more, slots-all}
 use Rattle.transition.proofs.change.put_slots.Statement.{statement}
 use Rattle.transition.proofs.change.put_slots.Tie as tie
 

@@ -5,7 +5,7 @@ use lib.ListN.{length}
 use native.Mathlib.Omega.{arith}
 use borrow.Author.Needs.{needs}
 use Rattle.transition.specs.Inner.Change.{believed, SlotIs}
-use Rattle.transition.proofs.Changing.{telling, watched, small, belief-is, belief-in, row-inside, slot-told, slot-took, slot-kept}
+use Rattle.transition.specs.Laws.ChangedRows.{telling, watched, small, belief-is, belief-in, row-inside, slot-told, slot-took, slot-kept}
 use Rattle.transition.proofs.change.slot_of.Statement.{statement}
 use Rattle.transition.proofs.change.slot_of.Tie as tie
 

@@ -9,8 +9,8 @@ use borrow.Author.Needs.{needs}
 use borrow.Author.Tests.{not-false}
 use Rattle.pack.specs.Syntax.{Effect}
 use Rattle.pack.specs.Grammar.{Dimensions}
-use Rattle.pack.specs.Judge.{Small}
-use Rattle.transition.specs.Inner.Cause.{EffectsAt}
+use Rattle.pack.specs.Contracts.Judge.{Small}
+use Rattle.transition.specs.Contracts.Cause.{EffectsAt}
 use Rattle.transition.specs.Inner.Round.{Silent}
 use Rattle.transition.proofs.Acting.{clash}
 use Rattle.transition.proofs.round.all_silent.Statement.{statement}

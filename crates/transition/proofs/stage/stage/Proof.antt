@@ -2,7 +2,7 @@
 use mathlib.Core.Path.{_∙_}
 use Prim.Native.Nat.{_*_, _≤_}
 use native.Mathlib.Omega.{arith}
-use Rattle.transition.proofs.Changing.{small}
+use Rattle.transition.specs.Laws.ChangedRows.{small}
 use Rattle.transition.proofs.Staging.{stage-laid, stage-one, stage-levels, stage-many, stage-room, stage-classed, apart-inside, stage-apart, stage-few, stage-inside, stage-done}
 use Rattle.transition.proofs.stage.stage.Statement.{statement}
 use Rattle.transition.proofs.stage.stage.Tie as tie
@@ -46,7 +46,7 @@ write-merged-requires c κs =
     let a = c .before .before .before .before .before .before .before .before .before .before .change-table in
     let y = a .ensures (p .0 .0) x in
     let b = c .before .before .before .before .before .partition in
-    (stage-room x (p .1) y (a .kept .1 .1 .1 .1 .0) (b .ensures) (b .kept .0), stage-classed x (p .1) y (a .kept .1 .1 .1 .1 .0) (b .ensures) (b .kept .0) (omega (arith, c .before .before .if2 .left)))
+    (stage-room x (p .1) y (a .kept .1 .1 .1 .1 .0) (b .ensures) (b .kept .0) (omega (arith, c .before .before .if2 .left)), stage-classed x (p .1) y (a .kept .1 .1 .1 .1 .0) (b .ensures) (b .kept .0) (omega (arith, c .before .before .if2 .left)))
 
 put-down-requires-3 : tie.Need-put-down-requires-3
 put-down-requires-3 c κs =

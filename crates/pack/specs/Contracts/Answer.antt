@@ -1,0 +1,41 @@
+-- A pack's head and the parts that checks pass over, as readings.
+use Prim.Native.Nat.{ℕ, _+_, _≤_}
+use mathlib.Core.Path.{_≡_}
+use mathlib.Core.List.{List}
+use lib.ListN.{length, getD, take}
+use Rattle.pack.specs.Reading.{Reading, Reader, bind, mapped, runs, many}
+use Rattle.pack.specs.Number.{between, item}
+use Rattle.pack.specs.Contracts.Said.{answered, forget}
+use Rattle.pack.specs.Grammar.{Dimensions, headAt}
+use Rattle.pack.specs.declared.head.Domains.{Domains}
+use Rattle.pack.specs.declared.head.Head.{Head}
+
+abbrev pub dims : ℕ → List ℕ → Dimensions
+dims characters domains = record { characters = characters; domains = domains }
+
+-- a fluent and one of its values, of which nothing is told
+unfoldable pub claimAt : (domains : List ℕ) → Reader (Unit {0})
+claimAt domains s at = bind (item (length domains) s at) (λ fluent n. mapped forget (item (getD domains fluent 0) s n))
+
+-- a value for each fluent
+abbrev pub valuesAt : (domains : List ℕ) → Reader (List ℕ)
+valuesAt domains = runs (λ fluent. item (getD domains fluent 0)) (λ fluent v. fluent + 1) 0 (length domains)
+
+-- version, characters and fluents in turn: the first refusal stays, and the version is not told
+abbrev pub inTurn : (version characters fluents : Reading ℕ) → Reading (ℕ × ℕ)
+inTurn version characters fluents = bind version (λ v n. bind characters (λ c n. mapped (λ f. (c, f)) fluents))
+
+-- what a head begins with, up to its domain sizes: how many characters and fluents there are
+unfoldable pub openingAt : Reader (ℕ × ℕ)
+openingAt s at = bind (between 1 2 3 s at) (λ v n. bind (between 1 7 3 s n) (λ c n. mapped (λ f. (c, f)) (between 1 25 3 s n)))
+
+-- the domain sizes are the first of those that are kept
+pub record DomainsRead (s : List ℕ) (at : ℕ) (fluents : ℕ) (r : Domains) : Type 0 where
+  pub reads : many (between 1 129 3) fluents s at ≡ answered (r .answer) (take fluents (r .sizes))
+  pub long : length (r .sizes) ≡ 24
+
+pub record HeadRead (s : List ℕ) (at : ℕ) (r : Head) : Type 0 where
+  pub reads : headAt s at ≡ answered (r .answer) (dims (r .characters) (take (r .fluents) (r .sizes)))
+  pub few : r .fluents ≤ 24
+  pub long : length (r .sizes) ≡ 24
+  pub small : r .characters ≤ 6
