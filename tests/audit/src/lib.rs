@@ -1,8 +1,12 @@
-//! What the sources of the proved library must not have (a `requires` on a public call, an axiom of choice or of the
-//! excluded middle, a hole), and which definitions a reader must believe: those that public contracts reach.
+//! What the sources of the proved library must not have (a `requires` on a public call, the excluded middle, choice or a
+//! hole, a citation of what another layer keeps to itself, ever more long lines), and which definitions a reader must
+//! believe: those that public contracts reach. Besides, how many tests there are.
 
 pub mod believed;
 pub mod calls;
+pub mod counts;
+pub mod layers;
+pub mod lengths;
 pub mod words;
 
 use std::fs;
