@@ -5,7 +5,8 @@
 //! `numbers` finds and damages the numbers of a pack or chart, `inputs` draws packs and charts, `asks` calls and `plans`
 //! searches and explanations, of which `effort` counts the steps; `agreement` compares calls and `tally` what is read, and
 //! counts, `long` compares any number of them, `course` tells what a step met, `largest`, `tables` and `sought` build what
-//! the benchmarks are run on, `timing` measures.
+//! the benchmarks are run on, `timing` measures. `sources` builds the library's own code as Rust, and `steps` counts the
+//! steps that its searches make.
 
 pub mod agreement;
 pub mod asks;
@@ -24,6 +25,7 @@ pub mod probe;
 pub mod report;
 pub mod sought;
 pub mod sources;
+pub mod steps;
 pub mod tables;
 pub mod tally;
 pub mod timing;

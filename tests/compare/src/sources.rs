@@ -9,57 +9,46 @@ use std::process::Command;
 /// The crates, each over those before it.
 const CRATES: [&str; 4] = ["pack", "chart", "transition", "planner"];
 
-/// Something that the search does without, by changed lines: the file, what it says, and what it is to say.
+/// A changed line: the file, what it says, and what it is to say.
+type Edit = (&'static str, &'static str, &'static str);
+
+/// Something that the search does without.
 pub struct Off {
     pub name: &'static str,
-    pub edits: &'static [(&'static str, &'static str, &'static str)],
+    pub edits: &'static [Edit],
 }
+
+const STEPS: Edit = ("planner/known.rs", "if step_is(work, at, name, root, action) {", "if false {");
+const EXPLAINED: Edit = ("planner/explain.rs", "if known == 4 {", "if known == 9 {");
+const UNEXPLAINED: Edit = ("planner/explain.rs", "if known == 5 {", "if known == 9 {");
+const A_LIST: Edit = ("planner/explain.rs", "if known == 1 {", "if known == 9 {");
+const NO_LIST: Edit = ("planner/explain.rs", "if known == 2 {", "if known == 9 {");
+const AUTHORS: Edit = ("planner/search.rs", "if recall(work, p, slot, key) == 3 {", "if false {");
+const REPEATS: Edit = ("planner/search.rs", "if repeats(work, p, slot, done) {", "if false {");
+const CONDITIONS: Edit = ("planner/look.rs", "if !may {", "if false {");
+const LOOK: Edit = ("planner/look.rs", "if 0 < left {", "if true {");
 
 pub const NOTHING_OFF: Off = Off { name: "nothing", edits: &[] };
 
 pub const OFF: [Off; 8] = [
-    Off {
-        name: "memory of steps",
-        edits: &[("planner/known.rs", "if step_is(work, at, name, root, action) {", "if false {")],
-    },
-    Off {
-        name: "memory of verdicts",
-        edits: &[
-            ("planner/explain.rs", "if known == 4 {", "if known == 9 {"),
-            ("planner/explain.rs", "if known == 5 {", "if known == 9 {"),
-        ],
-    },
-    Off {
-        name: "memory of characters' lists",
-        edits: &[
-            ("planner/explain.rs", "if known == 1 {", "if known == 9 {"),
-            ("planner/explain.rs", "if known == 2 {", "if known == 9 {"),
-        ],
-    },
-    Off {
-        name: "memory of the author's lists",
-        edits: &[("planner/search.rs", "if recall(work, p, slot, key) == 3 {", "if false {")],
-    },
-    Off {
-        name: "repeats on the author's path",
-        edits: &[("planner/search.rs", "if repeats(work, p, slot, done) {", "if false {")],
-    },
-    Off { name: "conditions before consenters", edits: &[("planner/look.rs", "if !may {", "if false {")] },
-    Off { name: "look before a last action", edits: &[("planner/look.rs", "if 0 < left {", "if true {")] },
+    Off { name: "memory of steps", edits: &[STEPS] },
+    Off { name: "memory of verdicts", edits: &[EXPLAINED, UNEXPLAINED] },
+    Off { name: "memory of characters' lists", edits: &[A_LIST, NO_LIST] },
+    Off { name: "memory of the author's lists", edits: &[AUTHORS] },
+    Off { name: "repeats on the author's path", edits: &[REPEATS] },
+    Off { name: "conditions before consenters", edits: &[CONDITIONS] },
+    Off { name: "look before a last action", edits: &[LOOK] },
     Off {
         name: "all of them",
-        edits: &[
-            ("planner/known.rs", "if step_is(work, at, name, root, action) {", "if false {"),
-            ("planner/explain.rs", "if known == 4 {", "if known == 9 {"),
-            ("planner/explain.rs", "if known == 5 {", "if known == 9 {"),
-            ("planner/explain.rs", "if known == 1 {", "if known == 9 {"),
-            ("planner/explain.rs", "if known == 2 {", "if known == 9 {"),
-            ("planner/search.rs", "if recall(work, p, slot, key) == 3 {", "if false {"),
-            ("planner/search.rs", "if repeats(work, p, slot, done) {", "if false {"),
-            ("planner/look.rs", "if !may {", "if false {"),
-            ("planner/look.rs", "if 0 < left {", "if true {"),
-        ],
+        edits: &[STEPS, EXPLAINED, UNEXPLAINED, A_LIST, NO_LIST, AUTHORS, REPEATS, CONDITIONS, LOOK],
     },
+];
+
+/// Without the memory of steps, what facts save shows; without that of the author's lists besides, what repeats save.
+pub const APART: [Off; 3] = [
+    NOTHING_OFF,
+    Off { name: "memory of steps", edits: &[STEPS] },
+    Off { name: "memory of steps and of the author's lists", edits: &[STEPS, AUTHORS] },
 ];
 
 /// A program that searches packs and prints the steps of each search: a line `T K E FILE` each on its input.
@@ -153,7 +142,7 @@ mod tests {
     #[test]
     fn the_edits_fit() {
         let crates = Path::new(env!("CARGO_MANIFEST_DIR")).join("../../crates");
-        for (file, old, _) in OFF.iter().flat_map(|off| off.edits) {
+        for (file, old, _) in OFF.iter().chain(&APART).flat_map(|off| off.edits) {
             let (name, module) = file.split_once('/').expect("a crate and a file");
             let source = crates.join(name).join("src").join(module).with_extension("rt");
             let text = fs::read_to_string(&source).expect("a source file");
