@@ -5,6 +5,7 @@
 pub mod believed;
 pub mod calls;
 pub mod counts;
+pub mod edits;
 pub mod layers;
 pub mod lengths;
 pub mod words;

@@ -1,6 +1,6 @@
 //! The library's sources have nothing that they must not have, and the checks find it where they do.
 
-use audit::{believed, calls, repository, words};
+use audit::{believed, calls, edits, repository, words};
 
 #[test]
 fn no_forbidden_word() {
@@ -60,7 +60,8 @@ fn use_lines_are_read() {
     assert_eq!(believed::used("use lib.ListN.{length}"), None);
 }
 
-/// Every must-fail edit of the library and of the program is on the page of wrong programs, and every edit on it is there.
+/// Every must-fail edit of the library and of the program is on the page of wrong programs, and every edit on it is
+/// there.
 #[test]
 fn wrong_programs_have_their_edits() {
     let page = std::fs::read_to_string(repository().join("docs/CONTRACTS.md")).expect("the page");
@@ -68,20 +69,21 @@ fn wrong_programs_have_their_edits() {
     let cited: Vec<&str> = page.split('`').skip(1).step_by(2).collect();
     let mut there = Vec::new();
     for name in of {
-        for file in audit::files(&repository().join("crates").join(name).join("must-fail"), ".edit").expect("edits") {
-            there.push(format!("{name}/{}", file.file_stem().expect("a name").to_string_lossy()));
+        for in_gate in [true, false] {
+            there.extend(edits::names(&repository(), name, in_gate).expect("edits"));
         }
     }
     let uncited: Vec<_> = there.iter().filter(|edit| !cited.contains(&edit.as_str())).collect();
     assert!(uncited.is_empty(), "not on the page: {uncited:?}");
-    let edits = cited
+    let named = cited
         .iter()
         .filter(|word| word.split_once('/').is_some_and(|(name, rest)| of.contains(&name) && !rest.contains('/')));
-    let gone: Vec<_> = edits.filter(|word| !there.iter().any(|edit| edit == *word)).collect();
+    let gone: Vec<_> = named.filter(|word| !there.iter().any(|edit| edit == *word)).collect();
     assert!(gone.is_empty(), "on the page and not there: {gone:?}");
 }
 
-/// Every file of definitions that a public contract reaches is in the table of what shows that it is not empty, and each law named there is declared in a file that its row names.
+/// Every file of definitions that a public contract reaches is in the table of what shows that it is not empty, and each
+/// law named there is declared in a file that its row names.
 #[test]
 fn definitions_are_met() {
     let page = std::fs::read_to_string(repository().join("docs/CONTRACTS.md")).expect("the page");
