@@ -38,6 +38,7 @@ ghost use Prim.Native.Nat.{suc, _+_, _*_, _<_, _≤_};
 ghost use lib.ListN.{length, getD};
 ghost use Rattle.pack.specs.Syntax.{Node, Theory};
 ghost use Rattle.pack.specs.State.{meaning};
+ghost use Rattle.chart.specs.Chart.{Written};
 ghost use Rattle.planner.specs.Ending.{authorUtility};
 ghost use Rattle.planner.specs.Inner.Lists.{slotTable, Ends, EndsBy};
 ghost use Rattle.planner.specs.Inner.Memory.{Memory, Before};
@@ -115,10 +116,11 @@ pub fn extent(work: &[u8], p: Shape, slot: usize) -> usize
     1 + n * (p.fluents + p.characters)
 }
 
-// Whether the state in a slot, the last of `done` + 1, is one of those in the slots before it: exactly so where written charts stand in them.
+// Whether the state in a slot, the last of `done` + 1, is one of those in the slots before it. Written charts stand in
+// them, so equal bytes are the same state, and only they are.
 pub fn repeats(work: &[u8], p: Shape, slot: usize, done: usize) -> bool
-    requires { ⌜ Before p (now work) (slotTable p (now work) slot) × (slot ≡ done * 961) ⌝ }
-    ensures { λ r. ⌜ (r ≡ true → Repeated p (now (work .entry)) slot done) × (r ≡ false → OnPath p (now (work .entry)) done → ¬ Repeated p (now (work .entry)) slot done) ⌝ }
+    requires { ⌜ Before p (now work) (slotTable p (now work) slot) × (slot ≡ done * 961) × OnPath p (now work) done ⌝ }
+    ensures { λ r. ⌜ (r ≡ true → Repeated p (now (work .entry)) slot done) × (r ≡ false → ¬ Repeated p (now (work .entry)) slot done) ⌝ }
 {
     let n = extent(work, p, slot);
     let mut i = 0;
@@ -228,7 +230,7 @@ pub fn shortest(
     base: usize,
 ) -> Ended
     requires { ⌜ Outset (k .0) base (now pack) (now places) p (now work) × (0 < k .0) × (k .0 ≤ 6) × (e .0 ≤ 3) × (s .0 ≤ 8) × (8 ≤ length (now list)) ⌝ }
-    ensures { λ r. ⌜ ((th : Theory) (T : List Node) → Stage th T (now (pack .entry)) (now (places .entry)) p (now (work .entry)) (slotTable p (now (work .entry)) 0) 961 → Memory th (k .0) p 961 (now (work .entry)) → authorUtility th (meaning (p .characters) T 0) ≤ base → Shortest (Ends th (k .0) (e .0) base (meaning (p .characters) T 0)) (s .0) (now (list .entry)) (now (list .exit)) (now (work .entry)) (now (work .exit)) r) ⌝ }
+    ensures { λ r. ⌜ ((th : Theory) (T : List Node) → Stage th T (now (pack .entry)) (now (places .entry)) p (now (work .entry)) (slotTable p (now (work .entry)) 0) 961 → Memory th (k .0) p 961 (now (work .entry)) → Written (p .characters) T → authorUtility th (meaning (p .characters) T 0) ≤ base → Shortest (Ends th (k .0) (e .0) base (meaning (p .characters) T 0)) (s .0) (now (list .entry)) (now (list .exit)) (now (work .entry)) (now (work .exit)) r) ⌝ }
 {
     let mut n = 1;
     while n <= s.0 {

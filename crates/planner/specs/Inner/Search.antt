@@ -48,28 +48,30 @@ pub record Best (M : List ℕ → Type 0) (Good : List ℕ → ℕ → Type 0) (
 abbrev pub Dry : (Good : List ℕ → ℕ → Type 0) (n : ℕ) → Type 0
 Dry Good n = (list : List ℕ) (v : ℕ) → length list < n → ¬ Good list v
 
--- the author's path: n states in the slots before s; from each of them, and from s, no list of fewer actions than are left to it is good
+-- in the slots of the path, n before the last, stand written charts
+abbrev pub OnPath : (h : Shape) (work : List ℕ) (n : ℕ) → Type 0
+OnPath h work n = (i : ℕ) → i ≤ n → Written (h .characters) (tableOf (slotTable h work (i * 961)) work)
+
+-- the author's path: n states in the slots before s; from each of them, and from s, no list of fewer actions than are left to it is good;
+-- in each slot stands the written chart of its state, so that two are one exactly where no chain tells them apart
 pub record Trail (p : Theory) (foresight nesting base : ℕ) (h : Shape) (work : List ℕ) (n left : ℕ) (s : State) : Type 0 where
   pub before : (i : ℕ) → i < n → Dry (Ends p foresight nesting base (stateOf (slotTable h work (i * 961)) work 0)) (left + (n - i))
   pub here : Dry (Ends p foresight nesting base s) left
-  pub small : (i : ℕ) → i < n → 1 + getD work (i * 961) 0 * (h .fluents + h .characters) ≤ 961
+  pub written : OnPath h work n
+  pub small : (i : ℕ) → i ≤ n → 1 + getD work (i * 961) 0 * (h .fluents + h .characters) ≤ 961
 
 -- a stage, a memory and a path
 abbrev pub Underway : (foresight nesting base : ℕ) (pack places : List ℕ) (h : Shape) (work : List ℕ) (slot n left : ℕ) → Type 0
 Underway K e base pack places h work slot n left =
     (p : Theory) × ((T : List Node) × (Stage p T pack places h work (slotTable h work slot) (slot + 961) × Memory p K h (slot + 961) work × Trail p K e base h work n left (meaning (h .characters) T 0)))
 
--- a stage and a memory, and the author's utility there is at most base
+-- a stage with a written chart and a memory, and the author's utility there is at most base
 abbrev pub Outset : (foresight base : ℕ) (pack places : List ℕ) (h : Shape) (work : List ℕ) → Type 0
-Outset K base pack places h work = (p : Theory) × ((T : List Node) × (Stage p T pack places h work (slotTable h work 0) 961 × Memory p K h 961 work × (authorUtility p (meaning (h .characters) T 0) ≤ base)))
+Outset K base pack places h work = (p : Theory) × ((T : List Node) × (Stage p T pack places h work (slotTable h work 0) 961 × Memory p K h 961 work × Written (h .characters) T × (authorUtility p (meaning (h .characters) T 0) ≤ base)))
 
 -- the state in a slot is one of those before it
 abbrev pub Repeated : (h : Shape) (work : List ℕ) (slot n : ℕ) → Type 0
 Repeated h work slot n = (i : ℕ) × (i < n) × (stateOf (slotTable h work (i * 961)) work 0 ≡ stateOf (slotTable h work slot) work 0)
-
--- in the slots of the path, n before the last, stand written charts
-abbrev pub OnPath : (h : Shape) (work : List ℕ) (n : ℕ) → Type 0
-OnPath h work n = (i : ℕ) → i ≤ n → Written (h .characters) (tableOf (slotTable h work (i * 961)) work)
 
 -- the shortest of the good lists of 1 to T actions, and of those the earliest, is put down; or its length is 0, there is none, and nothing is put down
 pub record Shortest (Good : List ℕ → ℕ → Type 0) (story : ℕ) (was now work work′ : List ℕ) (r : Ended) : Type 0 where

@@ -45,7 +45,7 @@ shortest-requires c κs =
     let (th, (T, x)) = c .before .before .before .before .before .before .before .before .before .before .before .before .before .before .before .pre in
     let y = c .before .before .before .before .before .before .before .before .before .lay-start .ensures T (seek-laying x) in
     let long = c .before .before .before .before .before .before .before .before .before .lay-start .kept .1 .1 .1 .1 .0 in
-    ((th, (seekTable x y long, (seek-slot x y long, seek-memory x y long, seek-base x y long (worth (c .before .before) x)))), x .foreseen .0, x .foreseen .1, x .nested, x .storied, x .list-room)
+    ((th, (seekTable x y long, (seek-slot x y long, seek-memory x y long, y .starts .0, seek-base x y long (worth (c .before .before) x)))), x .foreseen .0, x .foreseen .1, x .nested, x .storied, x .list-room)
 
 clear-requires : tie.Need-clear-requires
 clear-requires c κs = let (th, (T, x)) = c .before .before .before .before .before .before .before .before .before .before .before .before .before .before .before .before .before .before .before .before .before .pre in omega (arith, x .room, c .before .before .before .before .before .shortest .kept .1 .1 .1 .0, c .before .before .before .before .before .before .before .before .before .before .before .before .before .before .before .lay-start .kept)
@@ -59,7 +59,7 @@ returns c =
     let y = l T (seek-laying x) in
     let long = c .before .before .before .before .before .before .before .before .before .before .before .before .before .before .before .before .before .before .before .before .lay-start .kept .1 .1 .1 .1 .0 in
     let is = worth (c .before .before .before .before .before .before .before .before .before .before .before .before .before) x in
-    seek-none x y long (seek-from x y long is) (seek-same x y long (e .ensures th (seekTable x y long) (seek-slot x y long) (seek-memory x y long) (seek-base x y long is))) (z .ensures) (omega (arith, z .kept, e .kept .1 .1 .1 .0, c .before .before .before .before .before .before .before .before .before .before .before .before .before .before .before .before .before .before .before .before .lay-start .kept)) (e .kept .1 .1 .1 .1 .0) (c .if1 .taken)
+    seek-none x y long (seek-from x y long is) (seek-same x y long (e .ensures th (seekTable x y long) (seek-slot x y long) (seek-memory x y long) (y .starts .0) (seek-base x y long is))) (z .ensures) (omega (arith, z .kept, e .kept .1 .1 .1 .0, c .before .before .before .before .before .before .before .before .before .before .before .before .before .before .before .before .before .before .before .before .lay-start .kept)) (e .kept .1 .1 .1 .1 .0) (c .if1 .taken)
 
 returns-2 : tie.Need-returns-2
 returns-2 c =
@@ -70,7 +70,7 @@ returns-2 c =
     let y = l T (seek-laying x) in
     let long = c .before .before .before .before .before .before .before .before .before .before .before .before .before .before .before .before .before .before .before .before .lay-start .kept .1 .1 .1 .1 .0 in
     let is = worth (c .before .before .before .before .before .before .before .before .before .before .before .before .before) x in
-    seek-found x y long (seek-from x y long is) (seek-same x y long (e .ensures th (seekTable x y long) (seek-slot x y long) (seek-memory x y long) (seek-base x y long is))) (z .ensures) (omega (arith, z .kept, e .kept .1 .1 .1 .0, c .before .before .before .before .before .before .before .before .before .before .before .before .before .before .before .before .before .before .before .before .lay-start .kept)) (e .kept .1 .1 .1 .1 .0) (omega (arith, c .if1 .left))
+    seek-found x y long (seek-from x y long is) (seek-same x y long (e .ensures th (seekTable x y long) (seek-slot x y long) (seek-memory x y long) (y .starts .0) (seek-base x y long is))) (z .ensures) (omega (arith, z .kept, e .kept .1 .1 .1 .0, c .before .before .before .before .before .before .before .before .before .before .before .before .before .before .before .before .before .before .before .before .lay-start .kept)) (e .kept .1 .1 .1 .1 .0) (omega (arith, c .if1 .left))
 
 pub search-nodes-spec : {M : Type 1} → statement M
 search-nodes-spec =
