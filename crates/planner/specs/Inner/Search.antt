@@ -75,10 +75,10 @@ Repeated h work slot n = (i : ℕ) × (i < n) × (stateOf (slotTable h work (i *
 
 -- the shortest of the good lists of 1 to T actions, and of those the earliest, is put down; or its length is 0, there is none, and nothing is put down
 pub record Shortest (Good : List ℕ → ℕ → Type 0) (story : ℕ) (was now work work′ : List ℕ) (r : Ended) : Type 0 where
-  pub none : r .length ≡ 0 → (now ≡ was) × ((list : List ℕ) (v : ℕ) → 0 < length list → length list ≤ story → ¬ Good list v)
-  pub some : 0 < r .length → (list : List ℕ) × Chosen Good (r .length) list (r .after) × Put was now 0 list
-  pub within : r .length ≤ story
-  pub shortest : (other : List ℕ) (v : ℕ) → 0 < length other → length other < r .length → ¬ Good other v
+  pub none : r .count ≡ 0 → (now ≡ was) × ((list : List ℕ) (v : ℕ) → 0 < length list → length list ≤ story → ¬ Good list v)
+  pub some : 0 < r .count → (list : List ℕ) × Chosen Good (r .count) list (r .after) × Put was now 0 list
+  pub within : r .count ≤ story
+  pub shortest : (other : List ℕ) (v : ℕ) → 0 < length other → length other < r .count → ¬ Good other v
   pub low : Below work work′ 961
   pub high : Above work work′ workRoom
 
@@ -99,7 +99,7 @@ pub record LaidStart (T : List Node) (h : Shape) (was now : List ℕ) : Type 0 w
   pub high : Above was now workRoom
 
 -- what the search from a pack's nodes is lent: a theory, found in the pack, its nodes, and room
-pub record Seeking (th : Theory) (T : List Node) (pack places : List ℕ) (h : Shape) (first nodes story nesting foresight : ℕ) (list work : List ℕ) : Type 0 where
+pub record Seeking (th : Theory) (T : List Node) (pack places : List ℕ) (h : Shape) (first nodes story foresight nesting : ℕ) (list work : List ℕ) : Type 0 where
   pub theorized : Theorized th pack places (h .actions) (h .triggers)
   pub end : ℕ
   pub read : NodesFrom pack first end nodes (h .fluents) (h .characters) T
@@ -111,13 +111,13 @@ pub record Seeking (th : Theory) (T : List Node) (pack places : List ℕ) (h : S
   pub list-room : listRoom ≤ length list
   pub room : workRoom ≤ length work
 
-abbrev pub Seekable : (pack places : List ℕ) (h : Shape) (first nodes story nesting foresight : ℕ) (list work : List ℕ) → Type 0
-Seekable pack places h first nodes story nesting foresight list work = (th : Theory) × ((T : List Node) × Seeking th T pack places h first nodes story nesting foresight list work)
+abbrev pub Seekable : (pack places : List ℕ) (h : Shape) (first nodes story foresight nesting : ℕ) (list work : List ℕ) → Type 0
+Seekable pack places h first nodes story foresight nesting list work = (th : Theory) × ((T : List Node) × Seeking th T pack places h first nodes story foresight nesting list work)
 
 -- the answer that is true of the state is given, its list put down, and the work buffer cleared
-pub record SearchPut (th : Theory) (foresight story nesting : ℕ) (s : State) (list list′ work work′ : List ℕ) (r : Found) : Type 0 where
+pub record SearchPut (th : Theory) (story foresight nesting : ℕ) (s : State) (list list′ work work′ : List ℕ) (r : Found) : Type 0 where
   pub answer : Answer
-  pub is-so : Searched th foresight story nesting s answer
+  pub is-so : Searched th story foresight nesting s answer
   pub said : searchSaid r ≡ told summary (answerReply answer)
   pub result : list′ ≡ resultAfter (told (λ p. p .list) (answerReply answer)) list
   pub scratch : work′ ≡ cleared work

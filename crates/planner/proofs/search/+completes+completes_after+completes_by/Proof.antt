@@ -190,11 +190,11 @@ completes-returns-5 t c = let P = c .before .before .before .before .before .bef
     best-from (λ q l. r .ensures .only .low q (omega (arith, l, P .3))) (r .ensures .only .high) (best-same (sym up) (d .ensures th T (slot-same (a .slot) y (λ q l. r .ensures .only .low q (omega (arith, l, P .3))) (r .kept .0)) (r .ensures .told th (a .k .0) (a .slot + 961) (omega (arith, P .3)) (y .slotted) mem .0) (trail-same th (a .k .0) (a .e .0) (a .base) (meaning (a .p .characters) T 0) (λ q l. r .ensures .only .low q (omega (arith, l, P .3, P .5))) (subst (λ (n : ℕ). Trail th (a .k .0) (a .e .0) (a .base) (a .p) (a .work .now) (a .done) n (meaning (a .p .characters) T 0)) up trail))))
 
 abbrev completes-after-Inv-loop : completes-after-lts.InvT-loop
-completes-after-Inv-loop pack places p work₀ slot list₀ done e k left base actions x₀ work list x = (length work ≡ length work₀) × (list ≡ list₀) × Below work₀ work (slot + 961) × Above work₀ work workRoom
+completes-after-Inv-loop pack places p work₀ slot list₀ done k e left base actions x₀ work list x = (length work ≡ length work₀) × (list ≡ list₀) × Below work₀ work (slot + 961) × Above work₀ work workRoom
     × ((th : Theory) (T : List Node) → Stage th T pack places p work₀ (slotTable p work₀ slot) (slot + 961) → Memory th (k .0) p (slot + 961) work₀ → Trail th (k .0) (e .0) base p work₀ done (suc left) (meaning (p .characters) T 0) → Memory th (k .0) p (slot + 961) work × ((y : ℕ) → y < x → (l : List ℕ) (v : ℕ) → length l ≡ suc left → ¬ EndsBy th (k .0) (e .0) base y (meaning (p .characters) T 0) l v))
 
 abbrev completes-after-μ-loop : completes-after-lts.MeasureT-loop
-completes-after-μ-loop pack places p work₀ slot list₀ done e k left base actions x₀ work list x = p .actions - x
+completes-after-μ-loop pack places p work₀ slot list₀ done k e left base actions x₀ work list x = p .actions - x
 
 completes-after-next-promising-requires : (t : ℕ) → completes-after-lts.Need-next-promising-requires (completes-after-calls t) (completes-after-at t) completes-after.Post completes-after-Inv-loop completes-after-μ-loop
 completes-after-next-promising-requires t c κs = let P = c .before .before .before .before .before .pre .1 in

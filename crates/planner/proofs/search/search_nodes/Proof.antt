@@ -33,7 +33,7 @@ utility-requires c κs =
     rules-in _ _ _ 0 (c .before .before .table-in .ensures) (author-rules s 0 (s .tabled .some) .0)
 
 -- the number of the rule that holds is the author's utility at the start
-worth : (c : tie.After-utility) {th : Theory} {T : List Node} → let a = c .before .before .before .before .before .before .before .before .before .before .before .before .before .args in let l = c .before .before .before .before .before .before .before .lay-start in (x : Seeking th T (a .pack .now) (a .places .now) (a .p) (a .first) (a .nodes) (a .s .0) (a .e .0) (a .k .0) (a .list .now) (a .work .now))
+worth : (c : tie.After-utility) {th : Theory} {T : List Node} → let a = c .before .before .before .before .before .before .before .before .before .before .before .before .before .args in let l = c .before .before .before .before .before .before .before .lay-start in (x : Seeking th T (a .pack .now) (a .places .now) (a .p) (a .first) (a .nodes) (a .s .0) (a .k .0) (a .e .0) (a .list .now) (a .work .now))
     → c .utility .result ≡ authorUtility th (meaning (a .p .characters) (seekTable x (l .ensures T (seek-laying x)) (l .kept .1 .1 .1 .1 .0)) 0)
 worth c {th} {T} x =
     let a = c .before .before .before .before .before .before .before .before .before .before .before .before .before .args in

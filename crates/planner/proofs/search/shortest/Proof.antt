@@ -23,12 +23,12 @@ use Rattle.planner.proofs.search.shortest.Statement.{statement}
 use Rattle.planner.proofs.search.shortest.Tie as tie
 
 abbrev Inv-loop : tie.InvT-loop
-Inv-loop pack places p work₀ list₀ s e k base n₀ work list n =
+Inv-loop pack places p work₀ list₀ s k e base n₀ work list n =
     (0 < n) × (length work ≡ length work₀) × (list ≡ list₀) × Below work₀ work 961 × Above work₀ work workRoom
     × ((th : Theory) (T : List Node) → Stage th T pack places p work₀ (slotTable p work₀ 0) 961 → Memory th (k .0) p 961 work₀ → Written (p .characters) T → authorUtility th (meaning (p .characters) T 0) ≤ base → Memory th (k .0) p 961 work × ((l : List ℕ) (v : ℕ) → 0 < length l → length l < n → ¬ Ends th (k .0) (e .0) base (meaning (p .characters) T 0) l v))
 
 abbrev μ-loop : tie.MeasureT-loop
-μ-loop pack places p work₀ list₀ s e k base n₀ work list n = s .0 + 1 - n
+μ-loop pack places p work₀ list₀ s k e base n₀ work list n = s .0 + 1 - n
 
 loop-holds : tie.Need-loop-holds Inv-loop μ-loop
 loop-holds c = (omega arith, refl, refl, λ q l. refl, λ q l. refl, λ th T y mem wr le. (mem, λ l v h k. absurd (omega (arith, h, k))))
@@ -47,7 +47,7 @@ returns c =
     let a = c .before .before .before .before .before .before .before .before .before .before .before .before .before .before .before .args in
     let d = c .before .before .before .before .before .completes in
     let (some, long, same, low, high, rest) = c .before .before .before .before .before .before .before .before .before .before .loop .inv in
-    λ th T y mem wr le. subst (λ (was : List ℕ). Shortest (Ends th (a .k .0) (a .e .0) (a .base) (meaning (a .p .characters) T 0)) (a .s .0) was (d .last .1 .1 .1 .1 .1 .0) (a .work .now) (d .last .1 .1 .1 .0) (record { length = c .before .before .before .before .before .before .before .before .before .before .loop .n; after = d .result })) same
+    λ th T y mem wr le. subst (λ (was : List ℕ). Shortest (Ends th (a .k .0) (a .e .0) (a .base) (meaning (a .p .characters) T 0)) (a .s .0) was (d .last .1 .1 .1 .1 .1 .0) (a .work .now) (d .last .1 .1 .1 .0) (record { count = c .before .before .before .before .before .before .before .before .before .before .loop .n; after = d .result })) same
     (shortest-found low high some (omega (arith, c .before .before .before .before .before .before .before .before .if1 .taken)) (rest th T y mem wr le .1) (omega (arith, c .if2 .taken)) (d .ensures th T (slot-same 0 y low long) (rest th T y mem wr le .0) (trail-outset (a .k .0) (a .e .0) (a .base) y low long wr le (rest th T y mem wr le .1))))
 
 loop-again : tie.Need-loop-again Inv-loop μ-loop
