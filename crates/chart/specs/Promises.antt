@@ -28,7 +28,7 @@ querySaid (queried.Refused number place) = refuses number place
 -- what is said of a difference: the chain's length and the fluent
 pub data Difference : Type 0 where
   nowhere : Difference
-  after : (length fluent : ℕ) → Difference
+  after : (count fluent : ℕ) → Difference
 
 -- of each verdict
 abbrev pub difference : Verdict → Difference
@@ -38,7 +38,7 @@ difference (differ chain fluent) = after (length chain) fluent
 -- Compare: "same, or .. chain .. and .. fluent"
 abbrev pub compareSaid : Matched → Reply Difference
 compareSaid (matched.Same) = gives nowhere
-compareSaid (matched.Differ length fluent) = gives (after length fluent)
+compareSaid (matched.Differ count fluent) = gives (after count fluent)
 compareSaid (matched.Refused number place) = refuses number place
 
 -- Start(pack, chart out, work)

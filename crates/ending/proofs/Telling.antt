@@ -37,7 +37,7 @@ module _ (list list′ : List ℕ) where
   listed-from : (x : Found) (said : Reply Plan) → searchSaid x ≡ told summary said → list′ ≡ resultAfter (told (λ p. p .list) said) list → length list ≡ 8 → length list′ ≡ length list → Listed x list′
   unfolding resultAfter
   listed-from (found.Ending count before after) (gives plan) e w l k =
-      let n : count ≡ length (plan .list) = ap (λ (s : Summary). s .length) (said-alone e) in
+      let n : count ≡ length (plan .list) = ap (λ (s : Summary). s .count) (said-alone e) in
       let sum : length list′ ≡ length (plan .list) + length (drop (length (plan .list)) list) = ap length w ∙ length-append (plan .list) (drop (length (plan .list)) list) in
       (omega arith, omega arith)
   listed-from (found.Ending count before after) (refuses number place) e w l k = let z : _≡_ {A = ℕ} 0 1 = cc in absurd (omega arith)
@@ -47,7 +47,7 @@ module _ (list list′ : List ℕ) where
   text-is : (x : Found) (said : Reply Plan) → searchSaid x ≡ told summary said → list′ ≡ resultAfter (told (λ p. p .list) said) list → answerText x list′ ≡ printed said
   unfolding resultAfter
   text-is (found.Ending count before after) (gives plan) e w =
-      let n : count ≡ length (plan .list) = ap (λ (s : Summary). s .length) (said-alone e) in
+      let n : count ≡ length (plan .list) = ap (λ (s : Summary). s .count) (said-alone e) in
       let b : before ≡ plan .before = ap (λ (s : Summary). s .before) (said-alone e) in
       let a : after ≡ plan .after = ap (λ (s : Summary). s .after) (said-alone e) in
       let front : take count list′ ≡ plan .list = ap (λ (k : ℕ). take k list′) n ∙ ap (take (length (plan .list))) w ∙ take-append-seam (plan .list) (drop (length (plan .list)) list) in

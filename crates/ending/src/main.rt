@@ -3,6 +3,9 @@ mod text;
 
 use libc::STDIN_FILENO;
 use libc::STDOUT_FILENO;
+use planner::limits::Foresight;
+use planner::limits::Nesting;
+use planner::limits::Story;
 use planner::search::search;
 use text::put_answer;
 ghost use mathlib.Core.Path.{_≡_};
@@ -17,7 +20,7 @@ fn ending(pack: &[u8], list: &mut [u8], work: &mut [u8], text: &mut [u8]) -> usi
     requires { ⌜ 385 ≤ length (now text) ⌝ }
     ensures { λ r. ⌜ Printed (now (pack .entry)) (now (text .exit)) r ⌝ }
 {
-    let answer = search(pack, 4, 3, 2, list, work);
+    let answer = search(pack, Story(4), Foresight(3), Nesting(2), list, work);
     put_answer(text, answer, list)
 }
 

@@ -29,7 +29,7 @@ pub record QueryReturned (pack chart chain : List ℕ) (fluent : ℕ) (work repo
 -- 0 for "same"; else 1, the chain's length and the fluent
 abbrev pub matchNumbers : Difference → List ℕ
 matchNumbers nowhere = 0 ∷ []
-matchNumbers (after length fluent) = 1 ∷ length ∷ fluent ∷ []
+matchNumbers (after count fluent) = 1 ∷ count ∷ fluent ∷ []
 
 -- pirwodd_compare(pack, first, second, chain out, work, report): "same, or the shortest chain that leads to a difference"
 pub record CompareReturned (pack first second chain work report chain′ work′ report′ : List ℕ) (r : ℕ) : Type 0 where
@@ -51,7 +51,7 @@ pub record ExplainedReturned (pack chart : List ℕ) (character action foresight
 
 -- the list's length, and the author's utility at the start and at its end
 abbrev pub planNumbers : Summary → List ℕ
-planNumbers s = s .length ∷ s .before ∷ s .after ∷ []
+planNumbers s = s .count ∷ s .before ∷ s .after ∷ []
 
 -- pirwodd_search(pack, T, K, E, list out, work, report): "the length, the actions (8 bytes lent) and both worths"
 pub record SearchReturned (pack : List ℕ) (story foresight nesting : ℕ) (list work report list′ work′ report′ : List ℕ) (r : ℕ) : Type 0 where

@@ -9,6 +9,9 @@ use chart::start::start;
 use planner::Found;
 use planner::Judged;
 use planner::judge::judge;
+use planner::limits::Foresight;
+use planner::limits::Nesting;
+use planner::limits::Story;
 use planner::search::search;
 use transition::play::step;
 ghost use mathlib.Core.Path.{_≡_};
@@ -208,8 +211,8 @@ pub extern "C" fn pirwodd_explained(
         chart,
         index(character),
         index(action),
-        index(foresight),
-        index(nesting),
+        Foresight(index(foresight)),
+        Nesting(index(nesting)),
         &mut work[..room],
     );
     tell_judged(answer, report)
@@ -231,9 +234,9 @@ pub extern "C" fn pirwodd_search(
     let room = lent(report.len(), work.len());
     let answer = search(
         pack,
-        index(story),
-        index(foresight),
-        index(nesting),
+        Story(index(story)),
+        Foresight(index(foresight)),
+        Nesting(index(nesting)),
         list,
         &mut work[..room],
     );

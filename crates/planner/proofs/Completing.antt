@@ -13,9 +13,10 @@ use Rattle.pack.specs.Contracts.Answer.{dims}
 use Rattle.pack.specs.Grammar.{Dimensions, rulesAt}
 use Rattle.pack.specs.Condition as condition
 use Rattle.pack.specs.Contracts.Judge.{Over, Judged}
-use Rattle.pack.specs.Contracts.Table.{stateOf, Below, Above}
+use Rattle.pack.specs.Contracts.Table.{tableOf, stateOf, Below, Above}
 use Rattle.pack.specs.declared.table.Table.{Table}
 use Rattle.chart.specs.Call.{workRoom}
+use Rattle.chart.specs.Chart.{Written}
 use Rattle.chart.specs.Earliest.{Before}
 use Rattle.chart.specs.Laws.Lists.{place}
 use Rattle.transition.specs.Happening.{nothing, Plays, actionOf}
@@ -27,7 +28,7 @@ use Rattle.planner.specs.Inner.Memory.{memoryAt, Fact}
 use Rattle.planner.specs.Inner.Explain.{Stage}
 use Rattle.planner.specs.Inner.Search.{Dry, Trail, Repeated, Put, Chosen, Best}
 use Rattle.planner.specs.Laws.Explaining.{Agreeing}
-use Rattle.planner.proofs.Remembering.{state-moved}
+use Rattle.planner.proofs.Remembering.{table-moved, state-moved}
 use Rattle.planner.proofs.Telling.{consenter-below, slot-same, stage-extent, stage-state}
 
 -- none found
@@ -54,36 +55,57 @@ module _ (th : Theory) (K e base : ℕ) (s : State) where
   -- the author's path, one state longer
   module _ {h : Shape} {was : List ℕ} {n left : ℕ} (trail : Trail th K e base h was n (suc left) s) where
     trail-next : {now : List ℕ} {slot x : ℕ} {t : State} → slot ≡ n * 961 → Below was now (slot + 961) → 1 + getD now slot 0 * (h .fluents + h .characters) ≤ 961 → stateOf (slotTable h now slot) now 0 ≡ s
+        → Written (h .characters) (tableOf (slotTable h now (slot + 961)) now) → 1 + getD now (slot + 961) 0 * (h .fluents + h .characters) ≤ 961
         → Plays th s x t → Agreeing th All (Explained th K e) s x (actionOf th x .consenters) → Trail th K e base h now (n + 1) left t
     unfolding Leads
-    trail-next {now} {slot} {x} {t} at low few here plays agreed = record {
+    trail-next {now} {slot} {x} {t} at low few here next fits plays agreed = record {
       before = λ i l. by-cases (ℕ-discrete i n)
           (λ z. let same : stateOf (slotTable h now (i * 961)) now 0 ≡ s = ap (λ (q : ℕ). stateOf (slotTable h now q) now 0) (ap (λ (i : ℕ). i * 961) z ∙ sym at) ∙ here in
           let up : left + (n + 1 - i) ≡ suc left = omega (arith, z) in
           subst (Dry (Ends th K e base (stateOf (slotTable h now (i * 961)) now 0))) (sym up) (subst (λ (s : State). Dry (Ends th K e base s) (suc left)) (sym same) (trail .here)))
           (λ z. let less : i < n = omega (arith, l, z) in
           let up : left + (n + 1 - i) ≡ suc left + (n - i) = omega (arith, less) in
-          let same : stateOf (slotTable h now (i * 961)) now 0 ≡ stateOf (slotTable h was (i * 961)) was 0 = state-moved h was now (i * 961) (i * 961) (λ q g. low (i * 961 + q) (omega (arith, g, trail .small i less, at, less))) in
+          let same : stateOf (slotTable h now (i * 961)) now 0 ≡ stateOf (slotTable h was (i * 961)) was 0 = state-moved h was now (i * 961) (i * 961) (λ q g. low (i * 961 + q) (omega (arith, g, trail .small i (omega (arith, less)), at, less))) in
           subst (Dry (Ends th K e base (stateOf (slotTable h now (i * 961)) now 0))) (sym up) (subst (λ (s : State). Dry (Ends th K e base s) (suc left + (n - i))) (sym same) (trail .before i less)));
       here = λ l v g q. trail .here (x ∷ l) v (omega (arith, g)) (q .0, (t, plays, agreed, q .1), q .2);
-      small = λ i l. by-cases (ℕ-discrete i n)
-          (λ z. subst (λ (q : ℕ). 1 + getD now q 0 * (h .fluents + h .characters) ≤ 961) (at ∙ ap (λ (i : ℕ). i * 961) (sym z)) few)
-          (λ z. let less : i < n = omega (arith, l, z) in subst (λ (c : ℕ). 1 + c * (h .fluents + h .characters) ≤ 961) (sym (low (i * 961) (omega (arith, at, less)))) (trail .small i less));
+      written = λ i l. by-cases (decLe i n)
+          (λ z. subst (Written (h .characters)) (sym (stays i z)) (trail .written i z))
+          (λ z. subst (λ (q : ℕ). Written (h .characters) (tableOf (slotTable h now q) now)) (last i (omega (arith, l, z))) next);
+      small = λ i l. by-cases (decLe i n)
+          (λ z. subst (λ (c : ℕ). 1 + c * (h .fluents + h .characters) ≤ 961) (sym (low (i * 961) (omega (arith, at, z)))) (trail .small i z))
+          (λ z. subst (λ (q : ℕ). 1 + getD now q 0 * (h .fluents + h .characters) ≤ 961) (last i (omega (arith, l, z))) fits);
     }
+      where
+        -- a slot of the path so far
+        stays : (i : ℕ) → i ≤ n → tableOf (slotTable h now (i * 961)) now ≡ tableOf (slotTable h was (i * 961)) was
+        stays i z = table-moved h was now (i * 961) (i * 961) (λ q g. low (i * 961 + q) (omega (arith, g, trail .small i z, at, z)))
+
+        -- the new one
+        last : (i : ℕ) → i ≡ n + 1 → slot + 961 ≡ i * 961
+        last i z = omega (arith, at, z)
 
   -- the path where its bytes stay
-  pub trail-same : {h : Shape} {was now : List ℕ} {n left : ℕ} → Below was now (n * 961) → Trail th K e base h was n left s → Trail th K e base h now n left s
+  pub trail-same : {h : Shape} {was now : List ℕ} {n left : ℕ} → Below was now (n * 961 + 961) → Trail th K e base h was n left s → Trail th K e base h now n left s
   trail-same {h} {was} {now} {n} {left} low trail = record {
-    before = λ i l. subst (λ (s : State). Dry (Ends th K e base s) (left + (n - i))) (sym (state-moved h was now (i * 961) (i * 961) (λ q g. low (i * 961 + q) (omega (arith, g, trail .small i l, l))))) (trail .before i l);
+    before = λ i l. subst (λ (s : State). Dry (Ends th K e base s) (left + (n - i))) (sym (state-moved h was now (i * 961) (i * 961) (λ q g. low (i * 961 + q) (omega (arith, g, trail .small i (omega (arith, l)), l))))) (trail .before i l);
     here = trail .here;
+    written = λ i l. subst (Written (h .characters)) (sym (table-moved h was now (i * 961) (i * 961) (λ q g. low (i * 961 + q) (omega (arith, g, trail .small i l, l))))) (trail .written i l);
     small = λ i l. subst (λ (c : ℕ). 1 + c * (h .fluents + h .characters) ≤ 961) (sym (low (i * 961) (omega (arith, l)))) (trail .small i l);
   }
 
   -- no path yet
-  pub trail-none : {h : Shape} (work : List ℕ) {n : ℕ} → authorUtility th s ≤ base → ((l : List ℕ) (v : ℕ) → 0 < length l → length l < n → ¬ Ends th K e base s l v) → Trail th K e base h work 0 n s
+  trail-none : {h : Shape} (work : List ℕ) {n : ℕ} → Written (h .characters) (tableOf (slotTable h work 0) work) → 1 + getD work 0 0 * (h .fluents + h .characters) ≤ 961 → authorUtility th s ≤ base → ((l : List ℕ) (v : ℕ) → 0 < length l → length l < n → ¬ Ends th K e base s l v) → Trail th K e base h work 0 n s
   unfolding Leads
-  trail-none work {n} le f = record { before = λ i l. absurd (omega arith); here = none; small = λ i l. absurd (omega arith) }
+  trail-none {h} work {n} first fits le f = record {
+    before = λ i l. absurd (omega arith);
+    here = none;
+    written = λ i l. subst (λ (q : ℕ). Written (h .characters) (tableOf (slotTable h work q) work)) (at-none i l) first;
+    small = λ i l. subst (λ (q : ℕ). 1 + getD work q 0 * (h .fluents + h .characters) ≤ 961) (at-none i l) fits;
+  }
     where
+      at-none : (i : ℕ) → i ≤ 0 → 0 ≡ i * 961
+      at-none i l = omega (arith, l)
+
       none : Dry (Ends th K e base s) n
       none [] v l (s′, q, (is, above)) = let same : authorUtility th s ≡ authorUtility th s′ = ap (authorUtility th) q in omega (arith, same, is, above, le)
       none (x ∷ l) v g q = f (x ∷ l) v (omega arith) g q
@@ -224,7 +246,15 @@ module _ {th : Theory} {T : List Node} {pack places : List ℕ} {h : Shape} {was
 
 -- the path, and a step from the state in its last slot
 pub trail-step : {th : Theory} {T : List Node} {pack places : List ℕ} {h : Shape} {was : List ℕ} (slot : ℕ) (x : Stage th T pack places h was (slotTable h was slot) (slot + 961)) (K e base : ℕ) {n left : ℕ} → Trail th K e base h was n (suc left) (meaning (h .characters) T 0) → slot ≡ n * 961
-    → (now : List ℕ) → Below was now (slot + 961) → length now ≡ length was → {a : ℕ} {t : State} → Plays th (meaning (h .characters) T 0) a t → Agreeing th All (Explained th K e) (meaning (h .characters) T 0) a (actionOf th a .consenters) → Trail th K e base h now (n + 1) left t
-trail-step {th} {T} {h = h} slot x K e base trail at now low long plays agreed =
+    → (now : List ℕ) → Below was now (slot + 961) → length now ≡ length was → Written (h .characters) (tableOf (slotTable h now (slot + 961)) now) → 1 + getD now (slot + 961) 0 * (h .fluents + h .characters) ≤ 961 → {a : ℕ} {t : State} → Plays th (meaning (h .characters) T 0) a t → Agreeing th All (Explained th K e) (meaning (h .characters) T 0) a (actionOf th a .consenters) → Trail th K e base h now (n + 1) left t
+trail-step {th} {T} {h = h} slot x K e base trail at now low long next fits plays agreed =
     let y = slot-same slot x low long in
-    trail-next th K e base (meaning (h .characters) T 0) trail at low (stage-extent slot y) (stage-state y 0) plays agreed
+    trail-next th K e base (meaning (h .characters) T 0) trail at low (stage-extent slot y) (stage-state y 0) next fits plays agreed
+
+-- no action is played yet
+pub trail-outset : {th : Theory} {T : List Node} {pack places : List ℕ} {h : Shape} {was now : List ℕ} (K e base : ℕ) {n : ℕ} → Stage th T pack places h was (slotTable h was 0) 961
+    → Below was now 961 → length now ≡ length was → Written (h .characters) T → authorUtility th (meaning (h .characters) T 0) ≤ base
+    → ((l : List ℕ) (v : ℕ) → 0 < length l → length l < n → ¬ Ends th K e base (meaning (h .characters) T 0) l v) → Trail th K e base h now 0 n (meaning (h .characters) T 0)
+trail-outset {th} {T} {h = h} {now = now} K e base x low long first le f =
+    let y = slot-same 0 x low long in
+    trail-none th K e base (meaning (h .characters) T 0) {h = h} now (subst (Written (h .characters)) (sym (y .tabled .same)) first) (stage-extent 0 y) le f

@@ -56,7 +56,7 @@ module _ {Good : List ℕ → ℕ → Type 0} where
   shorter {n} f g l v h k = by-cases (ℕ-discrete (length l) n) (λ e. g l v e) (λ e. f l v h (omega (arith, e)))
 
   module _ {story : ℕ} {was work mid : List ℕ} (low : Below work mid 961) (high : Above work mid workRoom) where
-    pub shortest-found : {M : List ℕ → Type 0} {n : ℕ} {work′ now : List ℕ} {r : ℕ} → 0 < n → n ≤ story → ((l : List ℕ) (v : ℕ) → 0 < length l → length l < n → ¬ Good l v) → 0 < r → Best M Good n was now 0 961 mid work′ r → Shortest Good story was now work work′ (record { length = n; after = r })
+    pub shortest-found : {M : List ℕ → Type 0} {n : ℕ} {work′ now : List ℕ} {r : ℕ} → 0 < n → n ≤ story → ((l : List ℕ) (v : ℕ) → 0 < length l → length l < n → ¬ Good l v) → 0 < r → Best M Good n was now 0 961 mid work′ r → Shortest Good story was now work work′ (record { count = n; after = r })
     shortest-found {M} {n} pos le f l b = record {
       none = λ e. absurd (omega (arith, e));
       some = λ h. b .some l;
@@ -66,7 +66,7 @@ module _ {Good : List ℕ → ℕ → Type 0} where
       high = λ q l. b .high q l ∙ high q l;
     }
 
-    pub shortest-none : {n : ℕ} {now : List ℕ} → story < n → now ≡ was → ((l : List ℕ) (v : ℕ) → 0 < length l → length l < n → ¬ Good l v) → Shortest Good story was now work mid (record { length = 0; after = 0 })
+    pub shortest-none : {n : ℕ} {now : List ℕ} → story < n → now ≡ was → ((l : List ℕ) (v : ℕ) → 0 < length l → length l < n → ¬ Good l v) → Shortest Good story was now work mid (record { count = 0; after = 0 })
     shortest-none le same f = record {
       none = λ e. (same, λ l v h k. f l v h (omega (arith, k, le)));
       some = λ h. absurd (omega arith);
@@ -77,7 +77,7 @@ module _ {Good : List ℕ → ℕ → Type 0} where
     }
 
 -- from the bytes of a pack to the answer
-module _ {th : Theory} {T : List Node} {pack places : List ℕ} {h : Shape} {first nodes story nesting foresight : ℕ} {list work : List ℕ} (x : Seeking th T pack places h first nodes story nesting foresight list work) where
+module _ {th : Theory} {T : List Node} {pack places : List ℕ} {h : Shape} {first nodes story foresight nesting : ℕ} {list work : List ℕ} (x : Seeking th T pack places h first nodes story foresight nesting list work) where
   abbrev f : ℕ
   f = h .fluents
 
@@ -137,10 +137,10 @@ module _ {th : Theory} {T : List Node} {pack places : List ℕ} {h : Shape} {fir
       all-clear = cleared-all work cl (λ q g. z .high q g ∙ y .high q g) long′ (x .room)
 
       -- an ending is such a list
-      ends : {other : List ℕ} → (e : Ending th foresight story nesting s other) → Ends th foresight nesting base s other (authorUtility th (e .end))
+      ends : {other : List ℕ} → (e : Ending th story foresight nesting s other) → Ends th foresight nesting base s other (authorUtility th (e .end))
       ends e = (e .end, e .leads, (refl, omega (arith, is, e .better)))
 
-      pub seek-none : r .length ≡ 0 → SearchPut th foresight story nesting s list list′ work now (found.Refused 13 0)
+      pub seek-none : r .count ≡ 0 → SearchPut th story foresight nesting s list list′ work now (found.Refused 13 0)
       unfolding resultAfter
       seek-none e = record {
         answer = none;
@@ -150,17 +150,17 @@ module _ {th : Theory} {T : List Node} {pack places : List ℕ} {h : Shape} {fir
         scratch = all-clear;
       }
 
-      module _ (pos : 0 < r .length) where
+      module _ (pos : 0 < r .count) where
         abbrev chosen : List ℕ
         chosen = z .some pos .0
 
-        abbrev best : Chosen (Ends th foresight nesting base s) (r .length) chosen (r .after)
+        abbrev best : Chosen (Ends th foresight nesting base s) (r .count) chosen (r .after)
         best = z .some pos .1
 
-        abbrev good : Ending th foresight story nesting s chosen
+        abbrev good : Ending th story foresight nesting s chosen
         good = let g = best .good in record { some = omega (arith, best .long, pos); within = omega (arith, best .long, z .within); end = g .0; leads = g .1; better = omega (arith, is, g .2) }
 
-        sought : Sought th foresight story nesting s chosen base (r .after)
+        sought : Sought th story foresight nesting s chosen base (r .after)
         sought = record {
           first = record {
             good = good;
@@ -174,18 +174,18 @@ module _ {th : Theory} {T : List Node} {pack places : List ℕ} {h : Shape} {fir
         put-down : list′ ≡ chosen ++ drop (length chosen) list
         put-down =
             let p = z .some pos .2 in
-            let short : r .length ≤ length list = omega (arith, z .within, x .storied, x .list-room) in
-            front-back list list′ (r .length) short listed (λ q l. p .high q (omega (arith, l, best .long)))
-            ∙ ap₂ (λ (l : List ℕ) (k : ℕ). l ++ drop k list) (ext-getD 0 (cells list′ 0 (r .length)) chosen (cells-length list′ 0 (r .length) ∙ sym (best .long)) (λ i l.
-            let z′ : i < r .length = omega (arith, l, cells-length list′ 0 (r .length)) in
-            cells-at list′ 0 (r .length) i z′ ∙ p .put i (omega (arith, z′, best .long)))) (sym (best .long))
+            let short : r .count ≤ length list = omega (arith, z .within, x .storied, x .list-room) in
+            front-back list list′ (r .count) short listed (λ q l. p .high q (omega (arith, l, best .long)))
+            ∙ ap₂ (λ (l : List ℕ) (k : ℕ). l ++ drop k list) (ext-getD 0 (cells list′ 0 (r .count)) chosen (cells-length list′ 0 (r .count) ∙ sym (best .long)) (λ i l.
+            let z′ : i < r .count = omega (arith, l, cells-length list′ 0 (r .count)) in
+            cells-at list′ 0 (r .count) i z′ ∙ p .put i (omega (arith, z′, best .long)))) (sym (best .long))
 
-        pub seek-found : SearchPut th foresight story nesting s list list′ work now (found.Ending (r .length) base (r .after))
+        pub seek-found : SearchPut th story foresight nesting s list list′ work now (found.Ending (r .count) base (r .after))
         unfolding resultAfter
         seek-found = record {
           answer = ending chosen base (r .after);
           is-so = sought;
-          said = ap (λ (k : ℕ). gives (record { length = k; before = base; after = r .after })) (sym (best .long));
+          said = ap (λ (k : ℕ). gives (record { count = k; before = base; after = r .after })) (sym (best .long));
           result = put-down;
           scratch = all-clear;
         }
@@ -200,7 +200,7 @@ module _ {pack places : List ℕ} (T K E : ℕ) (list work : List ℕ) {p : Cont
   wanted p = storyLimit T && (foresightLimit K && nestingLimit E)
 
   abbrev planOf : Pack → List (List Node) → Reply Plan
-  planOf x tables = answerReply (searchTable (x .theory) K T E (x .nodes))
+  planOf x tables = answerReply (searchTable (x .theory) T K E (x .nodes))
 
   abbrev theReply : Reply Plan
   theReply = searchReply pack T K E list work
@@ -235,7 +235,7 @@ module _ {pack places : List ℕ} (T K E : ℕ) (list work : List ℕ) {p : Cont
     fit : ChartFits (theory .characters) (theory .domains) theNodes
     fit = let y = accepted-now .2 .0 in pack-exactly pack bytes (y .thePack) .0 (y .accepted) .0 .nodes
 
-    ready : Seeking theory theNodes pack places seekShape (p .first) (p .nodes) T E K list work
+    ready : Seeking theory theNodes pack places seekShape (p .first) (p .nodes) T K E list work
     ready =
         let y = accepted-now .2 .0 in
         let x = y .thePack in
@@ -257,16 +257,16 @@ module _ {pack places : List ℕ} (T K E : ℕ) (list work : List ℕ) {p : Cont
           room = leb-true workRoom (length work) work-room;
         }
 
-    pub search-able : Seekable pack places seekShape (p .first) (p .nodes) T E K list work
+    pub search-able : Seekable pack places seekShape (p .first) (p .nodes) T K E list work
     search-able = (theory, (theNodes, ready))
 
-    pub search-done : (list′ work′ : List ℕ) (v : Found) → ((th : Theory) (t : List Node) → Seeking th t pack places seekShape (p .first) (p .nodes) T E K list work → SearchPut th K T E (meaning (p .characters) t 0) list list′ work work′ v) → Searching pack T K E list work list′ work′ v
+    pub search-done : (list′ work′ : List ℕ) (v : Found) → ((th : Theory) (t : List Node) → Seeking th t pack places seekShape (p .first) (p .nodes) T K E list work → SearchPut th T K E (meaning (p .characters) t 0) list list′ work work′ v) → Searching pack T K E list work list′ work′ v
     unfolding workAfter resultAfter
     search-done list′ work′ v put =
         let (ns, g, (y, replies)) = accepted-now in
         let z = put theory theNodes ready in
         let same : meaning (p .characters) theNodes 0 ≡ meaning (theory .characters) theNodes 0 = ap (λ (k : ℕ). meaning k theNodes 0) (sym (y .found .characters)) in
-        let so : searchTable theory K T E theNodes ≡ z .answer = search-table-iff theory theNodes (fits-table (theory .characters) (theory .domains) theNodes fit) K T E (z .answer) .0 (subst (λ (s : State). Searched theory K T E s (z .answer)) same (z .is-so)) in
+        let so : searchTable theory T K E theNodes ≡ z .answer = search-table-iff theory theNodes (fits-table (theory .characters) (theory .domains) theNodes fit) T K E (z .answer) .0 (subst (λ (s : State). Searched theory T K E s (z .answer)) same (z .is-so)) in
         let gave : theReply ≡ answerReply (z .answer) = replies ∙ ap answerReply so in
         record {
           answer = z .said ∙ sym (ap (told summary) gave);

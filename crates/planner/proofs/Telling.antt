@@ -26,7 +26,7 @@ use Rattle.pack.specs.Laws.Number.{between-within}
 use Rattle.pack.specs.Laws.OneByte.{consenter-bytes}
 use Rattle.pack.specs.Laws.Rows.{rows-length}
 use Rattle.chart.specs.Call.{workRoom}
-use Rattle.chart.specs.Chart.{Starts}
+use Rattle.chart.specs.Chart.{Written, Starts}
 use Rattle.chart.specs.Laws.Lists.{stands, place}
 use Rattle.chart.specs.Laws.Unique.{some}
 use Rattle.chart.specs.Laws.Cells.{rows-most, rows-same}
@@ -126,6 +126,9 @@ module _ {th : Theory} {T : List Node} {pack places : List ℕ} {h : Shape} {was
           subst (λ (w : ℕ). Starts C (y .plays e .0) (rowsAt now w (h .fluents) (h .characters) (slot + 1) (getD now slot 0))) (sym (x .tabled .fits .wide) ∙ ap (λ (k : ℕ). k + t .characters) (sym (x .same-fluents)) ∙ ap (λ (k : ℕ). h .fluents + k) (sym (x .same-characters)))
           (subst (λ (k : ℕ). Starts C (y .plays e .0) (rowsAt now (t .width) (h .fluents) k (slot + 1) (getD now slot 0))) (sym (x .same-characters))
           (subst (λ (k : ℕ). Starts C (y .plays e .0) (rowsAt now (t .width) k C (slot + 1) (getD now slot 0))) (sym (x .same-fluents)) (left .starts)))
+
+      pub next-written : Written (h .characters) nextTable
+      next-written = subst (λ (c : ℕ). Written c nextTable) (sym (x .same-characters)) (starts .0)
 
       pub next-state : meaning (h .characters) nextTable 0 ≡ y .plays e .0
       next-state = ap (λ (c : ℕ). meaning c nextTable 0) (x .same-characters) ∙ starts .1

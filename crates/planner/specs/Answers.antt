@@ -19,5 +19,5 @@ unfoldable pub explainedTable : (p : Theory) (foresight nesting c a : ℕ) → L
 explainedTable p K e c a t = onTable (p .characters) t (λ x. says (explained? p K e c a (meaning (p .characters) t 0) x)) false
 
 -- the first of all lists, shorter first and then by action numbers, that is an ending
-unfoldable pub searchTable : (p : Theory) (foresight story nesting : ℕ) → List Node → Answer
-searchTable p K T E t = onTable (p .characters) t (searchOf p K T E) none
+unfoldable pub searchTable : (p : Theory) (story foresight nesting : ℕ) → List Node → Answer
+searchTable p T K E t = onTable (p .characters) t (searchOf p T K E) none

@@ -39,11 +39,11 @@ module _ (p : Theory) where
         × Leads (λ d. d ≡ c → ⊥) (Explained e) t rest s′
         × (utilityTo p c (belief s c) < utilityTo p c s′)
 
-    -- "An ending is a list of 1 to T actions, each playable, each explained at E, in the state before it, to all its consenters (none: explained), with the author's
-    -- worth higher at its end than at the start."
-    pub record Ending (story nesting : ℕ) (s : State) (list : List ℕ) : Type 0 where
-      pub some : 0 < length list
-      pub within : length list ≤ story
-      pub end : State
-      pub leads : Leads (λ d. Unit {0}) (Explained nesting) s list end
-      pub better : authorUtility p s < authorUtility p end
+  -- "An ending is a list of 1 to T actions, each playable, each explained at E, in the state before it, to all its consenters (none: explained), with the author's
+  -- worth higher at its end than at the start."
+  pub record Ending (story foresight nesting : ℕ) (s : State) (list : List ℕ) : Type 0 where
+    pub some : 0 < length list
+    pub within : length list ≤ story
+    pub end : State
+    pub leads : Leads (λ d. Unit {0}) (Explained foresight nesting) s list end
+    pub better : authorUtility p s < authorUtility p end

@@ -19,17 +19,17 @@ explainedSaid (judged.Refused number place) = refuses number place
 
 -- what is said of a plan: "the length, .. and both worths"
 pub record Summary : Type 0 where
-  pub length : ℕ
+  pub count : ℕ
   pub before : ℕ
   pub after : ℕ
 
 -- of each plan
 abbrev pub summary : Plan → Summary
-summary p = record { length = length (p .list); before = p .before; after = p .after }
+summary p = record { count = length (p .list); before = p .before; after = p .after }
 
 -- Search: "the length, .. and both worths", or a refusal, 13 among them
 abbrev pub searchSaid : Found → Reply Summary
-searchSaid (found.Ending length before after) = gives (record { length = length; before = before; after = after })
+searchSaid (found.Ending count before after) = gives (record { count = count; before = before; after = after })
 searchSaid (found.Refused number place) = refuses number place
 
 -- Explained(pack, chart, character, action, K, e, work)

@@ -40,7 +40,7 @@ pub data Reading : Type 0 where
   start : Reply (List ℕ) → Reading
   step : (chart : List ℕ) (action : ℕ) → Reply (List ℕ) → Reading
   compare : (first second : List ℕ) → Reply Verdict → Reading
-  explained : (character action nesting foresight : ℕ) → Reply Bool → Reading
+  explained : (character action foresight nesting : ℕ) → Reply Bool → Reading
   search : (story foresight nesting : ℕ) → Reply Plan → Reading
   refusal : (pack : List ℕ) (number place : ℕ) → Reading
 
@@ -49,7 +49,7 @@ abbrev pub Says : Reading → Type 0
 Says (start r) = (out work : List ℕ) → chartRoom ≤ length out → workRoom ≤ length work → startReply P out work ≡ r
 Says (step chart action r) = (out work : List ℕ) → chartRoom ≤ length out → workRoom ≤ length work → stepReply P chart action out work ≡ r
 Says (compare first second r) = (chain work : List ℕ) → chainRoom ≤ length chain → workRoom ≤ length work → compareReply P first second chain work ≡ r
-Says (explained c a e K r) = (work : List ℕ) → workRoom ≤ length work → explainedReply P started c a K e work ≡ r
+Says (explained c a K e r) = (work : List ℕ) → workRoom ≤ length work → explainedReply P started c a K e work ≡ r
 Says (search T K E r) = (list work : List ℕ) → listRoom ≤ length list → workRoom ≤ length work → searchReply P T K E list work ≡ r
 Says (refusal pack number place) = packOf pack ≡ refuses number place
 
@@ -63,7 +63,7 @@ starred =
     ∷ compare started doubled (gives same)
     ∷ explained 0 0 1 1 (gives true)
     ∷ explained 1 0 1 1 (gives false)
-    ∷ explained 0 0 0 1 (gives false)
+    ∷ explained 0 0 1 0 (gives false)
     ∷ search 1 1 1 (gives (record { list = 0 ∷ []; before = 0; after = 5 }))
     ∷ search 1 1 0 (refuses 13 0)
     ∷ refusal [] 1 0

@@ -44,4 +44,4 @@ answerReply none = refuses 13 0
 unfoldable pub searchReply : (pack : List ℕ) (story foresight nesting : ℕ) (list work : List ℕ) → Reply Plan
 searchReply pack story foresight nesting list work =
     call pack [] (fits listRoom list && fits workRoom work) (λ p. storyLimit story && (foresightLimit foresight && nestingLimit nesting)) (λ p tables.
-    answerReply (searchTable (p .theory) foresight story nesting (p .nodes)))
+    answerReply (searchTable (p .theory) story foresight nesting (p .nodes)))

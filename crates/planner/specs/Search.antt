@@ -9,8 +9,8 @@ use Rattle.chart.specs.Earliest.{Earliest}
 use Rattle.planner.specs.Ending.{Ending, authorUtility}
 
 -- what is true of a list that is found: the shortest ending, then the earliest, with the author's utility "at the start and at the end of that list"
-pub record Sought (p : Theory) (foresight story nesting : ℕ) (s : State) (list : List ℕ) (before after : ℕ) : Type 0 where
-  pub first : Earliest (Ending p foresight story nesting s) list
+pub record Sought (p : Theory) (story foresight nesting : ℕ) (s : State) (list : List ℕ) (before after : ℕ) : Type 0 where
+  pub first : Earliest (Ending p story foresight nesting s) list
   pub atStart : authorUtility p s ≡ before
   pub atEnd : authorUtility p (first .good .end) ≡ after
 
@@ -20,6 +20,6 @@ pub data Answer : Type 0 where
   none : Answer
 
 -- when an answer is true of a state: "its 'no ending' is Search's 13"
-abbrev pub Searched : (p : Theory) (foresight story nesting : ℕ) → State → Answer → Type 0
-Searched p K T E s (ending list before after) = Sought p K T E s list before after
-Searched p K T E s none = (list : List ℕ) → ¬ Ending p K T E s list
+abbrev pub Searched : (p : Theory) (story foresight nesting : ℕ) → State → Answer → Type 0
+Searched p T K E s (ending list before after) = Sought p T K E s list before after
+Searched p T K E s none = (list : List ℕ) → ¬ Ending p T K E s list

@@ -113,12 +113,12 @@ module _ {pack : List ℕ} {p : Pack} (given : Given pack p) where
   -- 9. Demand 3. "No ending" is said exactly when no list is an ending; a list is found exactly when it is the shortest ending, then the earliest, and it is given with the
   -- author's utility ("worth") at the start and at its end
   module _ (T K E : ℕ) (t1 : 1 ≤ T) (t8 : T ≤ 8) (k1 : 1 ≤ K) (k6 : K ≤ 6) (e3 : E ≤ 3) (list work : List ℕ) (room : 8 ≤ length list) (enough : 49152 ≤ length work) where
-    pub no-ending : (searchReply pack T K E list work ≡ refuses 13 0) ↔ ((actions : List ℕ) → ¬ Ending theory K T E (state (p .nodes)) actions)
+    pub no-ending : (searchReply pack T K E list work ≡ refuses 13 0) ↔ ((actions : List ℕ) → ¬ Ending theory T K E (state (p .nodes)) actions)
     no-ending = search-says given T K E t1 t8 k1 k6 e3 list work room enough none
 
     -- and what is found
     pub found : (actions : List ℕ) (before after : ℕ)
-        → (searchReply pack T K E list work ≡ gives (record { list = actions; before = before; after = after })) ↔ Sought theory K T E (state (p .nodes)) actions before after
+        → (searchReply pack T K E list work ≡ gives (record { list = actions; before = before; after = after })) ↔ Sought theory T K E (state (p .nodes)) actions before after
     found actions before after = search-says given T K E t1 t8 k1 k6 e3 list work room enough (ending actions before after)
 
 -- 10. "accepted packs that differ in their nodes alone, and whose node 0 means the same, get the same from Search under the same limits and with buffers long enough"
@@ -132,10 +132,10 @@ nodes-alone {p = p} {p′ = p′} g g′ same means T K E list work list′ work
     let C = p .theory .characters in
     let there′ = subst (λ (q : Theory). PackFits (record { theory = q; nodes = p′ .nodes })) same (given-fits g′) in
     let alike = search-table-same (p .theory) (p .nodes) (p′ .nodes) (fits-table C (p .theory .domains) (p .nodes) (given-fits g .nodes)) (fits-table C (p .theory .domains) (p′ .nodes) (there′ .nodes))
-    (one-meaning C (p .nodes) (p′ .nodes) means) K T E in
-    call-ranged (fits 8 list && fits 49152 work) (λ q. limits) (λ p tables. answerReply (searchTable (p .theory) K T E (p .nodes))) (both-true (long-enough 8 list h) (long-enough 49152 work w)) g
-    ∙ ap (λ (a : Answer). pick limits (answerReply a) (refuses 9 0)) (alike ∙ ap (λ (q : Theory). searchTable q K T E (p′ .nodes)) (sym same))
-    ∙ sym (call-ranged (fits 8 list′ && fits 49152 work′) (λ q. limits) (λ p tables. answerReply (searchTable (p .theory) K T E (p .nodes))) (both-true (long-enough 8 list′ h′) (long-enough 49152 work′ w′)) g′)
+    (one-meaning C (p .nodes) (p′ .nodes) means) T K E in
+    call-ranged (fits 8 list && fits 49152 work) (λ q. limits) (λ p tables. answerReply (searchTable (p .theory) T K E (p .nodes))) (both-true (long-enough 8 list h) (long-enough 49152 work w)) g
+    ∙ ap (λ (a : Answer). pick limits (answerReply a) (refuses 9 0)) (alike ∙ ap (λ (q : Theory). searchTable q T K E (p′ .nodes)) (sym same))
+    ∙ sym (call-ranged (fits 8 list′ && fits 49152 work′) (λ q. limits) (λ p tables. answerReply (searchTable (p .theory) T K E (p .nodes))) (both-true (long-enough 8 list′ h′) (long-enough 49152 work′ w′)) g′)
 
 -- 11. Nothing is left free: of a state and an action there is at most one outcome, one state that is left, and of a state and limits one answer of Search
 pub one-outcome : (p : Theory) (s : State) (a : ℕ) (o o′ : Outcome) → Steps p s a o → Steps p s a o′ → o ≡ o′
@@ -146,12 +146,12 @@ pub one-state : (p : Theory) (s : State) (a : ℕ) (t u : State) → Plays p s a
 one-state p s a t u x y = plays-one x y
 
 -- one answer of Search
-pub one-answer : (p : Theory) (K T E : ℕ) (s : State) (r r′ : Answer) → Searched p K T E s r → Searched p K T E s r′ → r ≡ r′
+pub one-answer : (p : Theory) (T K E : ℕ) (s : State) (r r′ : Answer) → Searched p T K E s r → Searched p T K E s r′ → r ≡ r′
 one-answer = searched-one
 
 -- An ending is one of the state alone, whatever node, chart or pack it comes from
-pub ending-of-state : (p : Theory) (K T E : ℕ) (s s′ : State) → ((chain : List ℕ) → s chain ≡ s′ chain) → (list : List ℕ) → Ending p K T E s list → Ending p K T E s′ list
-ending-of-state p K T E s s′ h list = subst (λ (s : State). Ending p K T E s list) (fun-ext h)
+pub ending-of-state : (p : Theory) (T K E : ℕ) (s s′ : State) → ((chain : List ℕ) → s chain ≡ s′ chain) → (list : List ℕ) → Ending p T K E s list → Ending p T K E s′ list
+ending-of-state p T K E s s′ h list = subst (λ (s : State). Ending p T K E s list) (fun-ext h)
 
 -- 12. The starred readings of P, the rows of 1 and 5 among them
 pub readings-of-P : Each Says starred

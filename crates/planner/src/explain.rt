@@ -3,6 +3,8 @@ use crate::fact::Key;
 use crate::fact::recall;
 use crate::fact::remember;
 use crate::known::known_step;
+use crate::limits::Foresight;
+use crate::limits::Nesting;
 use crate::look::next_promising;
 use crate::memory::Shape;
 use crate::memory::table_in;
@@ -23,11 +25,6 @@ ghost use Rattle.planner.specs.Inner.Lists.{slotTable, Other, Above, Abo
 ghost use Rattle.planner.specs.Inner.Memory.{Memory};
 ghost use Rattle.planner.specs.Inner.Explain.{Stage, Prepared, Free, Told};
 
-// The foresight limit K, and the nesting limit E.
-pub struct Foresight(pub usize);
-
-pub struct Nesting(pub usize);
-
 // Whether character c's action a is explained: as is known, or as is found out.
 pub fn explained(
     pack: &[u8],
@@ -37,8 +34,8 @@ pub fn explained(
     slot: usize,
     c: usize,
     a: usize,
-    e: Nesting,
     k: Foresight,
+    e: Nesting,
 ) -> bool
     requires { ⌜ Prepared (k .0) (now pack) (now places) p (now work) (slotTable p (now work) slot) (slot + 961) × (c < p .characters) × (a < p .actions) × (0 < k .0) × (k .0 ≤ 6) × Free slot (1 + k .0 * e .0) ⌝ }
     ensures { λ r. ⌜ ((th : Theory) (T : List Node) → Stage th T (now (pack .entry)) (now (places .entry)) p (now (work .entry)) (slotTable p (now (work .entry)) slot) (slot + 961) → Memory th (k .0) p (slot + 961) (now (work .entry)) → Told (Memory th (k .0) p (slot + 961)) (slot + 961) (now (work .entry)) (now (work .exit)) r (Explained th (k .0) (e .0) c a (meaning (p .characters) T 0))) ⌝ }
@@ -59,7 +56,7 @@ pub fn explained(
     if known == 5 {
         return true;
     }
-    let found = explains(pack, places, p, work, slot, c, a, e, k);
+    let found = explains(pack, places, p, work, slot, c, a, k, e);
     remember(work, p, slot, mark(found) + 3, key);
     found
 }
@@ -73,8 +70,8 @@ pub fn explains(
     slot: usize,
     c: usize,
     a: usize,
-    e: Nesting,
     k: Foresight,
+    e: Nesting,
 ) -> bool
     requires { ⌜ Prepared (k .0) (now pack) (now places) p (now work) (slotTable p (now work) slot) (slot + 961) × (c < p .characters) × (a < p .actions) × (0 < k .0) × (k .0 ≤ 6) × Free slot (1 + k .0 * e .0) × (0 < e .0) ⌝ }
     ensures { λ r. ⌜ ((th : Theory) (T : List Node) → Stage th T (now (pack .entry)) (now (places .entry)) p (now (work .entry)) (slotTable p (now (work .entry)) slot) (slot + 961) → Memory th (k .0) p (slot + 961) (now (work .entry)) → Told (Memory th (k .0) p (slot + 961)) (slot + 961) (now (work .entry)) (now (work .exit)) r (Explained th (k .0) (e .0) c a (meaning (p .characters) T 0))) ⌝ }
@@ -100,8 +97,8 @@ pub fn explains(
         work,
         next,
         c,
-        Nesting(e.0 - 1),
         k,
+        Nesting(e.0 - 1),
         k.0 - 1,
         base,
     )
@@ -115,8 +112,8 @@ pub fn extends(
     work: &mut [u8],
     slot: usize,
     c: usize,
-    e: Nesting,
     k: Foresight,
+    e: Nesting,
     left: usize,
     base: usize,
 ) -> bool
@@ -143,7 +140,7 @@ pub fn extends(
     if known == 2 {
         return true;
     }
-    let found = extends_by(pack, places, p, work, slot, c, e, k, left - 1, base);
+    let found = extends_by(pack, places, p, work, slot, c, k, e, left - 1, base);
     remember(work, p, slot, mark(found), key);
     found
 }
@@ -163,8 +160,8 @@ pub fn extends_by(
     work: &mut [u8],
     slot: usize,
     c: usize,
-    e: Nesting,
     k: Foresight,
+    e: Nesting,
     left: usize,
     base: usize,
 ) -> bool
@@ -173,7 +170,7 @@ pub fn extends_by(
 {
     let mut x = next_promising(pack, places, p, work, slot, 0, c + 1, left, base);
     while x < p.actions {
-        let found = via(pack, places, p, work, slot, c, x, e, k, left, base);
+        let found = via(pack, places, p, work, slot, c, x, k, e, left, base);
         if found {
             return true;
         }
@@ -191,15 +188,15 @@ pub fn via(
     slot: usize,
     c: usize,
     x: usize,
-    e: Nesting,
     k: Foresight,
+    e: Nesting,
     left: usize,
     base: usize,
 ) -> bool
     requires { ⌜ Prepared (k .0) (now pack) (now places) p (now work) (slotTable p (now work) slot) (slot + 961) × (c < p .characters) × (x < p .actions) × (0 < k .0) × (k .0 ≤ 6) × Free slot (2 + left + k .0 * e .0) ⌝ }
     ensures { λ r. ⌜ ((th : Theory) (T : List Node) → Stage th T (now (pack .entry)) (now (places .entry)) p (now (work .entry)) (slotTable p (now (work .entry)) slot) (slot + 961) → Memory th (k .0) p (slot + 961) (now (work .entry)) → Told (Memory th (k .0) p (slot + 961)) (slot + 961) (now (work .entry)) (now (work .exit)) r (AboveBy th (k .0) (e .0) c base (suc left) x (meaning (p .characters) T 0))) ⌝ }
 {
-    let agreed = allowed(pack, places, p, work, slot, c, x, e, k);
+    let agreed = allowed(pack, places, p, work, slot, c, x, k, e);
     if !agreed {
         return false;
     }
@@ -207,7 +204,7 @@ pub fn via(
     if number != 0 {
         return false;
     }
-    extends(pack, places, p, work, slot + SLOT, c, e, k, left, base)
+    extends(pack, places, p, work, slot + SLOT, c, k, e, left, base)
 }
 
 // Whether action x is explained to each of its consenters other than `who`.
@@ -219,8 +216,8 @@ pub fn allowed(
     slot: usize,
     who: usize,
     x: usize,
-    e: Nesting,
     k: Foresight,
+    e: Nesting,
 ) -> bool
     requires { ⌜ Prepared (k .0) (now pack) (now places) p (now work) (slotTable p (now work) slot) (slot + 961) × (x < p .actions) × (0 < k .0) × (k .0 ≤ 6) × Free slot (1 + k .0 * e .0) ⌝ }
     ensures { λ r. ⌜ ((th : Theory) (T : List Node) → Stage th T (now (pack .entry)) (now (places .entry)) p (now (work .entry)) (slotTable p (now (work .entry)) slot) (slot + 961) → Memory th (k .0) p (slot + 961) (now (work .entry)) → Told (Memory th (k .0) p (slot + 961)) (slot + 961) (now (work .entry)) (now (work .exit)) r (Agreed th (k .0) (e .0) who x (meaning (p .characters) T 0))) ⌝ }
@@ -230,7 +227,7 @@ pub fn allowed(
     let mut i = 0;
     while i < count {
         let d = consenter(pack, at, i);
-        let content = fine(pack, places, p, work, slot, who, d, x, e, k);
+        let content = fine(pack, places, p, work, slot, who, d, x, k, e);
         if !content {
             return false;
         }
@@ -249,8 +246,8 @@ pub fn fine(
     who: usize,
     d: usize,
     x: usize,
-    e: Nesting,
     k: Foresight,
+    e: Nesting,
 ) -> bool
     requires { ⌜ Prepared (k .0) (now pack) (now places) p (now work) (slotTable p (now work) slot) (slot + 961) × (d < p .characters) × (x < p .actions) × (0 < k .0) × (k .0 ≤ 6) × Free slot (1 + k .0 * e .0) ⌝ }
     ensures { λ r. ⌜ ((th : Theory) (T : List Node) → Stage th T (now (pack .entry)) (now (places .entry)) p (now (work .entry)) (slotTable p (now (work .entry)) slot) (slot + 961) → Memory th (k .0) p (slot + 961) (now (work .entry)) → Told (Memory th (k .0) p (slot + 961)) (slot + 961) (now (work .entry)) (now (work .exit)) r (Other who d → Explained th (k .0) (e .0) d x (meaning (p .characters) T 0))) ⌝ }
@@ -258,5 +255,5 @@ pub fn fine(
     if d == who {
         return true;
     }
-    explained(pack, places, p, work, slot, d, x, e, k)
+    explained(pack, places, p, work, slot, d, x, k, e)
 }

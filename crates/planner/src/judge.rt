@@ -1,15 +1,15 @@
 // Explained: the checks, and the verdict on a chart.
 use crate::Judged;
-use crate::explain::Foresight;
-use crate::explain::Nesting;
 use crate::explain::explained;
 use crate::layout::BEFORE_TABLES;
 use crate::layout::NAMES;
+use crate::limits::Foresight;
+use crate::limits::Nesting;
+use crate::limits::explainable;
 use crate::memory::Shape;
 use chart::bytes::clear;
 use chart::bytes::sweep;
 use chart::call::WORK_ROOM;
-use chart::call::both_at_most;
 use chart::call::check_lent;
 use chart::call::check_under;
 use pack::contents::read_pack;
@@ -33,18 +33,14 @@ pub fn in_range(
     characters: usize,
     action: usize,
     actions: usize,
-    foresight: usize,
-    nesting: usize,
+    k: Foresight,
+    e: Nesting,
 ) -> bool
-    ensures { λ r. ⌜ r ≡ (ltb character characters && (ltb action actions && (foresightLimit foresight && nestingLimit nesting))) ⌝ }
+    ensures { λ r. ⌜ r ≡ (ltb character characters && (ltb action actions && (foresightLimit (k .0) && nestingLimit (e .0)))) ⌝ }
 {
     if character < characters {
         if action < actions {
-            if both_at_most(1, foresight, foresight, 6) {
-                nesting <= 3
-            } else {
-                false
-            }
+            explainable(k, e)
         } else {
             false
         }
@@ -62,26 +58,16 @@ pub fn judge_chart(
     nodes: usize,
     character: usize,
     action: usize,
-    foresight: usize,
-    nesting: usize,
+    k: Foresight,
+    e: Nesting,
     work: &mut [u8],
 ) -> bool
-    requires { ⌜ Judgeable (now pack) (now places) p (now chart) nodes character action foresight nesting (now work) ⌝ }
-    ensures { λ r. ⌜ ((th : Theory) (T : List Node) → Judging th T (now (pack .entry)) (now (places .entry)) p (now (chart .entry)) nodes character action foresight nesting (now (work .entry)) → Verdict (Explained th foresight nesting character action (meaning (p .characters) T 0)) (now (work .entry)) (now (work .exit)) r) ⌝ }
+    requires { ⌜ Judgeable (now pack) (now places) p (now chart) nodes character action (k .0) (e .0) (now work) ⌝ }
+    ensures { λ r. ⌜ ((th : Theory) (T : List Node) → Judging th T (now (pack .entry)) (now (places .entry)) p (now (chart .entry)) nodes character action (k .0) (e .0) (now (work .entry)) → Verdict (Explained th (k .0) (e .0) character action (meaning (p .characters) T 0)) (now (work .entry)) (now (work .exit)) r) ⌝ }
 {
     copy_table(chart, 1, nodes, work, 0, p.fluents, p.characters);
     clear(work, NAMES, BEFORE_TABLES);
-    let verdict = explained(
-        pack,
-        places,
-        p,
-        work,
-        0,
-        character,
-        action,
-        Nesting(nesting),
-        Foresight(foresight),
-    );
+    let verdict = explained(pack, places, p, work, 0, character, action, k, e);
     sweep(work, 0, WORK_ROOM);
     verdict
 }
@@ -92,27 +78,20 @@ pub fn judge(
     chart: &[u8],
     character: usize,
     action: usize,
-    foresight: usize,
-    nesting: usize,
+    k: Foresight,
+    e: Nesting,
     work: &mut [u8],
 ) -> Judged
-    ensures { λ r. ⌜ Judgement (now (pack .entry)) (now (chart .entry)) character action foresight nesting (now (work .entry)) (now (work .exit)) r ⌝ }
+    ensures { λ r. ⌜ Judgement (now (pack .entry)) (now (chart .entry)) character action (k .0) (e .0) (now (work .entry)) (now (work .exit)) r ⌝ }
 {
     let mut places = [0u16; PLACES];
     let p = read_pack(pack, &mut places);
     let sizes = p.sizes;
     let answer = p.answer;
     let nodes = check_under(answer, p.characters, &sizes[..p.fluents], chart);
-    let there = in_range(
-        character,
-        p.characters,
-        action,
-        p.actions,
-        foresight,
-        nesting,
-    );
+    let there = in_range(character, p.characters, action, p.actions, k, e);
     match check_lent(nodes, WORK_ROOM <= work.len(), there) {
-        Number::Refused(k, at) => Judged::Refused(k, at),
+        Number::Refused(number, at) => Judged::Refused(number, at),
         Number::Is(n, _) => {
             let shape = Shape {
                 actions: p.actions,
@@ -128,8 +107,8 @@ pub fn judge(
                 n,
                 character,
                 action,
-                foresight,
-                nesting,
+                k,
+                e,
                 work,
             );
             Judged::Verdict(verdict)

@@ -4,6 +4,7 @@ pub mod fact;
 pub mod judge;
 pub mod known;
 pub mod layout;
+pub mod limits;
 pub mod look;
 pub mod memory;
 pub mod search;

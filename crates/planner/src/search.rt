@@ -1,7 +1,5 @@
 // Search: the list search of the author, shortest lists first, and the public call. A state is row 0 of the table in a slot of the work buffer; the slots behind it are free.
 use crate::Found;
-use crate::explain::Foresight;
-use crate::explain::Nesting;
 use crate::explain::allowed;
 use crate::fact::Key;
 use crate::fact::recall;
@@ -11,6 +9,10 @@ use crate::layout::BEFORE_LISTS;
 use crate::layout::LISTS;
 use crate::layout::NAMES;
 use crate::layout::OF_LISTS;
+use crate::limits::Foresight;
+use crate::limits::Nesting;
+use crate::limits::Story;
+use crate::limits::searchable;
 use crate::look::next_promising;
 use crate::memory::Shape;
 use crate::memory::table_in;
@@ -38,20 +40,17 @@ ghost use Prim.Native.Nat.{suc, _+_, _*_, _<_, _≤_};
 ghost use lib.ListN.{length, getD};
 ghost use Rattle.pack.specs.Syntax.{Node, Theory};
 ghost use Rattle.pack.specs.State.{meaning};
+ghost use Rattle.chart.specs.Chart.{Written};
 ghost use Rattle.planner.specs.Ending.{authorUtility};
 ghost use Rattle.planner.specs.Inner.Lists.{slotTable, Ends, EndsBy};
 ghost use Rattle.planner.specs.Inner.Memory.{Memory, Before};
 ghost use Rattle.planner.specs.Inner.Explain.{Stage, Staged, Free};
 ghost use Rattle.planner.specs.Inner.Search.{Best, Trail, Underway, Outset, Repeated, OnPath, Laying, Layable, LaidStart, Shortest, Seeking, Seekable, SearchPut};
-ghost use Rattle.planner.specs.Replies.{storyLimit, foresightLimit, nestingLimit};
 ghost use Rattle.planner.specs.Promises.{Searching};
 
-// The story limit T.
-pub struct Story(pub usize);
-
-// The list that was found: its length, and the author's utility at its end; of length 0 where there is none.
+// The list that was found: how many actions it has, and the author's utility at its end; no actions where there is none.
 pub struct Ended {
-    pub length: usize,
+    pub count: usize,
     pub after: usize,
 }
 
@@ -64,8 +63,8 @@ pub fn completes(
     slot: usize,
     list: &mut [u8],
     done: usize,
-    e: Nesting,
     k: Foresight,
+    e: Nesting,
     left: usize,
     base: usize,
 ) -> usize
@@ -95,8 +94,8 @@ pub fn completes(
         slot,
         list,
         done,
-        e,
         k,
+        e,
         left - 1,
         base,
     );
@@ -115,10 +114,11 @@ pub fn extent(work: &[u8], p: Shape, slot: usize) -> usize
     1 + n * (p.fluents + p.characters)
 }
 
-// Whether the state in a slot, the last of `done` + 1, is one of those in the slots before it: exactly so where written charts stand in them.
+// Whether the state in a slot, the last of `done` + 1, is one of those in the slots before it. Written charts stand in
+// them, so equal bytes are the same state, and only they are.
 pub fn repeats(work: &[u8], p: Shape, slot: usize, done: usize) -> bool
-    requires { ⌜ Before p (now work) (slotTable p (now work) slot) × (slot ≡ done * 961) ⌝ }
-    ensures { λ r. ⌜ (r ≡ true → Repeated p (now (work .entry)) slot done) × (r ≡ false → OnPath p (now (work .entry)) done → ¬ Repeated p (now (work .entry)) slot done) ⌝ }
+    requires { ⌜ Before p (now work) (slotTable p (now work) slot) × (slot ≡ done * 961) × OnPath p (now work) done ⌝ }
+    ensures { λ r. ⌜ (r ≡ true → Repeated p (now (work .entry)) slot done) × (r ≡ false → ¬ Repeated p (now (work .entry)) slot done) ⌝ }
 {
     let n = extent(work, p, slot);
     let mut i = 0;
@@ -140,8 +140,8 @@ pub fn completes_after(
     slot: usize,
     list: &mut [u8],
     done: usize,
-    e: Nesting,
     k: Foresight,
+    e: Nesting,
     left: usize,
     base: usize,
 ) -> usize
@@ -151,7 +151,7 @@ pub fn completes_after(
     let actions = p.actions;
     let mut x = next_promising(pack, places, p, work, slot, 0, 0, left, base);
     while x < actions {
-        let after = completes_by(pack, places, p, work, slot, list, done, x, e, k, left, base);
+        let after = completes_by(pack, places, p, work, slot, list, done, x, k, e, left, base);
         if after != 0 {
             return after;
         }
@@ -180,15 +180,15 @@ pub fn completes_by(
     list: &mut [u8],
     done: usize,
     x: usize,
-    e: Nesting,
     k: Foresight,
+    e: Nesting,
     left: usize,
     base: usize,
 ) -> usize
     requires { ⌜ Underway (k .0) (e .0) base (now pack) (now places) p (now work) slot done (suc left) × (x < p .actions) × (0 < k .0) × (k .0 ≤ 6) × Free slot (2 + left + k .0 * e .0) × (done + suc left ≤ length (now list)) × (slot ≡ done * 961) ⌝ }
     ensures { λ r. ⌜ ((th : Theory) (T : List Node) → Stage th T (now (pack .entry)) (now (places .entry)) p (now (work .entry)) (slotTable p (now (work .entry)) slot) (slot + 961) → Memory th (k .0) p (slot + 961) (now (work .entry)) → Trail th (k .0) (e .0) base p (now (work .entry)) done (suc left) (meaning (p .characters) T 0) → Best (Memory th (k .0) p (slot + 961)) (EndsBy th (k .0) (e .0) base x (meaning (p .characters) T 0)) (suc left) (now (list .entry)) (now (list .exit)) done (slot + 961) (now (work .entry)) (now (work .exit)) r) ⌝ }
 {
-    let agreed = allowed(pack, places, p, work, slot, p.characters, x, e, k);
+    let agreed = allowed(pack, places, p, work, slot, p.characters, x, k, e);
     if !agreed {
         return 0;
     }
@@ -204,8 +204,8 @@ pub fn completes_by(
         slot + SLOT,
         list,
         done + 1,
-        e,
         k,
+        e,
         left,
         base,
     );
@@ -223,39 +223,24 @@ pub fn shortest(
     work: &mut [u8],
     list: &mut [u8],
     s: Story,
-    e: Nesting,
     k: Foresight,
+    e: Nesting,
     base: usize,
 ) -> Ended
     requires { ⌜ Outset (k .0) base (now pack) (now places) p (now work) × (0 < k .0) × (k .0 ≤ 6) × (e .0 ≤ 3) × (s .0 ≤ 8) × (8 ≤ length (now list)) ⌝ }
-    ensures { λ r. ⌜ ((th : Theory) (T : List Node) → Stage th T (now (pack .entry)) (now (places .entry)) p (now (work .entry)) (slotTable p (now (work .entry)) 0) 961 → Memory th (k .0) p 961 (now (work .entry)) → authorUtility th (meaning (p .characters) T 0) ≤ base → Shortest (Ends th (k .0) (e .0) base (meaning (p .characters) T 0)) (s .0) (now (list .entry)) (now (list .exit)) (now (work .entry)) (now (work .exit)) r) ⌝ }
+    ensures { λ r. ⌜ ((th : Theory) (T : List Node) → Stage th T (now (pack .entry)) (now (places .entry)) p (now (work .entry)) (slotTable p (now (work .entry)) 0) 961 → Memory th (k .0) p 961 (now (work .entry)) → Written (p .characters) T → authorUtility th (meaning (p .characters) T 0) ≤ base → Shortest (Ends th (k .0) (e .0) base (meaning (p .characters) T 0)) (s .0) (now (list .entry)) (now (list .exit)) (now (work .entry)) (now (work .exit)) r) ⌝ }
 {
     let mut n = 1;
     while n <= s.0 {
-        let after = completes(pack, places, p, work, 0, list, 0, e, k, n, base);
+        let after = completes(pack, places, p, work, 0, list, 0, k, e, n, base);
         if after != 0 {
-            return Ended { length: n, after };
+            return Ended { count: n, after };
         }
         n += 1;
     }
     Ended {
-        length: 0,
+        count: 0,
         after: 0,
-    }
-}
-
-// Whether T, K and E are within their limits.
-pub fn limits(story: usize, foresight: usize, nesting: usize) -> bool
-    ensures { λ r. ⌜ r ≡ (storyLimit story && (foresightLimit foresight && nestingLimit nesting)) ⌝ }
-{
-    if both_at_most(1, story, story, 8) {
-        if both_at_most(1, foresight, foresight, 6) {
-            nesting <= 3
-        } else {
-            false
-        }
-    } else {
-        false
     }
 }
 
@@ -282,44 +267,44 @@ pub fn search_nodes(
     first: usize,
     nodes: usize,
     s: Story,
-    e: Nesting,
     k: Foresight,
+    e: Nesting,
     list: &mut [u8],
     work: &mut [u8],
 ) -> Found
-    requires { ⌜ Seekable (now pack) (now places) p first nodes (s .0) (e .0) (k .0) (now list) (now work) ⌝ }
-    ensures { λ r. ⌜ ((th : Theory) (T : List Node) → Seeking th T (now (pack .entry)) (now (places .entry)) p first nodes (s .0) (e .0) (k .0) (now (list .entry)) (now (work .entry)) → SearchPut th (k .0) (s .0) (e .0) (meaning (p .characters) T 0) (now (list .entry)) (now (list .exit)) (now (work .entry)) (now (work .exit)) r) ⌝ }
+    requires { ⌜ Seekable (now pack) (now places) p first nodes (s .0) (k .0) (e .0) (now list) (now work) ⌝ }
+    ensures { λ r. ⌜ ((th : Theory) (T : List Node) → Seeking th T (now (pack .entry)) (now (places .entry)) p first nodes (s .0) (k .0) (e .0) (now (list .entry)) (now (work .entry)) → SearchPut th (s .0) (k .0) (e .0) (meaning (p .characters) T 0) (now (list .entry)) (now (list .exit)) (now (work .entry)) (now (work .exit)) r) ⌝ }
 {
     lay_start(pack, first, nodes, p, work);
     let t = table_in(work, p, 0);
     let base = utility(pack, places[UTILITIES] as usize, work, t, 0);
-    let found = shortest(pack, places, p, work, list, s, e, k, base);
+    let found = shortest(pack, places, p, work, list, s, k, e, base);
     clear(work, 0, WORK_ROOM);
-    if found.length == 0 {
+    if found.count == 0 {
         return Found::Refused(13, 0);
     }
-    Found::Ending(found.length, base, found.after)
+    Found::Ending(found.count, base, found.after)
 }
 
 // Search(pack, T, K, E, list out, work): the length of the list, which is written, and both utilities, or a refusal's number and place.
 pub fn search(
     pack: &[u8],
-    story: usize,
-    foresight: usize,
-    nesting: usize,
+    t: Story,
+    k: Foresight,
+    e: Nesting,
     list: &mut [u8],
     work: &mut [u8],
 ) -> Found
-    ensures { λ r. ⌜ Searching (now (pack .entry)) story foresight nesting (now (list .entry)) (now (work .entry)) (now (list .exit)) (now (work .exit)) r ⌝ }
+    ensures { λ r. ⌜ Searching (now (pack .entry)) (t .0) (k .0) (e .0) (now (list .entry)) (now (work .entry)) (now (list .exit)) (now (work .exit)) r ⌝ }
 {
     let mut places = [0u16; PLACES];
     let p = read_pack(pack, &mut places);
     let answer = p.answer;
     let nodes = unless_refused(answer, p.nodes, 0);
     let enough = both_at_most(8, list.len(), WORK_ROOM, work.len());
-    let there = limits(story, foresight, nesting);
+    let there = searchable(t, k, e);
     match check_lent(nodes, enough, there) {
-        Number::Refused(k, at) => Found::Refused(k, at),
+        Number::Refused(number, at) => Found::Refused(number, at),
         Number::Is(_, _) => {
             let shape = Shape {
                 actions: p.actions,
@@ -327,18 +312,7 @@ pub fn search(
                 fluents: p.fluents,
                 characters: p.characters,
             };
-            search_nodes(
-                pack,
-                &places,
-                shape,
-                p.first,
-                p.nodes,
-                Story(story),
-                Nesting(nesting),
-                Foresight(foresight),
-                list,
-                work,
-            )
+            search_nodes(pack, &places, shape, p.first, p.nodes, t, k, e, list, work)
         }
     }
 }

@@ -69,9 +69,9 @@ explained-seen pack chart character action foresight nesting work report =
 
 pub search-seen : (pack : List ℕ) (story foresight nesting : ℕ) (list work report : List ℕ) → searchReply pack story foresight nesting list (seen report work)
     ≡ call pack [] (fits listRoom list && (fits reportRoom report && fits workRoom work)) (λ p. storyLimit story && (foresightLimit foresight && nestingLimit nesting))
-    (λ p tables. answerReply (searchTable (p .theory) foresight story nesting (p .nodes)))
+    (λ p tables. answerReply (searchTable (p .theory) story foresight nesting (p .nodes)))
 unfolding searchReply
 search-seen pack story foresight nesting list work report =
     ap (λ (b : Bool). call pack [] (fits listRoom list && b) (λ p. storyLimit story && (foresightLimit foresight && nestingLimit nesting))
-    (λ (p : Pack) (tables : List (List Node)). answerReply (searchTable (p .theory) foresight story nesting (p .nodes))))
+    (λ (p : Pack) (tables : List (List Node)). answerReply (searchTable (p .theory) story foresight nesting (p .nodes))))
     (seen-fits report work)

@@ -48,35 +48,37 @@ pub record Best (M : List ℕ → Type 0) (Good : List ℕ → ℕ → Type 0) (
 abbrev pub Dry : (Good : List ℕ → ℕ → Type 0) (n : ℕ) → Type 0
 Dry Good n = (list : List ℕ) (v : ℕ) → length list < n → ¬ Good list v
 
--- the author's path: n states in the slots before s; from each of them, and from s, no list of fewer actions than are left to it is good
+-- in the slots of the path, n before the last, stand written charts
+abbrev pub OnPath : (h : Shape) (work : List ℕ) (n : ℕ) → Type 0
+OnPath h work n = (i : ℕ) → i ≤ n → Written (h .characters) (tableOf (slotTable h work (i * 961)) work)
+
+-- the author's path: n states in the slots before s; from each of them, and from s, no list of fewer actions than are left to it is good;
+-- in each slot stands the written chart of its state, so that two are one exactly where no chain tells them apart
 pub record Trail (p : Theory) (foresight nesting base : ℕ) (h : Shape) (work : List ℕ) (n left : ℕ) (s : State) : Type 0 where
   pub before : (i : ℕ) → i < n → Dry (Ends p foresight nesting base (stateOf (slotTable h work (i * 961)) work 0)) (left + (n - i))
   pub here : Dry (Ends p foresight nesting base s) left
-  pub small : (i : ℕ) → i < n → 1 + getD work (i * 961) 0 * (h .fluents + h .characters) ≤ 961
+  pub written : OnPath h work n
+  pub small : (i : ℕ) → i ≤ n → 1 + getD work (i * 961) 0 * (h .fluents + h .characters) ≤ 961
 
 -- a stage, a memory and a path
 abbrev pub Underway : (foresight nesting base : ℕ) (pack places : List ℕ) (h : Shape) (work : List ℕ) (slot n left : ℕ) → Type 0
 Underway K e base pack places h work slot n left =
     (p : Theory) × ((T : List Node) × (Stage p T pack places h work (slotTable h work slot) (slot + 961) × Memory p K h (slot + 961) work × Trail p K e base h work n left (meaning (h .characters) T 0)))
 
--- a stage and a memory, and the author's utility there is at most base
+-- a stage with a written chart and a memory, and the author's utility there is at most base
 abbrev pub Outset : (foresight base : ℕ) (pack places : List ℕ) (h : Shape) (work : List ℕ) → Type 0
-Outset K base pack places h work = (p : Theory) × ((T : List Node) × (Stage p T pack places h work (slotTable h work 0) 961 × Memory p K h 961 work × (authorUtility p (meaning (h .characters) T 0) ≤ base)))
+Outset K base pack places h work = (p : Theory) × ((T : List Node) × (Stage p T pack places h work (slotTable h work 0) 961 × Memory p K h 961 work × Written (h .characters) T × (authorUtility p (meaning (h .characters) T 0) ≤ base)))
 
 -- the state in a slot is one of those before it
 abbrev pub Repeated : (h : Shape) (work : List ℕ) (slot n : ℕ) → Type 0
 Repeated h work slot n = (i : ℕ) × (i < n) × (stateOf (slotTable h work (i * 961)) work 0 ≡ stateOf (slotTable h work slot) work 0)
 
--- in the slots of the path, n before the last, stand written charts
-abbrev pub OnPath : (h : Shape) (work : List ℕ) (n : ℕ) → Type 0
-OnPath h work n = (i : ℕ) → i ≤ n → Written (h .characters) (tableOf (slotTable h work (i * 961)) work)
-
 -- the shortest of the good lists of 1 to T actions, and of those the earliest, is put down; or its length is 0, there is none, and nothing is put down
 pub record Shortest (Good : List ℕ → ℕ → Type 0) (story : ℕ) (was now work work′ : List ℕ) (r : Ended) : Type 0 where
-  pub none : r .length ≡ 0 → (now ≡ was) × ((list : List ℕ) (v : ℕ) → 0 < length list → length list ≤ story → ¬ Good list v)
-  pub some : 0 < r .length → (list : List ℕ) × Chosen Good (r .length) list (r .after) × Put was now 0 list
-  pub within : r .length ≤ story
-  pub shortest : (other : List ℕ) (v : ℕ) → 0 < length other → length other < r .length → ¬ Good other v
+  pub none : r .count ≡ 0 → (now ≡ was) × ((list : List ℕ) (v : ℕ) → 0 < length list → length list ≤ story → ¬ Good list v)
+  pub some : 0 < r .count → (list : List ℕ) × Chosen Good (r .count) list (r .after) × Put was now 0 list
+  pub within : r .count ≤ story
+  pub shortest : (other : List ℕ) (v : ℕ) → 0 < length other → length other < r .count → ¬ Good other v
   pub low : Below work work′ 961
   pub high : Above work work′ workRoom
 
@@ -97,7 +99,7 @@ pub record LaidStart (T : List Node) (h : Shape) (was now : List ℕ) : Type 0 w
   pub high : Above was now workRoom
 
 -- what the search from a pack's nodes is lent: a theory, found in the pack, its nodes, and room
-pub record Seeking (th : Theory) (T : List Node) (pack places : List ℕ) (h : Shape) (first nodes story nesting foresight : ℕ) (list work : List ℕ) : Type 0 where
+pub record Seeking (th : Theory) (T : List Node) (pack places : List ℕ) (h : Shape) (first nodes story foresight nesting : ℕ) (list work : List ℕ) : Type 0 where
   pub theorized : Theorized th pack places (h .actions) (h .triggers)
   pub end : ℕ
   pub read : NodesFrom pack first end nodes (h .fluents) (h .characters) T
@@ -109,13 +111,13 @@ pub record Seeking (th : Theory) (T : List Node) (pack places : List ℕ) (h : S
   pub list-room : listRoom ≤ length list
   pub room : workRoom ≤ length work
 
-abbrev pub Seekable : (pack places : List ℕ) (h : Shape) (first nodes story nesting foresight : ℕ) (list work : List ℕ) → Type 0
-Seekable pack places h first nodes story nesting foresight list work = (th : Theory) × ((T : List Node) × Seeking th T pack places h first nodes story nesting foresight list work)
+abbrev pub Seekable : (pack places : List ℕ) (h : Shape) (first nodes story foresight nesting : ℕ) (list work : List ℕ) → Type 0
+Seekable pack places h first nodes story foresight nesting list work = (th : Theory) × ((T : List Node) × Seeking th T pack places h first nodes story foresight nesting list work)
 
 -- the answer that is true of the state is given, its list put down, and the work buffer cleared
-pub record SearchPut (th : Theory) (foresight story nesting : ℕ) (s : State) (list list′ work work′ : List ℕ) (r : Found) : Type 0 where
+pub record SearchPut (th : Theory) (story foresight nesting : ℕ) (s : State) (list list′ work work′ : List ℕ) (r : Found) : Type 0 where
   pub answer : Answer
-  pub is-so : Searched th foresight story nesting s answer
+  pub is-so : Searched th story foresight nesting s answer
   pub said : searchSaid r ≡ told summary (answerReply answer)
   pub result : list′ ≡ resultAfter (told (λ p. p .list) (answerReply answer)) list
   pub scratch : work′ ≡ cleared work

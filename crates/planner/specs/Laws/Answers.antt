@@ -23,21 +23,21 @@ module _ (p : Theory) (t : List Node) (r : IsTable (p .characters) t) where
   abbrev means0 : State
   means0 = meaning (p .characters) t 0
 
-  pub search-table : (K T E : ℕ) → Searched p K T E means0 (searchTable p K T E t)
+  pub search-table : (T K E : ℕ) → Searched p T K E means0 (searchTable p T K E t)
   unfolding searchTable
-  search-table K T E = on-table (p .characters) t (searchOf p K T E) none (Searched p K T E means0) r (searched p K T E)
+  search-table T K E = on-table (p .characters) t (searchOf p T K E) none (Searched p T K E means0) r (searched p T K E)
 
   pub explained-table-iff : (K e c a : ℕ) → (explainedTable p K e c a t ≡ true) ↔ Explained p K e c a means0
   unfolding explainedTable
   explained-table-iff K e c a = on-table (p .characters) t (λ x. says (explained? p K e c a means0 x)) false (λ b. (b ≡ true) ↔ Explained p K e c a means0) r (λ x. says-iff (explained? p K e c a means0 x))
 
-  pub search-table-iff : (K T E : ℕ) (o : Answer) → Searched p K T E means0 o ↔ (searchTable p K T E t ≡ o)
-  search-table-iff K T E o = (λ y. searched-one p K T E means0 (searchTable p K T E t) o (search-table K T E) y, λ e. subst (Searched p K T E means0) e (search-table K T E))
+  pub search-table-iff : (T K E : ℕ) (o : Answer) → Searched p T K E means0 o ↔ (searchTable p T K E t ≡ o)
+  search-table-iff T K E o = (λ y. searched-one p T K E means0 (searchTable p T K E t) o (search-table T K E) y, λ e. subst (Searched p T K E means0) e (search-table T K E))
 
 -- two tables with one meaning
 module _ (p : Theory) (t u : List Node) (r : IsTable (p .characters) t) (q : IsTable (p .characters) u) (e : meaning (p .characters) t 0 ≡ meaning (p .characters) u 0) where
-  pub search-table-same : (K T E : ℕ) → searchTable p K T E t ≡ searchTable p K T E u
-  search-table-same K T E = search-table-iff p t r K T E (searchTable p K T E u) .0 (subst (λ (s : State). Searched p K T E s (searchTable p K T E u)) (sym e) (search-table p u q K T E))
+  pub search-table-same : (T K E : ℕ) → searchTable p T K E t ≡ searchTable p T K E u
+  search-table-same T K E = search-table-iff p t r T K E (searchTable p T K E u) .0 (subst (λ (s : State). Searched p T K E s (searchTable p T K E u)) (sym e) (search-table p u q T K E))
 
   pub explained-table-same : (K n c a : ℕ) → explainedTable p K n c a t ≡ explainedTable p K n c a u
   explained-table-same K n c a = bools (explainedTable p K n c a t) (explainedTable p K n c a u)

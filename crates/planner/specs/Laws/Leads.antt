@@ -31,7 +31,7 @@ module _ (p : Theory) (asked : ℕ → Type 0) (content : ℕ → ℕ → State 
 -- an ending that comes back to a state is an ending without the way around, if something is left
 pub shortcut : (p : Theory) (k t e : ℕ) (s : State) (l m r : List ℕ) (v u : State) → 0 < length (l ++ r)
     → Leads p (λ d. Unit {0}) (Explained p k e) s l v → Leads p (λ d. Unit {0}) (Explained p k e) v m v → Leads p (λ d. Unit {0}) (Explained p k e) v r u
-    → (x : Ending p k t e s (l ++ (m ++ r))) → x .end ≡ u → Ending p k t e s (l ++ r)
+    → (x : Ending p t k e s (l ++ (m ++ r))) → x .end ≡ u → Ending p t k e s (l ++ r)
 shortcut p k t e s l m r v u pos a b c x g = record {
   some = pos;
   within = omega (arith, x .within, length-append l r, length-append l (m ++ r), length-append m r);
@@ -48,11 +48,11 @@ leads-low p asked content (a ∷ list) s t x = (x .1 .there, leads-low p asked c
 
 module _ {p : Theory} {k t e : ℕ} {s : State} where
   -- an ending ends in one state
-  pub ending-one : {list : List ℕ} (x y : Ending p k t e s list) → x .end ≡ y .end
+  pub ending-one : {list : List ℕ} (x y : Ending p t k e s list) → x .end ≡ y .end
   ending-one {list} x y = leads-one p (λ d. Unit {0}) (Explained p k e) list s (x .end) (y .end) (x .leads) (y .leads)
 
-  pub sought-one : {list list′ : List ℕ} {w w′ v v′ : ℕ} → Sought p k t e s list w v → Sought p k t e s list′ w′ v′ → (list ≡ list′) × (w ≡ w′) × (v ≡ v′)
+  pub sought-one : {list list′ : List ℕ} {w w′ v v′ : ℕ} → Sought p t k e s list w v → Sought p t k e s list′ w′ v′ → (list ≡ list′) × (w ≡ w′) × (v ≡ v′)
   sought-one {list} {list′} {w} {w′} {v} {v′} x y =
       let g = earliest-one (x .first) (y .first) in
-      let z : Sought p k t e s list w′ v′ = subst (λ (l : List ℕ). Sought p k t e s l w′ v′) (sym g) y in
+      let z : Sought p t k e s list w′ v′ = subst (λ (l : List ℕ). Sought p t k e s l w′ v′) (sym g) y in
       (g, sym (x .atStart) ∙ y .atStart, sym (x .atEnd) ∙ ap (authorUtility p) (ending-one (x .first .good) (z .first .good)) ∙ z .atEnd)

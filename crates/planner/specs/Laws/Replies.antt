@@ -59,10 +59,10 @@ module _ {pack : List ℕ} {p : Pack} (g : Given pack p) where
     table : IsTable C (p .nodes)
     table = fits-table C (p .theory .domains) (p .nodes) (given-fits g .nodes)
 
-    pub searches : searchReply pack T K E list work ≡ answerReply (searchTable (p .theory) K T E (p .nodes))
+    pub searches : searchReply pack T K E list work ≡ answerReply (searchTable (p .theory) T K E (p .nodes))
     unfolding searchReply
     searches =
-        call-none (fits listRoom list && fits workRoom work) (λ p. storyLimit T && (foresightLimit K && nestingLimit E)) (λ p tables. answerReply (searchTable (p .theory) K T E (p .nodes)))
+        call-none (fits listRoom list && fits workRoom work) (λ p. storyLimit T && (foresightLimit K && nestingLimit E)) (λ p tables. answerReply (searchTable (p .theory) T K E (p .nodes)))
         (both-true (long-enough listRoom list hl) (long-enough workRoom work hw)) g (both-true (between 1 8 T t1 t8) (both-true (between 1 6 K k1 k6) (le-leb E 3 e3)))
 
     answer-one : (a b : Answer) → answerReply a ≡ answerReply b → a ≡ b
@@ -72,7 +72,7 @@ module _ {pack : List ℕ} {p : Pack} (g : Given pack p) where
     answer-one none none e = refl
 
     -- Search's reply is a list exactly where that list is the shortest ending, then the earliest, with the author's utility before and after
-    pub search-says : (r : Answer) → (searchReply pack T K E list work ≡ answerReply r) ↔ Searched (p .theory) K T E start r
+    pub search-says : (r : Answer) → (searchReply pack T K E list work ≡ answerReply r) ↔ Searched (p .theory) T K E start r
     search-says r =
-        let x = search-table-iff (p .theory) (p .nodes) table K T E r in
-        (λ e. x .1 (answer-one (searchTable (p .theory) K T E (p .nodes)) r (sym searches ∙ e)), λ h. searches ∙ ap answerReply (x .0 h))
+        let x = search-table-iff (p .theory) (p .nodes) table T K E r in
+        (λ e. x .1 (answer-one (searchTable (p .theory) T K E (p .nodes)) r (sym searches ∙ e)), λ h. searches ∙ ap answerReply (x .0 h))

@@ -94,7 +94,7 @@ other-row : Says (row.explained 1 0 1 1 (gives false))
 unfolding Explained utility holds allPass passes compares meaning
 other-row work g = explained-denies given row.started first started 1 0 1 1 (omega arith) (omega arith) (omega arith) (omega arith) (omega arith) work g .1 (λ x. omega (arith, x .6))
 
-zero-row : Says (row.explained 0 0 0 1 (gives false))
+zero-row : Says (row.explained 0 0 1 0 (gives false))
 unfolding Explained
 zero-row work g = explained-denies given row.started first started 0 0 1 0 (omega arith) (omega arith) (omega arith) (omega arith) (omega arith) work g .1 (λ x. x)
 

@@ -62,25 +62,25 @@ use Rattle.planner.proofs.explain.+allowed+explained+explains+extends+e
 }
 
 abbrev μ-allowed : Measures 3 allowed-kinds.ps ℕ
-μ-allowed κs a = 1000 * a .1 .1 .1 .1 .1 .1 .1 .0 .0 + 3
+μ-allowed κs a = 1000 * a .1 .1 .1 .1 .1 .1 .1 .1 .0 .0 + 3
 
 abbrev μ-explained : Measures 3 explained-kinds.ps ℕ
-μ-explained κs a = 1000 * a .1 .1 .1 .1 .1 .1 .1 .0 .0 + 1
+μ-explained κs a = 1000 * a .1 .1 .1 .1 .1 .1 .1 .1 .0 .0 + 1
 
 abbrev μ-explains : Measures 3 explains-kinds.ps ℕ
-μ-explains κs a = 1000 * a .1 .1 .1 .1 .1 .1 .1 .0 .0
+μ-explains κs a = 1000 * a .1 .1 .1 .1 .1 .1 .1 .1 .0 .0
 
 abbrev μ-extends : Measures 3 extends-kinds.ps ℕ
-μ-extends κs a = 1000 * a .1 .1 .1 .1 .1 .1 .0 .0 + 3 + 3 * a .1 .1 .1 .1 .1 .1 .1 .1 .0
+μ-extends κs a = 1000 * a .1 .1 .1 .1 .1 .1 .1 .0 .0 + 3 + 3 * a .1 .1 .1 .1 .1 .1 .1 .1 .0
 
 abbrev μ-extends-by : Measures 3 extends-by-kinds.ps ℕ
-μ-extends-by κs a = 1000 * a .1 .1 .1 .1 .1 .1 .0 .0 + 5 + 3 * a .1 .1 .1 .1 .1 .1 .1 .1 .0
+μ-extends-by κs a = 1000 * a .1 .1 .1 .1 .1 .1 .1 .0 .0 + 5 + 3 * a .1 .1 .1 .1 .1 .1 .1 .1 .0
 
 abbrev μ-fine : Measures 3 fine-kinds.ps ℕ
-μ-fine κs a = 1000 * a .1 .1 .1 .1 .1 .1 .1 .1 .0 .0 + 2
+μ-fine κs a = 1000 * a .1 .1 .1 .1 .1 .1 .1 .1 .1 .0 .0 + 2
 
 abbrev μ-via : Measures 3 via-kinds.ps ℕ
-μ-via κs a = 1000 * a .1 .1 .1 .1 .1 .1 .1 .0 .0 + 4 + 3 * a .1 .1 .1 .1 .1 .1 .1 .1 .1 .0
+μ-via κs a = 1000 * a .1 .1 .1 .1 .1 .1 .1 .1 .0 .0 + 4 + 3 * a .1 .1 .1 .1 .1 .1 .1 .1 .1 .0
 
 abbrev allowed-at : ℕ → In 3 allowed-kinds.ps
 allowed-at t = and 3 allowed-kinds.ps (is 3 allowed-kinds.ps μ-allowed t) allowed.Pre
@@ -147,11 +147,11 @@ abbrev via-calls : ℕ → via-lts.Claims
 via-calls t = (allowed-below t, allowed.Post, known-step-reads.Asked, known-step-reads.Learnt, extends-below t, extends.Post)
 
 abbrev allowed-Inv-loop : allowed-lts.InvT-loop
-allowed-Inv-loop pack places p work₀ slot who x e k at count i₀ work i = (length work ≡ length work₀) × Below work₀ work (slot + 961) × Above work₀ work workRoom
+allowed-Inv-loop pack places p work₀ slot who x k e at count i₀ work i = (length work ≡ length work₀) × Below work₀ work (slot + 961) × Above work₀ work workRoom
     × ((th : Theory) (T : List Node) → Stage th T pack places p work₀ (slotTable p work₀ slot) (slot + 961) → Memory th (k .0) p (slot + 961) work₀ → Memory th (k .0) p (slot + 961) work × ((j : ℕ) → j < i → Content th (k .0) (e .0) who x (meaning (p .characters) T 0) j))
 
 abbrev allowed-μ-loop : allowed-lts.MeasureT-loop
-allowed-μ-loop pack places p work₀ slot who x e k at count i₀ work i = count - i
+allowed-μ-loop pack places p work₀ slot who x k e at count i₀ work i = count - i
 
 allowed-mul-at : (t : ℕ) → allowed-lts.Need-mul-at (allowed-calls t) (allowed-at t) allowed.Post allowed-Inv-loop allowed-μ-loop
 allowed-mul-at t c = let (th, (T, (y, mem))) = c .before .before .before .pre .1 .0 in omega (arith, consent-place y _ (c .before .before .before .pre .1 .1))
@@ -533,11 +533,11 @@ extends-returns-5 t c = let P = c .before .before .before .before .before .befor
     }
 
 abbrev extends-by-Inv-loop : extends-by-lts.InvT-loop
-extends-by-Inv-loop pack places p work₀ slot c e k left base x₀ work x = (length work ≡ length work₀) × Below work₀ work (slot + 961) × Above work₀ work workRoom
+extends-by-Inv-loop pack places p work₀ slot c k e left base x₀ work x = (length work ≡ length work₀) × Below work₀ work (slot + 961) × Above work₀ work workRoom
     × ((th : Theory) (T : List Node) → Stage th T pack places p work₀ (slotTable p work₀ slot) (slot + 961) → Memory th (k .0) p (slot + 961) work₀ → Memory th (k .0) p (slot + 961) work × ((y : ℕ) → y < x → AboveBy th (k .0) (e .0) c base (suc left) y (meaning (p .characters) T 0) → ⊥))
 
 abbrev extends-by-μ-loop : extends-by-lts.MeasureT-loop
-extends-by-μ-loop pack places p work₀ slot c e k left base x₀ work x = p .actions - x
+extends-by-μ-loop pack places p work₀ slot c k e left base x₀ work x = p .actions - x
 
 extends-by-add-next-promising : (t : ℕ) → extends-by-lts.Need-add-next-promising (extends-by-calls t) (extends-by-at t) extends-by.Post extends-by-Inv-loop extends-by-μ-loop
 extends-by-add-next-promising t c = let P = c .before .before .before .before .pre .1 in let (th, (T, (y, mem))) = P .0 in omega (arith, P .1, small (y .tabled))

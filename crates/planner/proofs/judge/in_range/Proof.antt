@@ -7,16 +7,15 @@ use Rattle.planner.proofs.judge.in_range.Statement.{statement}
 use Rattle.planner.proofs.judge.in_range.Tie as tie
 
 returns : tie.Need-returns
-returns c = both-there _ (c .before .both-at-most .ensures) (c .if3 .taken) ∙ both-there _ refl (lt-ltb _ _ (c .before .before .if2 .taken)) ∙ both-there _ refl (lt-ltb _ _ (c .before .before .before .if1 .taken))
+returns c =
+    c .explainable .ensures ∙ both-there _ refl (lt-ltb _ _ (c .before .if2 .taken))
+    ∙ both-there _ refl (lt-ltb _ _ (c .before .before .if1 .taken))
 
 returns-2 : tie.Need-returns-2
-returns-2 c = not-there _ (c .before .both-at-most .ensures) (c .if3 .left) ∙ both-there _ refl (lt-ltb _ _ (c .before .before .if2 .taken)) ∙ both-there _ refl (lt-ltb _ _ (c .before .before .before .if1 .taken))
+returns-2 c = not-there _ refl (le-ltb _ _ (c .if2 .left)) ∙ both-there _ refl (lt-ltb _ _ (c .before .if1 .taken))
 
 returns-3 : tie.Need-returns-3
-returns-3 c = not-there _ refl (le-ltb _ _ (c .if2 .left)) ∙ both-there _ refl (lt-ltb _ _ (c .before .if1 .taken))
-
-returns-4 : tie.Need-returns-4
-returns-4 c = not-there _ refl (le-ltb _ _ (c .if1 .left))
+returns-3 c = not-there _ refl (le-ltb _ _ (c .if1 .left))
 
 pub in-range-spec : {M : Type 1} → statement M
-in-range-spec = tie.close (tie.spec (λ c κs. search needs) returns returns-2 returns-3 returns-4)
+in-range-spec = tie.close (tie.spec (λ c κs. search needs) returns returns-2 returns-3)

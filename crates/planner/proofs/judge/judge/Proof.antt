@@ -19,7 +19,7 @@ judge-chart-requires c κs =
     let u = c .before .before .before .before .before .before .before .check-under in
     let i = c .before .before .before .before .before .before .in-range in
     let l = c .before .before .before .before .before .check-lent in
-    judge-able (a .chart .now) (a .character) (a .action) (a .foresight) (a .nesting) (a .work .now) (c .before .before .before .before .before .before .before .before .before .before .before .read-pack .ensures) (u .result) (u .ensures) (i .result) (i .ensures) (l .result) (l .ensures)
+    judge-able (a .chart .now) (a .character) (a .action) (a .k .0) (a .e .0) (a .work .now) (c .before .before .before .before .before .before .before .before .before .before .before .read-pack .ensures) (u .result) (u .ensures) (i .result) (i .ensures) (l .result) (l .ensures)
     (λ i. omega (arith, c .before .before .before .before .before .before .before .before .before .before .before .before .before .before .before .shared-slice-known .given i)) (λ i. omega (arith, c .before .before .before .before .before .before .before .before .before .before .before .before .before .before .shared-slice-known2 .given i)) (omega (arith, c .before .before .before .before .before .before .before .before .before .before .before .read-pack .kept)) _ _ (c .before .before .before .n .given .1)
 
 returns : tie.Need-returns
@@ -28,7 +28,7 @@ returns c =
     let u = c .before .before .before .before .before .check-under in
     let i = c .before .before .before .before .in-range in
     let l = c .before .before .before .check-lent in
-    judge-refused (a .chart .now) (a .character) (a .action) (a .foresight) (a .nesting) (a .work .now) (c .before .before .before .before .before .before .before .before .before .read-pack .ensures) (u .result) (u .ensures) (i .result) (i .ensures) (l .result) (l .ensures) _ _ (c .before .k .given .1)
+    judge-refused (a .chart .now) (a .character) (a .action) (a .k .0) (a .e .0) (a .work .now) (c .before .before .before .before .before .before .before .before .before .read-pack .ensures) (u .result) (u .ensures) (i .result) (i .ensures) (l .result) (l .ensures) _ _ (c .before .number .given .1)
 
 returns-2 : tie.Need-returns-2
 returns-2 c =
@@ -36,7 +36,7 @@ returns-2 c =
     let u = c .before .before .before .before .before .before .before .before .before .before .check-under in
     let i = c .before .before .before .before .before .before .before .before .before .in-range in
     let l = c .before .before .before .before .before .before .before .before .check-lent in
-    judge-done (a .chart .now) (a .character) (a .action) (a .foresight) (a .nesting) (a .work .now) (c .before .before .before .before .before .before .before .before .before .before .before .before .before .before .read-pack .ensures) (u .result) (u .ensures) (i .result) (i .ensures) (l .result) (l .ensures)
+    judge-done (a .chart .now) (a .character) (a .action) (a .k .0) (a .e .0) (a .work .now) (c .before .before .before .before .before .before .before .before .before .before .before .before .before .before .read-pack .ensures) (u .result) (u .ensures) (i .result) (i .ensures) (l .result) (l .ensures)
     (λ i. omega (arith, c .before .before .before .before .before .before .before .before .before .before .before .before .before .before .before .before .before .before .shared-slice-known .given i)) (λ i. omega (arith, c .before .before .before .before .before .before .before .before .before .before .before .before .before .before .before .before .before .shared-slice-known2 .given i)) (omega (arith, c .before .before .before .before .before .before .before .before .before .before .before .before .before .before .read-pack .kept)) _ _ (c .before .before .before .before .before .before .n .given .1) _ _ (c .before .before .judge-chart .ensures)
 
 pub judge-spec : {M : Type 1} → statement M

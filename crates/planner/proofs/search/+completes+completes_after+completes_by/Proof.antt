@@ -18,7 +18,7 @@ use Rattle.planner.specs.Inner.Explain.{Stage, Free}
 use Rattle.planner.specs.Inner.Search.{Best, Trail}
 use Rattle.planner.proofs.Remembering.{memory-fewer}
 use Rattle.planner.proofs.Looking.{below-far, stage-trying, stage-skipped}
-use Rattle.planner.proofs.Telling.{nextTable, next-plays, next-stage, slot-same, stage-before, stage-state, known, note}
+use Rattle.planner.proofs.Telling.{nextTable, next-written, next-plays, next-stage, stage-extent, slot-same, stage-before, stage-state, known, note}
 use Rattle.planner.proofs.Completing.{best-none, best-from, best-noted, best-same, fact-of-none, trail-step, trail-same, trail-repeats, best-end, best-first, best-no, best-hopeless, best-by, best-by-none, agreed-from, agreed-to}
 use borrow.Fn.Kinds.{In}
 use borrow.Fn.PlainCycle.{Measures, is, falls, and}
@@ -108,7 +108,7 @@ completes-returns t c = let a = c .before .before .before .before .before .befor
     best-same none (best-end th (a .k .0) (a .e .0) (a .base) (meaning (a .p .characters) T 0) (a .list .now) (a .work .now) mem (e .0) (e .1))
 
 completes-repeats-requires : (t : ℕ) → completes-lts.Need-repeats-requires (completes-calls t) (completes-at t) completes.Post
-completes-repeats-requires t c κs = let P = c .before .before .before .before .before .before .pre .1 in let (th, (T, (y, mem, trail))) = P .0 in (stage-before y (omega (arith, P .3)), P .5)
+completes-repeats-requires t c κs = let P = c .before .before .before .before .before .before .pre .1 in let (th, (T, (y, mem, trail))) = P .0 in (stage-before y (omega (arith, P .3)), P .5, trail .written)
 
 completes-same-length-2 : (t : ℕ) → completes-lts.Need-same-length-2 (completes-calls t) (completes-at t) completes.Post
 completes-same-length-2 t c = search needs
@@ -190,11 +190,11 @@ completes-returns-5 t c = let P = c .before .before .before .before .before .bef
     best-from (λ q l. r .ensures .only .low q (omega (arith, l, P .3))) (r .ensures .only .high) (best-same (sym up) (d .ensures th T (slot-same (a .slot) y (λ q l. r .ensures .only .low q (omega (arith, l, P .3))) (r .kept .0)) (r .ensures .told th (a .k .0) (a .slot + 961) (omega (arith, P .3)) (y .slotted) mem .0) (trail-same th (a .k .0) (a .e .0) (a .base) (meaning (a .p .characters) T 0) (λ q l. r .ensures .only .low q (omega (arith, l, P .3, P .5))) (subst (λ (n : ℕ). Trail th (a .k .0) (a .e .0) (a .base) (a .p) (a .work .now) (a .done) n (meaning (a .p .characters) T 0)) up trail))))
 
 abbrev completes-after-Inv-loop : completes-after-lts.InvT-loop
-completes-after-Inv-loop pack places p work₀ slot list₀ done e k left base actions x₀ work list x = (length work ≡ length work₀) × (list ≡ list₀) × Below work₀ work (slot + 961) × Above work₀ work workRoom
+completes-after-Inv-loop pack places p work₀ slot list₀ done k e left base actions x₀ work list x = (length work ≡ length work₀) × (list ≡ list₀) × Below work₀ work (slot + 961) × Above work₀ work workRoom
     × ((th : Theory) (T : List Node) → Stage th T pack places p work₀ (slotTable p work₀ slot) (slot + 961) → Memory th (k .0) p (slot + 961) work₀ → Trail th (k .0) (e .0) base p work₀ done (suc left) (meaning (p .characters) T 0) → Memory th (k .0) p (slot + 961) work × ((y : ℕ) → y < x → (l : List ℕ) (v : ℕ) → length l ≡ suc left → ¬ EndsBy th (k .0) (e .0) base y (meaning (p .characters) T 0) l v))
 
 abbrev completes-after-μ-loop : completes-after-lts.MeasureT-loop
-completes-after-μ-loop pack places p work₀ slot list₀ done e k left base actions x₀ work list x = p .actions - x
+completes-after-μ-loop pack places p work₀ slot list₀ done k e left base actions x₀ work list x = p .actions - x
 
 completes-after-next-promising-requires : (t : ℕ) → completes-after-lts.Need-next-promising-requires (completes-after-calls t) (completes-after-at t) completes-after.Post completes-after-Inv-loop completes-after-μ-loop
 completes-after-next-promising-requires t c κs = let P = c .before .before .before .before .before .pre .1 in
@@ -339,7 +339,7 @@ completes-by-completes-requires t c κs = let (m, P) = c .before .before .before
     let zero : s .result ≡ 0 = omega (arith, c .before .before .if2 .left) in
     let plays = next-plays z′ 0 played f long zero in
     let agreed = agreed-from y (a .k .0) (a .e .0) (a .x) (P .1) (meaning (a .p .characters) T 0) (told .sound (not-false (w .result) (c .before .before .before .before .before .before .before .if1 .left))) in
-    let next = trail-step (a .slot) y (a .k .0) (a .e .0) (a .base) trail (P .6) (s .last .1 .1 .1 .1 .0) (λ q l. played .low q l ∙ told .low q l) (long ∙ w .kept .1 .1 .1 .0) plays agreed in
+    let next = trail-step (a .slot) y (a .k .0) (a .e .0) (a .base) trail (P .6) (s .last .1 .1 .1 .1 .0) (λ q l. played .low q l ∙ told .low q l) (long ∙ w .kept .1 .1 .1 .0) (next-written z′ 0 played f long zero) (stage-extent (a .slot + 961) (next-stage z′ 0 played f long zero)) plays agreed in
     (omega (arith, m), ((th, (nextTable z′ 0 played f long zero, (next-stage z′ 0 played f long zero, played .further zero, next))), P .2, P .3, omega (arith, P .4), omega (arith, P .5), omega (arith, P .6)))
 
 completes-by-cast-list : (t : ℕ) → completes-by-lts.Need-cast-list (completes-by-calls t) (completes-by-at t) completes-by.Post
@@ -369,7 +369,7 @@ completes-by-returns-3 t c = let P = c .before .before .before .before .before .
     let zero : s .result ≡ 0 = omega (arith, c .before .before .before .before .before .before .before .before .if2 .left) in
     let plays = next-plays z′ 0 played f long zero in
     let agreed = agreed-from y (a .k .0) (a .e .0) (a .x) (P .1) (meaning (a .p .characters) T 0) (told .sound (not-false (w .result) (c .before .before .before .before .before .before .before .before .before .before .before .before .before .if1 .left))) in
-    let next = trail-step (a .slot) y (a .k .0) (a .e .0) (a .base) trail (P .6) (s .last .1 .1 .1 .1 .0) (λ q l. played .low q l ∙ told .low q l) (long ∙ w .kept .1 .1 .1 .0) plays agreed in
+    let next = trail-step (a .slot) y (a .k .0) (a .e .0) (a .base) trail (P .6) (s .last .1 .1 .1 .1 .0) (λ q l. played .low q l ∙ told .low q l) (long ∙ w .kept .1 .1 .1 .0) (next-written z′ 0 played f long zero) (stage-extent (a .slot + 961) (next-stage z′ 0 played f long zero)) plays agreed in
     best-by th (a .k .0) (a .e .0) (a .base) (meaning (a .p .characters) T 0) (a .x) plays agreed (omega arith) (memory-fewer (a .p) (omega arith)) (λ q l. played .low q l ∙ told .low q l) (λ q l. played .high q l ∙ told .high q l) (d .ensures th (nextTable z′ 0 played f long zero) (next-stage z′ 0 played f long zero) (played .further zero) next) (omega (arith, c .if3 .taken))
     (getD-set-same {A = ℕ} (d .last .1 .1 .1 .1 .1 .0) (a .done) (a .x) 0 (omega (arith, P .5, d .kept .1 .1 .1 .1 .1 .0))) (λ q n. getD-set-other {A = ℕ} (d .last .1 .1 .1 .1 .1 .0) (a .done) q (a .x) 0 n)
 
@@ -394,7 +394,7 @@ completes-by-returns-4 t c = let P = c .before .before .before .before .before .
     let zero : s .result ≡ 0 = omega (arith, c .before .before .before .before .before .before .before .before .if2 .left) in
     let plays = next-plays z′ 0 played f long zero in
     let agreed = agreed-from y (a .k .0) (a .e .0) (a .x) (P .1) (meaning (a .p .characters) T 0) (told .sound (not-false (w .result) (c .before .before .before .before .before .before .before .before .before .before .before .before .before .if1 .left))) in
-    let next = trail-step (a .slot) y (a .k .0) (a .e .0) (a .base) trail (P .6) (s .last .1 .1 .1 .1 .0) (λ q l. played .low q l ∙ told .low q l) (long ∙ w .kept .1 .1 .1 .0) plays agreed in
+    let next = trail-step (a .slot) y (a .k .0) (a .e .0) (a .base) trail (P .6) (s .last .1 .1 .1 .1 .0) (λ q l. played .low q l ∙ told .low q l) (long ∙ w .kept .1 .1 .1 .0) (next-written z′ 0 played f long zero) (stage-extent (a .slot + 961) (next-stage z′ 0 played f long zero)) plays agreed in
     best-by-none th (a .k .0) (a .e .0) (a .base) (meaning (a .p .characters) T 0) (a .x) plays agreed (omega arith) (memory-fewer (a .p) (omega arith)) (λ q l. played .low q l ∙ told .low q l) (λ q l. played .high q l ∙ told .high q l) (d .ensures th (nextTable z′ 0 played f long zero) (next-stage z′ 0 played f long zero) (played .further zero) next) (omega (arith, c .if3 .left))
 
 pub +completes+completes-after+completes-by-spec : {M : Type 1} → statement M

@@ -66,10 +66,10 @@ returns-2 c =
     let a = c .before .before .before .before .args in
     let P = c .before .before .before .before .pre in (
       unset,
-      λ e path (i, less, same). c .before .loop .inv .1 i (omega (arith, less, c .loop-test .left, c .before .loop .inv .0))
+      λ e (i, less, same). c .before .loop .inv .1 i (omega (arith, less, c .loop-test .left, c .before .loop .inv .0))
           (λ q l. same-state-bytes (a .p) (a .work .now) (a .slot) (i * 961)
-          (subst (λ (k : ℕ). Written (a .p .characters) (tableOf (slotTable (a .p) (a .work .now) k) (a .work .now))) (sym (P .1)) (path (a .done) (omega arith)))
-          (path i (omega (arith, less))) same q (omega (arith, l, c .before .before .extent .ensures))),
+          (subst (λ (k : ℕ). Written (a .p .characters) (tableOf (slotTable (a .p) (a .work .now) k) (a .work .now))) (sym (P .1)) (P .2 (a .done) (omega arith)))
+          (P .2 i (omega (arith, less))) same q (omega (arith, l, c .before .before .extent .ensures))),
     )
 
 pub repeats-spec : {M : Type 1} → statement M

@@ -33,7 +33,7 @@ utility-requires c κs =
     rules-in _ _ _ 0 (c .before .before .table-in .ensures) (author-rules s 0 (s .tabled .some) .0)
 
 -- the number of the rule that holds is the author's utility at the start
-worth : (c : tie.After-utility) {th : Theory} {T : List Node} → let a = c .before .before .before .before .before .before .before .before .before .before .before .before .before .args in let l = c .before .before .before .before .before .before .before .lay-start in (x : Seeking th T (a .pack .now) (a .places .now) (a .p) (a .first) (a .nodes) (a .s .0) (a .e .0) (a .k .0) (a .list .now) (a .work .now))
+worth : (c : tie.After-utility) {th : Theory} {T : List Node} → let a = c .before .before .before .before .before .before .before .before .before .before .before .before .before .args in let l = c .before .before .before .before .before .before .before .lay-start in (x : Seeking th T (a .pack .now) (a .places .now) (a .p) (a .first) (a .nodes) (a .s .0) (a .k .0) (a .e .0) (a .list .now) (a .work .now))
     → c .utility .result ≡ authorUtility th (meaning (a .p .characters) (seekTable x (l .ensures T (seek-laying x)) (l .kept .1 .1 .1 .1 .0)) 0)
 worth c {th} {T} x =
     let a = c .before .before .before .before .before .before .before .before .before .before .before .before .before .args in
@@ -45,7 +45,7 @@ shortest-requires c κs =
     let (th, (T, x)) = c .before .before .before .before .before .before .before .before .before .before .before .before .before .before .before .pre in
     let y = c .before .before .before .before .before .before .before .before .before .lay-start .ensures T (seek-laying x) in
     let long = c .before .before .before .before .before .before .before .before .before .lay-start .kept .1 .1 .1 .1 .0 in
-    ((th, (seekTable x y long, (seek-slot x y long, seek-memory x y long, seek-base x y long (worth (c .before .before) x)))), x .foreseen .0, x .foreseen .1, x .nested, x .storied, x .list-room)
+    ((th, (seekTable x y long, (seek-slot x y long, seek-memory x y long, y .starts .0, seek-base x y long (worth (c .before .before) x)))), x .foreseen .0, x .foreseen .1, x .nested, x .storied, x .list-room)
 
 clear-requires : tie.Need-clear-requires
 clear-requires c κs = let (th, (T, x)) = c .before .before .before .before .before .before .before .before .before .before .before .before .before .before .before .before .before .before .before .before .before .pre in omega (arith, x .room, c .before .before .before .before .before .shortest .kept .1 .1 .1 .0, c .before .before .before .before .before .before .before .before .before .before .before .before .before .before .before .lay-start .kept)
@@ -59,7 +59,7 @@ returns c =
     let y = l T (seek-laying x) in
     let long = c .before .before .before .before .before .before .before .before .before .before .before .before .before .before .before .before .before .before .before .before .lay-start .kept .1 .1 .1 .1 .0 in
     let is = worth (c .before .before .before .before .before .before .before .before .before .before .before .before .before) x in
-    seek-none x y long (seek-from x y long is) (seek-same x y long (e .ensures th (seekTable x y long) (seek-slot x y long) (seek-memory x y long) (seek-base x y long is))) (z .ensures) (omega (arith, z .kept, e .kept .1 .1 .1 .0, c .before .before .before .before .before .before .before .before .before .before .before .before .before .before .before .before .before .before .before .before .lay-start .kept)) (e .kept .1 .1 .1 .1 .0) (c .if1 .taken)
+    seek-none x y long (seek-from x y long is) (seek-same x y long (e .ensures th (seekTable x y long) (seek-slot x y long) (seek-memory x y long) (y .starts .0) (seek-base x y long is))) (z .ensures) (omega (arith, z .kept, e .kept .1 .1 .1 .0, c .before .before .before .before .before .before .before .before .before .before .before .before .before .before .before .before .before .before .before .before .lay-start .kept)) (e .kept .1 .1 .1 .1 .0) (c .if1 .taken)
 
 returns-2 : tie.Need-returns-2
 returns-2 c =
@@ -70,7 +70,7 @@ returns-2 c =
     let y = l T (seek-laying x) in
     let long = c .before .before .before .before .before .before .before .before .before .before .before .before .before .before .before .before .before .before .before .before .lay-start .kept .1 .1 .1 .1 .0 in
     let is = worth (c .before .before .before .before .before .before .before .before .before .before .before .before .before) x in
-    seek-found x y long (seek-from x y long is) (seek-same x y long (e .ensures th (seekTable x y long) (seek-slot x y long) (seek-memory x y long) (seek-base x y long is))) (z .ensures) (omega (arith, z .kept, e .kept .1 .1 .1 .0, c .before .before .before .before .before .before .before .before .before .before .before .before .before .before .before .before .before .before .before .before .lay-start .kept)) (e .kept .1 .1 .1 .1 .0) (omega (arith, c .if1 .left))
+    seek-found x y long (seek-from x y long is) (seek-same x y long (e .ensures th (seekTable x y long) (seek-slot x y long) (seek-memory x y long) (y .starts .0) (seek-base x y long is))) (z .ensures) (omega (arith, z .kept, e .kept .1 .1 .1 .0, c .before .before .before .before .before .before .before .before .before .before .before .before .before .before .before .before .before .before .before .before .lay-start .kept)) (e .kept .1 .1 .1 .1 .0) (omega (arith, c .if1 .left))
 
 pub search-nodes-spec : {M : Type 1} → statement M
 search-nodes-spec =

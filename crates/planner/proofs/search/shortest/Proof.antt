@@ -10,65 +10,66 @@ use Rattle.pack.specs.Syntax.{Node, Theory}
 use Rattle.pack.specs.State.{meaning}
 use Rattle.pack.specs.Contracts.Table.{Below, Above}
 use Rattle.chart.specs.Call.{workRoom}
+use Rattle.chart.specs.Chart.{Written}
 use Rattle.planner.specs.Ending.{authorUtility}
 use Rattle.planner.specs.Inner.Lists.{slotTable, Ends}
 use Rattle.planner.specs.Inner.Memory.{Memory}
 use Rattle.planner.specs.Inner.Explain.{Stage}
 use Rattle.planner.specs.Inner.Search.{Shortest}
 use Rattle.planner.proofs.Telling.{slot-same}
-use Rattle.planner.proofs.Completing.{trail-none}
+use Rattle.planner.proofs.Completing.{trail-outset}
 use Rattle.planner.proofs.Seeking.{shorter, shortest-found, shortest-none}
 use Rattle.planner.proofs.search.shortest.Statement.{statement}
 use Rattle.planner.proofs.search.shortest.Tie as tie
 
 abbrev Inv-loop : tie.InvT-loop
-Inv-loop pack places p work₀ list₀ s e k base n₀ work list n =
+Inv-loop pack places p work₀ list₀ s k e base n₀ work list n =
     (0 < n) × (length work ≡ length work₀) × (list ≡ list₀) × Below work₀ work 961 × Above work₀ work workRoom
-    × ((th : Theory) (T : List Node) → Stage th T pack places p work₀ (slotTable p work₀ 0) 961 → Memory th (k .0) p 961 work₀ → authorUtility th (meaning (p .characters) T 0) ≤ base → Memory th (k .0) p 961 work × ((l : List ℕ) (v : ℕ) → 0 < length l → length l < n → ¬ Ends th (k .0) (e .0) base (meaning (p .characters) T 0) l v))
+    × ((th : Theory) (T : List Node) → Stage th T pack places p work₀ (slotTable p work₀ 0) 961 → Memory th (k .0) p 961 work₀ → Written (p .characters) T → authorUtility th (meaning (p .characters) T 0) ≤ base → Memory th (k .0) p 961 work × ((l : List ℕ) (v : ℕ) → 0 < length l → length l < n → ¬ Ends th (k .0) (e .0) base (meaning (p .characters) T 0) l v))
 
 abbrev μ-loop : tie.MeasureT-loop
-μ-loop pack places p work₀ list₀ s e k base n₀ work list n = s .0 + 1 - n
+μ-loop pack places p work₀ list₀ s k e base n₀ work list n = s .0 + 1 - n
 
 loop-holds : tie.Need-loop-holds Inv-loop μ-loop
-loop-holds c = (omega arith, refl, refl, λ q l. refl, λ q l. refl, λ th T y mem le. (mem, λ l v h k. absurd (omega (arith, h, k))))
+loop-holds c = (omega arith, refl, refl, λ q l. refl, λ q l. refl, λ th T y mem wr le. (mem, λ l v h k. absurd (omega (arith, h, k))))
 
 completes-requires : tie.Need-completes-requires Inv-loop μ-loop
 completes-requires c κs =
     let P = c .before .before .before .before .before .before .before .before .before .pre in
     let a = c .before .before .before .before .before .before .before .before .before .args in
-    let (th, (T, (y, mem, le))) = P .0 in
+    let (th, (T, (y, mem, wr, le))) = P .0 in
     let (some, long, same, low, high, rest) = c .before .before .before .before .loop .inv in
     let few = c .before .before .if1 .taken in
-    ((th, (T, (slot-same 0 y low long, rest th T y mem le .0, trail-none th (a .k .0) (a .e .0) (a .base) (meaning (a .p .characters) T 0) _ le (rest th T y mem le .1)))), P .1, P .2, omega (arith, few, P .4, mul-le-mul-left (a .k .0) (P .3), mul-le-mul-right 3 (P .2)), omega (arith, few, P .4, P .5, ap length same), omega arith)
+    ((th, (T, (slot-same 0 y low long, rest th T y mem wr le .0, trail-outset (a .k .0) (a .e .0) (a .base) y low long wr le (rest th T y mem wr le .1)))), P .1, P .2, omega (arith, few, P .4, mul-le-mul-left (a .k .0) (P .3), mul-le-mul-right 3 (P .2)), omega (arith, few, P .4, P .5, ap length same), omega arith)
 
 returns : tie.Need-returns Inv-loop μ-loop
 returns c =
     let a = c .before .before .before .before .before .before .before .before .before .before .before .before .before .before .before .args in
     let d = c .before .before .before .before .before .completes in
     let (some, long, same, low, high, rest) = c .before .before .before .before .before .before .before .before .before .before .loop .inv in
-    λ th T y mem le. subst (λ (was : List ℕ). Shortest (Ends th (a .k .0) (a .e .0) (a .base) (meaning (a .p .characters) T 0)) (a .s .0) was (d .last .1 .1 .1 .1 .1 .0) (a .work .now) (d .last .1 .1 .1 .0) (record { length = c .before .before .before .before .before .before .before .before .before .before .loop .n; after = d .result })) same
-    (shortest-found low high some (omega (arith, c .before .before .before .before .before .before .before .before .if1 .taken)) (rest th T y mem le .1) (omega (arith, c .if2 .taken)) (d .ensures th T (slot-same 0 y low long) (rest th T y mem le .0) (trail-none th (a .k .0) (a .e .0) (a .base) (meaning (a .p .characters) T 0) _ le (rest th T y mem le .1))))
+    λ th T y mem wr le. subst (λ (was : List ℕ). Shortest (Ends th (a .k .0) (a .e .0) (a .base) (meaning (a .p .characters) T 0)) (a .s .0) was (d .last .1 .1 .1 .1 .1 .0) (a .work .now) (d .last .1 .1 .1 .0) (record { count = c .before .before .before .before .before .before .before .before .before .before .loop .n; after = d .result })) same
+    (shortest-found low high some (omega (arith, c .before .before .before .before .before .before .before .before .if1 .taken)) (rest th T y mem wr le .1) (omega (arith, c .if2 .taken)) (d .ensures th T (slot-same 0 y low long) (rest th T y mem wr le .0) (trail-outset (a .k .0) (a .e .0) (a .base) y low long wr le (rest th T y mem wr le .1))))
 
 loop-again : tie.Need-loop-again Inv-loop μ-loop
 loop-again c =
     let a = c .before .before .before .before .before .before .before .before .before .before .before .before .before .before .before .args in
     let d = c .before .before .before .before .before .completes in
     let (some, long, same, low, high, rest) = c .before .before .before .before .before .before .before .before .before .before .loop .inv in
-    let (th, (T, (y, mem, le))) = c .before .before .before .before .before .before .before .before .before .before .before .before .before .before .before .pre .0 in
+    let (th, (T, (y, mem, wr, le))) = c .before .before .before .before .before .before .before .before .before .before .before .before .before .before .before .pre .0 in
     let zero : d .result ≡ 0 = omega (arith, c .if2 .left) in
-    let b = d .ensures th T (slot-same 0 y low long) (rest th T y mem le .0) (trail-none th (a .k .0) (a .e .0) (a .base) (meaning (a .p .characters) T 0) _ le (rest th T y mem le .1)) in (
+    let b = d .ensures th T (slot-same 0 y low long) (rest th T y mem wr le .0) (trail-outset (a .k .0) (a .e .0) (a .base) y low long wr le (rest th T y mem wr le .1)) in (
       omega arith,
       d .kept .1 .1 .1 .0 ∙ long,
       b .none zero .0 ∙ same,
       λ q l. b .low q l ∙ low q l,
       λ q l. b .high q l ∙ high q l,
-      λ th T y mem le. let b = d .ensures th T (slot-same 0 y low long) (rest th T y mem le .0) (trail-none th (a .k .0) (a .e .0) (a .base) (meaning (a .p .characters) T 0) _ le (rest th T y mem le .1)) in (b .memory, shorter (rest th T y mem le .1) (b .none zero .1)),
+      λ th T y mem wr le. let b = d .ensures th T (slot-same 0 y low long) (rest th T y mem wr le .0) (trail-outset (a .k .0) (a .e .0) (a .base) y low long wr le (rest th T y mem wr le .1)) in (b .memory, shorter (rest th T y mem wr le .1) (b .none zero .1)),
     )
 
 returns-2 : tie.Need-returns-2 Inv-loop μ-loop
 returns-2 c =
     let (some, long, same, low, high, rest) = c .before .before .loop .inv in
-    λ th T y mem le. shortest-none low high (omega (arith, c .if1 .left)) same (rest th T y mem le .1)
+    λ th T y mem wr le. shortest-none low high (omega (arith, c .if1 .left)) same (rest th T y mem wr le .1)
 
 same-length : tie.Need-same-length Inv-loop μ-loop
 same-length c = c .before .before .before .before .before .completes .kept .1 .1 .1 .0 ∙ c .before .before .before .before .before .before .before .before .before .before .loop .inv .1

@@ -1,0 +1,15 @@
+-- T first, then K and E. Assumes nothing.
+use mathlib.Core.Path.{_∙_}
+use borrow.Author.Needs.{needs}
+use Rattle.chart.specs.Laws.Arguments.{both-there, not-there}
+use Rattle.planner.proofs.limits.searchable.Statement.{statement}
+use Rattle.planner.proofs.limits.searchable.Tie as tie
+
+returns : tie.Need-returns
+returns c = c .explainable .ensures ∙ both-there _ (c .before .before .both-at-most .ensures) (c .before .if1 .taken)
+
+returns-2 : tie.Need-returns-2
+returns-2 c = not-there _ (c .before .both-at-most .ensures) (c .if1 .left)
+
+pub searchable-spec : {M : Type 1} → statement M
+searchable-spec = tie.close (tie.spec (λ c κs. search needs) (λ c κs. search needs) returns returns-2)

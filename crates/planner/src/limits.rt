@@ -1,0 +1,36 @@
+// The limits: separate counters with one meaning each, and a type each, so that none is passed as another.
+use chart::call::both_at_most;
+ghost use mathlib.Core.Path.{_≡_};
+ghost use mathlib.Core.Bool.{_&&_};
+ghost use Rattle.planner.specs.Replies.{storyLimit, foresightLimit, nestingLimit};
+
+// The story limit T: how many actions an ending may have, 1 to 8.
+pub struct Story(pub usize);
+
+// The foresight limit K: how many actions a list that explains an action may have, 1 to 6.
+pub struct Foresight(pub usize);
+
+// The nesting limit E: how often an explanation may rest on another, 0 to 3.
+pub struct Nesting(pub usize);
+
+// Whether K and E are within their limits.
+pub fn explainable(k: Foresight, e: Nesting) -> bool
+    ensures { λ r. ⌜ r ≡ (foresightLimit (k .0) && nestingLimit (e .0)) ⌝ }
+{
+    if both_at_most(1, k.0, k.0, 6) {
+        e.0 <= 3
+    } else {
+        false
+    }
+}
+
+// Whether T, K and E are.
+pub fn searchable(t: Story, k: Foresight, e: Nesting) -> bool
+    ensures { λ r. ⌜ r ≡ (storyLimit (t .0) && (foresightLimit (k .0) && nestingLimit (e .0))) ⌝ }
+{
+    if both_at_most(1, t.0, t.0, 8) {
+        explainable(k, e)
+    } else {
+        false
+    }
+}
