@@ -53,6 +53,8 @@ pub const APART: [Off; 3] = [
 
 /// A program that searches packs and prints the steps of each search: a line `T K E FILE` each on its input.
 const PROGRAM: &str = r#"
+use planner::limits::{Foresight, Nesting, Story};
+
 fn main() {
     let (mut work, mut list) = (vec![0u8; 49152], [0u8; 8]);
     for line in std::io::stdin().lines() {
@@ -61,7 +63,8 @@ fn main() {
         let limit = |i: usize| words[i].parse().unwrap();
         let pack = std::fs::read(words[3]).unwrap();
         transition::step::STEPS.store(0, std::sync::atomic::Ordering::Relaxed);
-        planner::search::search(&pack, limit(0), limit(1), limit(2), &mut list, &mut work);
+        let limits = (Story(limit(0)), Foresight(limit(1)), Nesting(limit(2)));
+        planner::search::search(&pack, limits.0, limits.1, limits.2, &mut list, &mut work);
         println!("{}", transition::step::STEPS.load(std::sync::atomic::Ordering::Relaxed));
     }
 }
