@@ -1,3 +1,4 @@
 pub mod Report
 pub mod Exports
 pub mod Laws
+pub mod Theorems

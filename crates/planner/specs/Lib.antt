@@ -6,4 +6,3 @@ pub mod Answers
 pub mod Replies
 pub mod Promises
 pub mod Readings
-pub mod Theorems

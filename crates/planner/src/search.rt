@@ -238,10 +238,7 @@ pub fn shortest(
         }
         n += 1;
     }
-    Ended {
-        count: 0,
-        after: 0,
-    }
+    Ended { count: 0, after: 0 }
 }
 
 // Lays the nodes that are read from `first` on out in the first slot, merged, and empties the memory: what is known of lists first and the rest last, since each by itself is short

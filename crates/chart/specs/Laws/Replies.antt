@@ -97,7 +97,7 @@ module _ {pack : List ℕ} {p : Pack} (g : Given pack p) where
       (long-enough workRoom work hw) g (both-true (below chain v) (lt-ltb fluent (fluents (p .theory)) l)) c
 
   module _ (first second chain work : List ℕ) (t u : List Node) (c : Chart (p .theory) first t) (d : Chart (p .theory) second u) (hc : chainRoom ≤ length chain) (hw : workRoom ≤ length work) where
-    compares : compareReply pack first second chain work ≡ gives (compareTable C (fluents (p .theory)) t u)
+    pub compares : compareReply pack first second chain work ≡ gives (compareTable C (fluents (p .theory)) t u)
     unfolding compareReply
     compares =
         call-two (fits chainRoom chain && fits workRoom work) (λ p. true) (λ p tables. gives (compareTable (p .theory .characters) (fluents (p .theory)) (getD tables 0 []) (getD tables 1 [])))

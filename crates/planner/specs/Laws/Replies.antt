@@ -30,7 +30,7 @@ module _ {pack : List ℕ} {p : Pack} (g : Given pack p) where
 
   module _ (chart : List ℕ) (t : List Node) (c : Chart (p .theory) chart t) (character action K E : ℕ) (hc : character < C) (ha : action < length (p .theory .actions)) (k1 : 1 ≤ K) (k6 : K ≤ 6) (e3 : E ≤ 3)
       (work : List ℕ) (hw : workRoom ≤ length work) where
-    explains : explainedReply pack chart character action K E work ≡ gives (explainedTable (p .theory) K E character action t)
+    pub explains : explainedReply pack chart character action K E work ≡ gives (explainedTable (p .theory) K E character action t)
     unfolding explainedReply
     explains =
         call-one (fits workRoom work) (λ p. ltb character (p .characters) && (ltb action (length (p .actions)) && (foresightLimit K && nestingLimit E)))
