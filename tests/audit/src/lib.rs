@@ -8,6 +8,7 @@ pub mod counts;
 pub mod edits;
 pub mod layers;
 pub mod lengths;
+pub mod pages;
 pub mod words;
 
 use std::fs;
