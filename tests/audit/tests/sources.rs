@@ -54,9 +54,9 @@ fn definitions_are_reached() {
 
 #[test]
 fn use_lines_are_read() {
-    assert_eq!(believed::used("use Rattle.state.specs.Syntax.{Node}"), Some((Some("state"), "Syntax")));
+    assert_eq!(believed::used("use Rattle.pack.specs.Syntax.{Node}"), Some((Some("pack"), "Syntax")));
     assert_eq!(believed::used("use Rattle.chart.specs.Laws.Moore as moore"), Some((None, "Laws.Moore")));
-    assert_eq!(believed::used("use Rattle.state.specs.declared.table.Table.{Table}"), None);
+    assert_eq!(believed::used("use Rattle.pack.specs.declared.table.Table.{Table}"), None);
     assert_eq!(believed::used("use lib.ListN.{length}"), None);
 }
 
