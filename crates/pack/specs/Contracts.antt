@@ -7,3 +7,4 @@ pub mod Copy
 pub mod Answer
 pub mod Places
 pub mod Contents
+pub mod Effects

@@ -16,3 +16,4 @@ pub mod Rows
 pub mod Judged
 pub mod OneByte
 pub mod WrittenValues
+pub mod Wanted

@@ -6,6 +6,7 @@ use crate::effect::check_effects;
 use crate::number::Checked;
 use crate::number::Number;
 use crate::number::read_between;
+use crate::places::ACTION;
 ghost use Prim.Native.Nat.{_+_, _≤_};
 ghost use lib.ListN.{length};
 ghost use Rattle.pack.specs.Contracts.Answer.{dims};
@@ -93,7 +94,7 @@ pub fn read_actions(
             let mut n = first;
             let mut left = count;
             while 0 < left {
-                match read_action(s, n, characters, domains, places, 9 * i) {
+                match read_action(s, n, characters, domains, places, ACTION * i) {
                     Checked::Refused(k, p) => {
                         return Number::Refused(k, p);
                     }

@@ -4,6 +4,7 @@ use crate::number::read_number;
 use crate::number::wide;
 use crate::table::Table;
 use crate::table::follow;
+use crate::test::after_test;
 ghost use Prim.Native.Nat.{ℕ, _<_};
 ghost use mathlib.Core.Path.{_≡_};
 ghost use mathlib.Core.List.{List};
@@ -48,7 +49,7 @@ pub fn all_pass(s: &[u8], at: usize, buffer: &[u8], t: Table, node: usize) -> bo
     while 0 < left {
         let passed = passes(s, n, buffer, t, node);
         if passed {
-            n = n + 4 + wide(s[n]);
+            n = after_test(s, n);
             left = left - 1;
         } else {
             return false;
@@ -65,7 +66,7 @@ pub fn after_alternative(s: &[u8], at: usize) -> usize
     let mut n = at + 1;
     let mut left = wide(s[at]);
     while 0 < left {
-        n = n + 4 + wide(s[n]);
+        n = after_test(s, n);
         left = left - 1;
     }
     n

@@ -5,6 +5,7 @@ pub mod condition; // conditions, checked
 pub mod contents; // a whole pack
 pub mod copy; // nodes copied into a table
 pub mod effect; // effects and consenters, checked
+pub mod effects; // the walk over effects where they stand
 pub mod head; // version, characters, domains
 pub mod judge; // conditions and utilities judged in place
 pub mod node; // nodes, as a pack or a chart has them, and a whole chart
@@ -13,6 +14,7 @@ pub mod places; // where the places of its parts stand among those that are mark
 pub mod plain; // tests with one byte a number, passed over at once
 pub mod reader; // a reader that holds the bytes and a position, and hands out number after number
 pub mod table; // a table of states in a buffer, and where a chain leads
+pub mod test; // a test taken apart where it stands
 pub mod trigger; // triggers, with the places of their parts
 pub mod utility; // rules, checked, with their places
 pub mod write; // effects written in place, and consenters

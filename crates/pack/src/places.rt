@@ -1,6 +1,19 @@
 // Where the places of a pack's parts stand among those that are marked. Those of the actions come first, nine for each: condition, effects, consenters, and an observation condition for
 // each character. Behind them are those of the triggers, two for each, and of the utilities, one for each.
 
+// How many places there are for an action; its condition is the first of them, and these are its effects, its consenters and
+// the first character's observation condition.
+pub const ACTION: usize = 9;
+
+pub const EFFECTS: usize = 1;
+
+pub const CONSENTERS: usize = 2;
+
+pub const OBSERVED: usize = 3;
+
+// How many there are for a trigger: its condition, and its effects.
+pub const TRIGGER: usize = 2;
+
 // The condition of the first trigger, and its effects.
 pub const TRIGGERS: usize = 288;
 

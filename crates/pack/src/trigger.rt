@@ -4,6 +4,7 @@ use crate::effect::check_effects;
 use crate::number::Checked;
 use crate::number::Number;
 use crate::number::read_between;
+use crate::places::TRIGGER;
 use crate::places::TRIGGERS;
 ghost use Prim.Native.Nat.{_+_, _≤_};
 ghost use lib.ListN.{length};
@@ -50,7 +51,7 @@ pub fn read_triggers(
             let mut n = first;
             let mut left = count;
             while 0 < left {
-                match read_trigger(s, n, characters, domains, places, TRIGGERS + 2 * i) {
+                match read_trigger(s, n, characters, domains, places, TRIGGERS + TRIGGER * i) {
                     Checked::Refused(k, p) => {
                         return Number::Refused(k, p);
                     }

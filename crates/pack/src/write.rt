@@ -1,4 +1,5 @@
 // Effects written in place, into the values of a row, and the consenters of an action.
+use crate::effects::after_effect;
 use crate::number::wide;
 ghost use Prim.Native.Nat.{ℕ, _<_, _+_};
 ghost use mathlib.Core.Path.{_≡_};
@@ -36,7 +37,7 @@ pub fn write_effects(
     let mut left = wide(s[at]);
     while 0 < left {
         write_effect(s, n, whom, buffer, row, fluents);
-        n = n + 3;
+        n = after_effect(s, n);
         left = left - 1;
     }
 }

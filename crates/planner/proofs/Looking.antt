@@ -16,11 +16,12 @@ use Rattle.pack.specs.Number.{counted, numberAt}
 use Rattle.pack.specs.Grammar.{Dimensions, dimensions, testAt, conditionAt, rulesAt, ruleAt, effectAt, effectsAt}
 use Rattle.pack.specs.Condition.{compares, passes, holds, utility}
 use Rattle.pack.specs.Contracts.Contents.{Gives}
-use Rattle.pack.specs.Contracts.Judge.{alternativeAt, Small, Over, Readable, Judged}
-use Rattle.pack.specs.Contracts.Table.{stateOf, bytesAt}
+use Rattle.pack.specs.Contracts.Judge.{alternativeAt, Small, Over, Readable, Judged, Tells, Ends}
+use Rattle.pack.specs.Contracts.Effects.{asks, someOf}
+use Rattle.pack.specs.Contracts.Table.{stateOf}
+use Rattle.pack.specs.declared.effects.Wanted.the-variants.{Sets}
 use Rattle.pack.specs.declared.table.Table.{Table}
-use Rattle.pack.specs.Laws.Judged.{Left, Next, left-start, left-one, left-next, left-last, left-none, counted-starts, test-ends, RuleParts, rule-parts}
-use Rattle.pack.specs.Laws.OneByte.{test-bytes, effect-bytes}
+use Rattle.pack.specs.Laws.Judged.{Left, Next, left-start, left-one, left-next, left-last, left-none, counted-starts, RuleParts, rule-parts}
 use Rattle.transition.specs.Happening.{nothing, actionOf, Plays}
 use Rattle.transition.specs.Laws.ChangedRows as changing
 use Rattle.transition.specs.Laws.Still.{writes, triggerWrites, plays-still, couldAt, couldPass, couldAll, couldHold, couldExceed, no-exceed}
@@ -99,55 +100,6 @@ module _ {A K : Type 0} (w : Run A K) (s : List ℕ) (from : ℕ) where
         let y = one k xs g in
         left-next (w .part k) s (w .tells k) xs (g .end) n left y m (ends k (y .item) (run-here k xs g)) (e k (y .item) (y .rest) (run-here k xs g))
 
--- Effects, over small dimensions
-abbrev Tiny : Type 0
-Tiny = (d : Dimensions) × Small d
-
-abbrev pub effectRun : ℕ → Run Effect Tiny
-effectRun fluent = record { part = λ k. effectAt (k .0); limit = 17; tells = λ k es. writes es fluent }
-
-module _ (s : List ℕ) (n : ℕ) (d : Dimensions) (small : Small d) (e : Effect) (g : Gives (effectAt d) s n e) (fluent : ℕ) where
-  pub effect-ends : g .end ≡ n + 3
-  effect-ends = effect-bytes d small s n e (g .end) (g .reads) .ends
-
-  -- it is meant for the state itself, and writes the fluent
-  pub sets-is : {b : Bool} {v : ℕ} → getD s n 0 ≡ 0 → getD s (n + 1) 0 ≡ v → b ≡ eqb v fluent → b ≡ (eqb (e .whom) 0 && eqb (e .fluent) fluent)
-  sets-is {b} own at q =
-      let y = effect-bytes d small s n e (g .end) (g .reads) in
-      q ∙ ap (λ (v : ℕ). eqb v fluent) (sym (y .fluent ∙ at)) ∙ ap (λ (a : Bool). a && eqb (e .fluent) fluent) (sym (eq-eqb (e .whom) 0 (y .whom ∙ own)))
-
-  pub sets-not : (getD s n 0 ≡ 0 → ⊥) → false ≡ (eqb (e .whom) 0 && eqb (e .fluent) fluent)
-  sets-not other =
-      let y = effect-bytes d small s n e (g .end) (g .reads) in
-      ap (λ (a : Bool). a && eqb (e .fluent) fluent) (sym (ne-eqb (e .whom) 0 (λ z. other (sym (y .whom) ∙ z))))
-
-  pub writes-by : {b c : Bool} (rest : List Effect) → b ≡ (eqb (e .whom) 0 && eqb (e .fluent) fluent) → b ≡ c → writes (e ∷ rest) fluent ≡ (c || writes rest fluent)
-  unfolding writes
-  writes-by rest q t = ap (λ (a : Bool). a || writes rest fluent) (sym q ∙ t)
-
-module _ {s : List ℕ} where
-  pub effect-read : {n : ℕ} → Readable effectAt s n → n + 2 < length s
-  effect-read {n} x = effect-bytes (x .over) (x .small) s n (x .value) (x .end) (x .reads) .inside
-
-  module _ {from : ℕ} (x : Readable effectsAt s from) where
-    pub effects-inside : from < length s
-    unfolding effectsAt
-    effects-inside = run-inside (effectRun 0) s from (omega arith) (x .over, x .small) (x .value) (record { end = x .end; reads = x .reads })
-
-    pub effects-next : (fluent : ℕ) {n left : ℕ} → Rest (effectRun fluent) s from n left → 0 < left → Readable effectAt s n
-    unfolding effectsAt
-    effects-next fluent i h =
-        let g = run-here (effectRun fluent) s from i h (x .over, x .small) (x .value) (record { end = x .end; reads = x .reads }) in
-        record { over = x .over; small = x .small; value = run-item (effectRun fluent) s from i h (x .over, x .small) (x .value) (record { end = x .end; reads = x .reads }); end = g .end; reads = g .reads }
-
-  pub writes-told : {from : ℕ} (fluent : ℕ) {b : Bool} → Told (effectRun fluent) s from b → (d : Dimensions) → Small d → (es : List Effect) → Gives (effectsAt d) s from es → b ≡ writes es fluent
-  unfolding effectsAt
-  writes-told fluent w d small es g = w (d, small) es g
-
-pub writes-none : (fluent : ℕ) → writes [] fluent ≡ false
-unfolding writes
-writes-none fluent = refl
-
 -- Triggers; `idle` stands for one that isn't there
 abbrev pub idle : Trigger
 idle = record { condition = []; effects = [] }
@@ -174,7 +126,7 @@ module _ (pack places : List ℕ) (triggers a fluent : ℕ) where
 
   -- what is told of the effects at a place
   abbrev pub WritesAt : ℕ → Bool → Type 0
-  WritesAt at r = (d : Dimensions) → Small d → (es : List Effect) → Gives (effectsAt d) pack at es → r ≡ writes es fluent
+  WritesAt at r = Tells effectsAt (someOf (asks (Sets fluent))) pack at r
 
   pub acted-few : Acted pack places triggers a → (a < 32) × (triggers ≤ 16) × (327 ≤ length places)
   acted-few x = let y = x .acting .theorized in (omega (arith, x .acting .there, y .found .mostActions), y .found .mostTriggers, y .marked)
@@ -186,10 +138,10 @@ module _ (pack places : List ℕ) (triggers a fluent : ℕ) where
   own-readable x = let g = own (x .theory) (x .acting) in record { over = dimensions (x .theory); small = x .acting .theorized .small; value = actionOf (x .theory) a .effects; end = g .end; reads = g .reads }
 
   pub own-moves : {r : Bool} → WritesAt (getD places (9 * a + 1) 0) r → r ≡ true → Moved pack places triggers a fluent true
-  own-moves w e p x = sym (ap (λ (b : Bool). b || triggerWrites (p .triggers) fluent) (sym (w (dimensions p) (x .theorized .small) (actionOf p a .effects) (own p x)) ∙ e))
+  own-moves w e p x = sym (ap (λ (b : Bool). b || triggerWrites (p .triggers) fluent) (sym (w (dimensions p) (x .theorized .small) (actionOf p a .effects) (own p x .end) (own p x .reads)) ∙ e))
 
   pub own-still : {r : Bool} → WritesAt (getD places (9 * a + 1) 0) r → r ≡ false → Unmoved 0
-  own-still w e p x = (sym (w (dimensions p) (x .theorized .small) (actionOf p a .effects) (own p x)) ∙ e, λ j l. absurd (omega arith))
+  own-still w e p x = (sym (w (dimensions p) (x .theorized .small) (actionOf p a .effects) (own p x .end) (own p x .reads)) ∙ e, λ j l. absurd (omega arith))
 
   module _ (i : ℕ) (l : i < triggers) where
     place : (289 + 2 * i) ≡ (288 + 2 * i) + 1
@@ -203,10 +155,10 @@ module _ (pack places : List ℕ) (triggers a fluent : ℕ) where
 
     pub next-moves : {r : Bool} → WritesAt (getD places (289 + 2 * i) 0) r → r ≡ true → Unmoved i → Moved pack places triggers a fluent true
     next-moves w e u p x =
-        sym (ap (λ (b : Bool). b || triggerWrites (p .triggers) fluent) (u p x .0) ∙ trigger-writes (p .triggers) fluent i (omega (arith, x .theorized .found .triggers)) (sym (w (dimensions p) (x .theorized .small) (getD (p .triggers) i idle .effects) (next p x)) ∙ e))
+        sym (ap (λ (b : Bool). b || triggerWrites (p .triggers) fluent) (u p x .0) ∙ trigger-writes (p .triggers) fluent i (omega (arith, x .theorized .found .triggers)) (sym (w (dimensions p) (x .theorized .small) (getD (p .triggers) i idle .effects) (next p x .end) (next p x .reads)) ∙ e))
 
     pub next-still : {r : Bool} → WritesAt (getD places (289 + 2 * i) 0) r → r ≡ false → Unmoved i → Unmoved (i + 1)
-    next-still w e u p x = (u p x .0, λ j h. below-more (λ (j : ℕ). writes (getD (p .triggers) j idle .effects) fluent ≡ false) i (u p x .1) (sym (w (dimensions p) (x .theorized .small) (getD (p .triggers) i idle .effects) (next p x)) ∙ e) j h)
+    next-still w e u p x = (u p x .0, λ j h. below-more (λ (j : ℕ). writes (getD (p .triggers) j idle .effects) fluent ≡ false) i (u p x .1) (sym (w (dimensions p) (x .theorized .small) (getD (p .triggers) i idle .effects) (next p x .end) (next p x .reads)) ∙ e) j h)
 
   pub all-still : {i : ℕ} → triggers ≤ i → Unmoved i → Moved pack places triggers a fluent false
   all-still h u p x = sym (ap (λ (b : Bool). b || triggerWrites (p .triggers) fluent) (u p x .0) ∙ triggers-still (p .triggers) fluent (λ j l. u p x .1 j (omega (arith, x .theorized .found .triggers))))
@@ -276,50 +228,43 @@ module _ (pack places : List ℕ) (triggers a : ℕ) (work : List ℕ) (t : Tabl
 
   -- a test
   module _ (n : ℕ) where
-    pub test-inside : Lookable testAt pack places triggers a n work t → n + 3 < length pack
-    test-inside x = let b = test-bytes (dimensions (x .theory)) (small (x .looking)) pack n (x .value) (x .stands .end) (x .stands .reads) in omega (arith, b .inside)
+    pub test-there : Lookable testAt pack places triggers a n work t → Readable testAt pack n
+    test-there x = record { over = dimensions (x .theory); small = small (x .looking); value = x .value; end = x .stands .end; reads = x .stands .reads }
 
-    pub test-room : {k : ℕ} → Lookable testAt pack places triggers a n work t → getD pack n 0 ≡ k → (n + 4) + k ≤ length pack
-    test-room {k} x e = test-ends (dimensions (x .theory)) (small (x .looking)) pack n (x .value) (x .stands .end) (x .stands .reads) k e .1
+    -- how long its chain is
+    module _ {k : ℕ} (chain : Tells testAt (λ (x : Test). length (x .chain)) pack n k) where
+      -- about what is believed
+      pub pass-open : (k ≡ 0 → ⊥) → Looked testAt couldPass pack places triggers a n work t true
+      unfolding couldAt
+      pass-open z p x v g = sym (go (v .chain) (chain (dimensions p) (small x) v (g .end) (g .reads)))
+        where
+          go : (ch : List ℕ) → k ≡ length ch → couldAt (movedBy p a) S ch v ≡ true
+          go [] e = absurd (z e)
+          go (c ∷ ch) e = refl
 
-    -- about what is believed
-    pub pass-open : (getD pack n 0 ≡ 0 → ⊥) → Looked testAt couldPass pack places triggers a n work t true
-    unfolding couldAt bytesAt
-    pass-open z p x v g =
-        let b = test-bytes (dimensions p) (small x) pack n v (g .end) (g .reads) in
-        sym (ap (λ (chain : List ℕ). couldAt (movedBy p a) S chain v) (b .chain) ∙ go (getD pack n 0) z)
-      where
-        go : (k : ℕ) → (k ≡ 0 → ⊥) → couldAt (movedBy p a) S (bytesAt pack (n + 1) k) v ≡ true
-        go zero z = absurd (z refl)
-        go (suc k) z = refl
+      -- about the state itself: what it says of its fluent
+      module _ (z : k ≡ 0) {f : ℕ} (fluent : Tells testAt (λ (x : Test). x .fluent) pack n f) where
+        own-is : (p : Theory) → Looking p pack places triggers a work t → (v : Test) → Gives (testAt (dimensions p)) pack n v → couldPass (movedBy p a) S v ≡ (movedBy p a f || passes S v)
+        unfolding couldAt passes
+        own-is p x v g =
+            let here = nil (v .chain) (sym (chain (dimensions p) (small x) v (g .end) (g .reads)) ∙ z) in
+            ap (λ (c : List ℕ). couldAt (movedBy p a) S c v) here
+            ∙ ap (λ (f : ℕ). movedBy p a f || compares (v .kind) (getD (S []) (v .fluent) 0) (v .value)) (sym (fluent (dimensions p) (small x) v (g .end) (g .reads)))
+            ∙ ap (λ (c : List ℕ). movedBy p a f || compares (v .kind) (getD (S c) (v .fluent) 0) (v .value)) (sym here)
+          where
+            nil : (l : List ℕ) → length l ≡ 0 → l ≡ []
+            nil [] e = refl
+            nil (c ∷ l) e = absurd (omega (arith, e))
 
-    -- about the state itself
-    module _ (z : getD pack n 0 ≡ 0) where
-      own-chain : (p : Theory) → Looking p pack places triggers a work t → (v : Test) → Gives (testAt (dimensions p)) pack n v → (v .chain ≡ []) × (v .fluent ≡ getD pack (n + 2) 0)
-      unfolding bytesAt
-      own-chain p x v g =
-          let b = test-bytes (dimensions p) (small x) pack n v (g .end) (g .reads) in
-          let at : ((n + 1) + getD pack n 0) + 1 ≡ n + 2 = omega (arith, z) in
-          (b .chain ∙ ap (bytesAt pack (n + 1)) z, b .fluent ∙ ap (λ (q : ℕ). getD pack q 0) at)
+        pub pass-moved : {r : Bool} → Moved pack places triggers a f r → r ≡ true → Looked testAt couldPass pack places triggers a n work t true
+        pass-moved m r p x v g = sym (own-is p x v g ∙ ap (λ (b : Bool). b || passes S v) (sym (m p (x .acting)) ∙ r))
 
-      own-is : (p : Theory) → Looking p pack places triggers a work t → (v : Test) → Gives (testAt (dimensions p)) pack n v → couldPass (movedBy p a) S v ≡ (movedBy p a (getD pack (n + 2) 0) || passes S v)
-      unfolding couldAt passes
-      own-is p x v g =
-          let (chain, fluent) = own-chain p x v g in
-          ap (λ (c : List ℕ). couldAt (movedBy p a) S c v) chain
-          ∙ ap (λ (f : ℕ). movedBy p a f || compares (v .kind) (getD (S []) (v .fluent) 0) (v .value)) fluent
-          ∙ ap (λ (c : List ℕ). movedBy p a (getD pack (n + 2) 0) || compares (v .kind) (getD (S c) (v .fluent) 0) (v .value)) (sym chain)
+        pub pass-still : {r b : Bool} → Moved pack places triggers a f r → r ≡ false → ((d : Dimensions) → Over d t → (v : Test) (m : ℕ) → testAt d pack n ≡ done v m → b ≡ passes S v) → Looked testAt couldPass pack places triggers a n work t b
+        pass-still m r q p x v g = q (dimensions p) (x .over) v (g .end) (g .reads) ∙ sym (own-is p x v g ∙ ap (λ (b : Bool). b || passes S v) (sym (m p (x .acting)) ∙ r))
 
-      pub pass-moved : {f : ℕ} {r : Bool} → getD pack (n + 2) 0 ≡ f → Moved pack places triggers a f r → r ≡ true → Looked testAt couldPass pack places triggers a n work t true
-      pass-moved e m r p x v g = sym (own-is p x v g ∙ ap (λ (f : ℕ). movedBy p a f || passes S v) e ∙ ap (λ (b : Bool). b || passes S v) (sym (m p (x .acting)) ∙ r))
-
-      pub pass-still : {f : ℕ} {r b : Bool} → getD pack (n + 2) 0 ≡ f → Moved pack places triggers a f r → r ≡ false → ((d : Dimensions) → Over d t → (v : Test) (m : ℕ) → testAt d pack n ≡ done v m → b ≡ passes S v) → Looked testAt couldPass pack places triggers a n work t b
-      pass-still e m r q p x v g =
-          q (dimensions p) (x .over) v (g .end) (g .reads)
-          ∙ sym (own-is p x v g ∙ ap (λ (f : ℕ). movedBy p a f || passes S v) e ∙ ap (λ (b : Bool). b || passes S v) (sym (m p (x .acting)) ∙ r))
-
-    pub test-end : {k : ℕ} → getD pack n 0 ≡ k → (p : Theory) → Looking p pack places triggers a work t → (v : Test) (g : Gives (testAt (dimensions p)) pack n v) → g .end ≡ (n + 4) + k
-    test-end {k} e p x v g = test-ends (dimensions p) (small x) pack n v (g .end) (g .reads) k e .0
+    -- where it ends
+    pub test-end : {m : ℕ} → Ends testAt pack n m → (p : Theory) → Looking p pack places triggers a work t → (v : Test) (g : Gives (testAt (dimensions p)) pack n v) → g .end ≡ m
+    test-end ends p x v g = sym (ends (dimensions p) (small x) v (g .end) (g .reads))
 
   -- a run of parts that can be looked at
   module _ {A : Type 0} (part : Dimensions → Reader A) where

@@ -10,7 +10,9 @@ use crate::memory::Shape;
 use crate::memory::table_in;
 use pack::judge::utility;
 use pack::number::wide;
+use pack::places::ACTION;
 use pack::places::CHARACTER_UTILITIES;
+use pack::places::CONSENTERS;
 use pack::write::consenter;
 use pack::write::consenters;
 use transition::layout::SLOT;
@@ -222,7 +224,7 @@ pub fn allowed(
     requires { ⌜ Prepared (k .0) (now pack) (now places) p (now work) (slotTable p (now work) slot) (slot + 961) × (x < p .actions) × (0 < k .0) × (k .0 ≤ 6) × Free slot (1 + k .0 * e .0) ⌝ }
     ensures { λ r. ⌜ ((th : Theory) (T : List Node) → Stage th T (now (pack .entry)) (now (places .entry)) p (now (work .entry)) (slotTable p (now (work .entry)) slot) (slot + 961) → Memory th (k .0) p (slot + 961) (now (work .entry)) → Told (Memory th (k .0) p (slot + 961)) (slot + 961) (now (work .entry)) (now (work .exit)) r (Agreed th (k .0) (e .0) who x (meaning (p .characters) T 0))) ⌝ }
 {
-    let at = places[9 * x + 2] as usize;
+    let at = places[ACTION * x + CONSENTERS] as usize;
     let count = consenters(pack, at);
     let mut i = 0;
     while i < count {

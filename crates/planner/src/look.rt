@@ -1,6 +1,8 @@
 // A look before an action is tried: no step is made for one whose condition fails, nor for a last one after which no rule above some utility could hold. What effects may write, and what is believed, is left open.
 use crate::memory::Shape;
 use crate::memory::table_in;
+use pack::effects::Wanted;
+use pack::effects::some_effect;
 use pack::judge::after_alternative;
 use pack::judge::after_condition;
 use pack::judge::holds;
@@ -8,62 +10,45 @@ use pack::judge::passes;
 use pack::number::Number;
 use pack::number::read_number;
 use pack::number::wide;
+use pack::places::ACTION;
+use pack::places::EFFECTS;
+use pack::places::TRIGGER;
 use pack::places::TRIGGER_EFFECTS;
 use pack::places::UTILITIES;
 use pack::table::Table;
+use pack::test::after_test;
+use pack::test::chain_of;
+use pack::test::fluent_of;
 ghost use Prim.Native.Nat.{ℕ, _≤_};
 ghost use mathlib.Core.Path.{_≡_};
-ghost use mathlib.Core.Bool.{Bool, false, _&&_};
+ghost use mathlib.Core.Bool.{Bool, false};
 ghost use mathlib.Core.List.{List};
-ghost use lib.Dec.{eqb};
-ghost use Rattle.pack.specs.Syntax.{Effect};
 ghost use Rattle.pack.specs.State.{State};
-ghost use Rattle.pack.specs.Grammar.{Dimensions, testAt, conditionAt, rulesAt, effectAt, effectsAt};
+ghost use Rattle.pack.specs.Grammar.{Dimensions, testAt, conditionAt, rulesAt};
 ghost use Rattle.pack.specs.Contracts.Contents.{Gives};
 ghost use Rattle.pack.specs.Contracts.Judge.{alternativeAt, Small, Readable};
 ghost use Rattle.transition.specs.Laws.Still as still;
 ghost use Rattle.planner.specs.Inner.Look.{Acted, Moved, Lookable, Looked, Tryable, Hopeless, Trying, Skipped};
 
-// Whether the effect at a place writes a fluent of the state itself.
-pub fn sets(pack: &[u8], at: usize, fluent: usize) -> bool
-    requires { ⌜ Readable effectAt (now pack) at ⌝ }
-    ensures { λ r. ⌜ ((d : Dimensions) → Small d → (e : Effect) → Gives (effectAt d) (now (pack .entry)) at e → r ≡ (eqb (e .whom) 0 && eqb (e .fluent) fluent)) ⌝ }
-{
-    if wide(pack[at]) == 0 {
-        wide(pack[at + 1]) == fluent
-    } else {
-        false
-    }
-}
-
-// Whether some effect at a place does.
-pub fn writes(pack: &[u8], at: usize, fluent: usize) -> bool
-    requires { ⌜ Readable effectsAt (now pack) at ⌝ }
-    ensures { λ r. ⌜ ((d : Dimensions) → Small d → (es : List Effect) → Gives (effectsAt d) (now (pack .entry)) at es → r ≡ still.writes es fluent) ⌝ }
-{
-    let mut n = at + 1;
-    let mut left = wide(pack[at]);
-    while 0 < left {
-        if sets(pack, n, fluent) {
-            return true;
-        }
-        n = n + 3;
-        left = left - 1;
-    }
-    false
-}
-
-// Whether some effect of action x, or of a trigger, does.
+// Whether some effect of action x, or of a trigger, writes a fluent of the state itself.
 pub fn moves(pack: &[u8], places: &[u16], triggers: usize, x: usize, fluent: usize) -> bool
     requires { ⌜ Acted (now pack) (now places) triggers x ⌝ }
     ensures { λ r. ⌜ Moved (now (pack .entry)) (now (places .entry)) triggers x fluent r ⌝ }
 {
-    if writes(pack, places[9 * x + 1] as usize, fluent) {
+    if some_effect(
+        pack,
+        places[ACTION * x + EFFECTS] as usize,
+        Wanted::Sets(fluent),
+    ) {
         return true;
     }
     let mut i = 0;
     while i < triggers {
-        if writes(pack, places[TRIGGER_EFFECTS + 2 * i] as usize, fluent) {
+        if some_effect(
+            pack,
+            places[TRIGGER_EFFECTS + TRIGGER * i] as usize,
+            Wanted::Sets(fluent),
+        ) {
             return true;
         }
         i += 1;
@@ -84,10 +69,10 @@ pub fn could_pass(
     requires { ⌜ Lookable testAt (now pack) (now places) triggers x at (now work) t ⌝ }
     ensures { λ r. ⌜ Looked testAt still.couldPass (now (pack .entry)) (now (places .entry)) triggers x at (now (work .entry)) t r ⌝ }
 {
-    if wide(pack[at]) != 0 {
+    if chain_of(pack, at) != 0 {
         return true;
     }
-    if moves(pack, places, triggers, x, wide(pack[at + 2])) {
+    if moves(pack, places, triggers, x, fluent_of(pack, at)) {
         return true;
     }
     passes(pack, at, work, t, 0)
@@ -112,7 +97,7 @@ pub fn could_all(
         if !could_pass(pack, places, triggers, x, n, work, t) {
             return false;
         }
-        n = n + 4 + wide(pack[n]);
+        n = after_test(pack, n);
         left = left - 1;
     }
     true
@@ -199,7 +184,7 @@ pub fn promising(
     requires { ⌜ Tryable (now pack) (now places) (p .triggers) x (now work) t whose ⌝ }
     ensures { λ r. ⌜ (r ≡ false → Hopeless (now (pack .entry)) (now (places .entry)) (p .triggers) x (now (work .entry)) t whose left base) ⌝ }
 {
-    let may = holds(pack, places[9 * x] as usize, work, t, 0);
+    let may = holds(pack, places[ACTION * x] as usize, work, t, 0);
     if !may {
         return false;
     }

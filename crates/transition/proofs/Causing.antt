@@ -1,19 +1,21 @@
 -- Effects at a place of the pack, one after the other, and who takes part. Assumes nothing.
-use Prim.Native.Nat.{ℕ, _+_, _-_, _<_, _≤_}
+use Prim.Native.Nat.{ℕ, suc, _+_, _-_, _<_, _≤_}
 use mathlib.Core.Path.{_≡_, refl, sym, ap, _∙_}
-use mathlib.Core.Bool.{Bool, true, false, _||_}
+use mathlib.Core.Bool.{Bool, true, false, cond, _||_}
 use mathlib.Core.Logic.{_≢_}
 use mathlib.Core.List.{List, [], _∷_}
 use native.Mathlib.Omega.{arith}
 use lib.ListN.{length, getD}
-use lib.Dec.{eqb}
-use borrow.Author.Tests.{eq-eqb, ne-eqb}
+use lib.Dec.{eqb, ltb}
+use borrow.Author.Tests.{ne-eqb, ltb-false}
 use Rattle.pack.specs.Syntax.{Effect, Node}
 use Rattle.pack.specs.State.{meaning}
 use Rattle.pack.specs.Reading.{done}
 use Rattle.pack.specs.Grammar.{Dimensions, conditionAt, effectAt, effectsAt}
 use Rattle.pack.specs.Condition.{holds, write}
-use Rattle.pack.specs.Contracts.Judge.{Small, Over, Judged}
+use Rattle.pack.specs.Contracts.Effects.{asks, someOf}
+use Rattle.pack.specs.Contracts.Judge.{Small, Over, Readable, Judged}
+use Rattle.pack.specs.declared.effects.Wanted.the-variants.{Belief}
 use Rattle.pack.specs.Contracts.Table.{cells, stateOf}
 use Rattle.pack.specs.Contracts.Write.{Writable, EffectsWritten}
 use Rattle.pack.specs.declared.table.Table.{Table}
@@ -22,60 +24,33 @@ use Rattle.pack.specs.Laws.OneByte.{effect-bytes}
 use Rattle.pack.specs.Laws.WrittenValues.{only-none}
 use Rattle.transition.specs.Contracts.Cause.{told, EffectsAt, Telling, ToldWritten, Watched, Took}
 
+-- two tests that both fail
+neither : (a b : Bool) → (a || b) ≡ false → (a ≡ false) × (b ≡ false)
+neither true b e = let z : _≡_ {A = ℕ} 1 0 = ap (λ (b : Bool). cond b 1 0) e in absurd (omega arith)
+neither false b e = (refl, e)
+
 -- effects that are not meant for whom write nothing for whom
 pub untold-write : (es : List Effect) (whom : ℕ) → told es whom ≡ false → (v : List ℕ) → write whom es v ≡ v
-unfolding told write
+unfolding someOf write
 untold-write [] whom e v = refl
 untold-write (x ∷ es) whom e v = let (a, b) = neither (eqb (x .whom) whom) (told es whom) e in rw a (untold-write es whom b v)
-  where
-    neither : (a b : Bool) → (a || b) ≡ false → (a ≡ false) × (b ≡ false)
-    neither true b e = let z : _≡_ {A = Bool} true false = e in absurd (no z)
-      where
-        no : _≡_ {A = Bool} true false → ⊥
-        no z = let q : _≡_ {A = ℕ} 0 1 = cc in omega arith
-    neither false b e = (refl, e)
 
--- what is left of the effects tells of all of them
-module _ (pack : List ℕ) (at whom : ℕ) where
-  abbrev pub Telled : (n left : ℕ) → Type 0
-  Telled n left = (h : at < length pack) × ((d : Dimensions) → Small d → (es : List Effect) (x : EffectsAt d pack at es) → Left (effectAt d) pack n left (λ xs. told xs whom) es (x .some h .end))
+-- before the pack's end effects are read
+pub effects-there : {pack : List ℕ} {at : ℕ} → at < length pack → Telling pack at → Readable effectsAt pack at
+effects-there h t = let there = t .stand .some h in record { over = t .dimensions; small = t .small; value = t .effects; end = there .end; reads = there .reads }
 
-  pub tell-start : (h : at < length pack) (k : ℕ) → getD pack at 0 ≡ k → Telled (at + 1) k
-  unfolding effectsAt
-  tell-start h k e = (h, λ d small es x. left-start (effectAt d) pack (λ xs. told xs whom) es (x .some h .end) k (at + 1) (counted-starts 17 (effectAt d) pack at es (x .some h .end) (omega arith) (x .some h .reads) k e .0))
+-- no effects stand behind the end
+pub tell-nothing : (pack : List ℕ) (at whom : ℕ) → length pack ≤ at → (d : Dimensions) → Small d → (es : List Effect) → EffectsAt d pack at es → false ≡ told es whom
+unfolding someOf
+tell-nothing pack at whom h d small es x = sym (ap (λ (es : List Effect). told es whom) (x .none h))
 
-  module _ (n left : ℕ) (i : Telled n left) (some : 0 < left) where
-    one : (d : Dimensions) → Small d → (es : List Effect) (x : EffectsAt d pack at es) → Next (effectAt d) pack n left (λ xs. told xs whom) es (x .some (i .0) .end)
-    one d small es x = left-one (effectAt d) pack (λ xs. told xs whom) es (x .some (i .0) .end) n left (i .1 d small es x) some
-
-    pub tell-bytes : Telling pack at → n + 2 < length pack
-    tell-bytes t = let x = one (t .dimensions) (t .small) (t .effects) (t .stand) in effect-bytes (t .dimensions) (t .small) pack n (x .item) (x .place) (x .here) .inside
-
-    pub tell-yes : getD pack n 0 ≡ whom → (d : Dimensions) → Small d → (es : List Effect) → EffectsAt d pack at es → true ≡ told es whom
-    unfolding told
-    tell-yes e d small es x =
-        let y = one d small es x in
-        sym (y .same ∙ ap (λ (b : Bool). b || told (y .rest) whom) (eq-eqb (y .item .whom) whom (effect-bytes d small pack n (y .item) (y .place) (y .here) .whom ∙ e)))
-
-    pub tell-on : (getD pack n 0 ≡ whom → ⊥) → Telled (n + 3) (left - 1)
-    unfolding told
-    tell-on ne = (
-      i .0,
-      λ d small es x.
-          let y = one d small es x in
-          let b = effect-bytes d small pack n (y .item) (y .place) (y .here) in
-          left-next (effectAt d) pack (λ xs. told xs whom) es (x .some (i .0) .end) n left y (n + 3) (b .ends)
-          (ap (λ (b : Bool). b || told (y .rest) whom) (ne-eqb (y .item .whom) whom (λ e. ne (sym (b .whom) ∙ e)))),
-    )
-
-  pub tell-no : (n left : ℕ) → Telled n left → left ≤ 0 → (d : Dimensions) → Small d → (es : List Effect) → EffectsAt d pack at es → false ≡ told es whom
-  unfolding told
-  tell-no n left i h d small es x = sym (left-none (effectAt d) pack (λ xs. told xs whom) es (x .some (i .0) .end) n left (i .1 d small es x) h)
-
-  -- no effects stand behind the end
-  pub tell-nothing : length pack ≤ at → (d : Dimensions) → Small d → (es : List Effect) → EffectsAt d pack at es → false ≡ told es whom
-  unfolding told
-  tell-nothing h d small es x = sym (ap (λ (es : List Effect). told es whom) (x .none h))
+-- effects of which none is meant for a belief tell nobody anything
+pub none-silent : (es : List Effect) → someOf (asks Belief) es ≡ false → (c : ℕ) → told es (suc c) ≡ false
+unfolding someOf
+none-silent [] e c = refl
+none-silent (x ∷ es) e c =
+    let (here, rest) = neither (ltb 0 (x .whom)) (someOf (asks Belief) es) e in
+    rw (ne-eqb (x .whom) (suc c) (λ z. omega (arith, z, ltb-false 0 (x .whom) here))) (none-silent es rest c)
 
 -- writing them
 module _ {pack : List ℕ} {at : ℕ} where

@@ -2,6 +2,9 @@
 use crate::cause::tells;
 use crate::change::Change;
 use crate::stage::stage;
+use pack::places::ACTION;
+use pack::places::EFFECTS;
+use pack::places::OBSERVED;
 use pack::table::Table;
 ghost use mathlib.Core.List.{List};
 ghost use Prim.Native.Nat.{ℕ, _<_};
@@ -41,13 +44,13 @@ pub fn act(
     requires { ⌜ Actable (now pack) (now places) action (now work) t root slot ⌝ }
     ensures { λ r. ⌜ ((p : Theory) (T : List Node) (actions triggers : ℕ) → Setting p T (now (pack .entry)) (now (places .entry)) actions triggers (now (work .entry)) t slot → action < actions → root < t .nodes → Acted (Rattle.transition.specs.Happening.act (actionOf p action) (meaning (t .characters) T root)) t (now (work .entry)) (now (work .exit)) slot r) ⌝ }
 {
-    let place = places[9 * action + 1];
+    let place = places[ACTION * action + EFFECTS];
     let effects = [place; 32];
     let at = place as usize;
     let observers = Change {
         acted: lowest_untold(pack, at, t.characters),
         old: 6,
-        observed: 9 * action + 3,
+        observed: ACTION * action + OBSERVED,
         root,
     };
     stage(pack, places, &effects, observers, work, t, slot)

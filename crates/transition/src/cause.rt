@@ -1,6 +1,7 @@
 // What takes effect where: effects at a place of the pack, none at a place behind its end, and who takes part.
+use pack::effects::Wanted;
+use pack::effects::some_effect;
 use pack::judge::holds;
-use pack::number::wide;
 use pack::places::PLACES;
 use pack::table::Table;
 use pack::write::write_effects;
@@ -19,16 +20,7 @@ pub fn tells(pack: &[u8], at: usize, whom: usize) -> bool
     if pack.len() <= at {
         return false;
     }
-    let mut n = at + 1;
-    let mut left = wide(pack[at]);
-    while 0 < left {
-        if wide(pack[n]) == whom {
-            return true;
-        }
-        n = n + 3;
-        left = left - 1;
-    }
-    false
+    some_effect(pack, at, Wanted::For(whom))
 }
 
 // Writes the effects at a place that are meant for whom into the values of a row.

@@ -1,5 +1,6 @@
 // Triggers: the lowest that holds in each row.
 use pack::judge::holds;
+use pack::places::TRIGGER;
 use pack::places::TRIGGER_EFFECTS;
 use pack::places::TRIGGERS;
 use pack::table::Table;
@@ -20,8 +21,8 @@ pub fn firing(pack: &[u8], places: &[u16], triggers: usize, work: &[u8], t: Tabl
 {
     let mut i = 0;
     while i < triggers {
-        if holds(pack, places[TRIGGERS + 2 * i] as usize, work, t, m) {
-            return places[TRIGGER_EFFECTS + 2 * i];
+        if holds(pack, places[TRIGGERS + TRIGGER * i] as usize, work, t, m) {
+            return places[TRIGGER_EFFECTS + TRIGGER * i];
         }
         i += 1;
     }

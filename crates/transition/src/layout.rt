@@ -3,6 +3,9 @@
 // A slot has room for the count of the largest table and its rows.
 pub const SLOT: usize = 961;
 
+// The rows of the table in the second slot stand behind their count.
+pub const SECOND_ROWS: usize = SLOT + 1;
+
 // The numbers and keys of what happens.
 pub const NUMBERS: usize = 28832;
 

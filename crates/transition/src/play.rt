@@ -1,4 +1,5 @@
 // Step: the checks, and an action played in a chart.
+use crate::layout::SECOND_ROWS;
 use crate::layout::SLOT;
 use crate::step::step_slot;
 use chart::Charted;
@@ -54,7 +55,7 @@ pub fn play(
         fluents + characters,
         fluents,
         characters,
-        962,
+        SECOND_ROWS,
         out,
     );
     sweep(work, 0, WORK_ROOM);

@@ -9,7 +9,8 @@ use crate::stage::put_down;
 use crate::stage::stage;
 use chart::merge::write_merged;
 use chart::partition::partition;
-use pack::number::wide;
+use pack::effects::Wanted;
+use pack::effects::some_effect;
 use pack::table::Table;
 ghost use mathlib.Core.Path.{_≡_};
 ghost use mathlib.Core.Bool.{true};
@@ -34,14 +35,8 @@ pub fn silent(pack: &[u8], at: usize) -> bool
     if pack.len() <= at {
         return true;
     }
-    let mut n = at + 1;
-    let mut left = wide(pack[at]);
-    while 0 < left {
-        if 0 < wide(pack[n]) {
-            return false;
-        }
-        n = n + 3;
-        left = left - 1;
+    if some_effect(pack, at, Wanted::Belief) {
+        return false;
     }
     true
 }

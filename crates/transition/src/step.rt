@@ -2,6 +2,7 @@
 use crate::act::act;
 use crate::settle::settle;
 use pack::judge::holds;
+use pack::places::ACTION;
 use pack::table::Table;
 ghost use mathlib.Core.List.{List};
 ghost use Prim.Native.Nat.{ℕ, _<_};
@@ -23,7 +24,7 @@ pub fn step_slot(
     requires { ⌜ Playable (now pack) (now places) triggers action (now work) t root slot ⌝ }
     ensures { λ r. ⌜ ((p : Theory) (T : List Node) (actions : ℕ) → Setting p T (now (pack .entry)) (now (places .entry)) actions triggers (now (work .entry)) t slot → action < actions → root < t .nodes → PlayedIn p (meaning (t .characters) T root) action t (now (work .entry)) (now (work .exit)) slot r) ⌝ }
 {
-    let may = holds(pack, places[9 * action] as usize, work, t, root);
+    let may = holds(pack, places[ACTION * action] as usize, work, t, root);
     if !may {
         return 10;
     }

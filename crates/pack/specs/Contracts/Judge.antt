@@ -43,3 +43,10 @@ pub record Judged {A : Type 0} (p : Dimensions → Reader A) (s : List ℕ) (at 
   pub value : A
   pub end : ℕ
   pub reads : p dimensions s at ≡ done value end
+
+-- what r tells of what is read at a place, and that r is the place behind it: over whatever small dimensions it is read
+abbrev pub Tells : {A B : Type 0} (p : Dimensions → Reader A) (f : A → B) (s : List ℕ) (at : ℕ) (r : B) → Type 0
+Tells {A} p f s at r = (d : Dimensions) → Small d → (x : A) (n : ℕ) → p d s at ≡ done x n → r ≡ f x
+
+abbrev pub Ends : {A : Type 0} (p : Dimensions → Reader A) (s : List ℕ) (at r : ℕ) → Type 0
+Ends {A} p s at r = (d : Dimensions) → Small d → (x : A) (n : ℕ) → p d s at ≡ done x n → r ≡ n

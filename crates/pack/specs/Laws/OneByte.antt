@@ -15,7 +15,7 @@ use Rattle.pack.specs.Number.{numberAt, between, item, counted, risingAt
 use Rattle.pack.specs.Grammar.{Dimensions, kindOf, fluentAt, valueAt, testAt, effectAt, consentersAt}
 use Rattle.pack.specs.State.{Valid}
 use Rattle.pack.specs.Contracts.Table.{bytesAt}
-use Rattle.pack.specs.Contracts.Judge.{Small}
+use Rattle.pack.specs.Contracts.Judge.{Small, Readable}
 use Rattle.pack.specs.Laws.Reading.{never, same-value, same-place, both, unmapped, passed, failed}
 use Rattle.pack.specs.Laws.Number.{between-within}
 
@@ -250,3 +250,19 @@ consenter-bytes d small s at cs n e =
     = ap (λ (v : ℕ). runs (risingAt (d .characters)) (λ least v. v + 1) 0 v s (at + 1)) (o .value) ∙ ap (runs (risingAt (d .characters)) (λ least v. v + 1) 0 (b .value) s) (sym (o .next)) ∙ b .right in
     let r = rising-bytes (d .characters) s k 0 (at + 1) cs n (let q = small .characters in omega arith) run in
     record { inside = o .inside; long = r .0; each = r .1 }
+
+-- where a test or an effect is read, its bytes stand
+pub test-read : {s : List ℕ} {at : ℕ} → Readable testAt s at → ((at + 1) + getD s at 0) + 2 < length s
+test-read {s} {at} x = test-bytes (x .over) (x .small) s at (x .value) (x .end) (x .reads) .inside
+
+pub effect-read : {s : List ℕ} {at : ℕ} → Readable effectAt s at → at + 2 < length s
+effect-read {s} {at} x = effect-bytes (x .over) (x .small) s at (x .value) (x .end) (x .reads) .inside
+
+bytes-length : (s : List ℕ) (at k : ℕ) → length (bytesAt s at k) ≡ k
+unfolding bytesAt
+bytes-length s at zero = refl
+bytes-length s at (suc k) = let e = bytes-length s (at + 1) k in omega (arith, e)
+
+-- the chain of a test is as long as its first byte says
+pub chain-length : (d : Dimensions) → Small d → (s : List ℕ) (at : ℕ) (x : Test) (n : ℕ) → testAt d s at ≡ done x n → getD s at 0 ≡ length (x .chain)
+chain-length d small s at x n e = sym (ap length (test-bytes d small s at x n e .chain) ∙ bytes-length s (at + 1) (getD s at 0))

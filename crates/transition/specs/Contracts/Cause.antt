@@ -11,15 +11,15 @@ use Rattle.pack.specs.State.{State, meaning}
 use Rattle.pack.specs.Condition.{holds, write}
 use Rattle.pack.specs.Grammar.{Dimensions, conditionAt, effectsAt}
 use Rattle.pack.specs.Contracts.Contents.{Gives}
+use Rattle.pack.specs.Contracts.Effects.{someOf}
 use Rattle.pack.specs.Contracts.Judge.{Small, Over}
 use Rattle.pack.specs.Contracts.Table.{cells, tableOf, TableFits}
 use Rattle.pack.specs.Contracts.Write.{RowOnly}
 use Rattle.pack.specs.declared.table.Table.{Table}
 
 -- some of the effects are meant for whom
-unfoldable pub told : List Effect → ℕ → Bool
-told [] whom = false
-told (e ∷ es) whom = eqb (e .whom) whom || told es whom
+abbrev pub told : List Effect → ℕ → Bool
+told es whom = someOf (λ e. eqb (e .whom) whom) es
 
 -- at a place of the pack stand these effects; behind its end stand none
 pub record EffectsAt (d : Dimensions) (pack : List ℕ) (at : ℕ) (es : List Effect) : Type 0 where

@@ -11,13 +11,13 @@ use lib.Dec.{eqb, ltb}
 use borrow.Author.Tests.{eqb-false, ltb-false}
 use Rattle.pack.specs.Syntax.{Effect, Trigger, Test, Condition, Rule, Theory}
 use Rattle.pack.specs.State.{State}
+use Rattle.pack.specs.Contracts.Effects.{someOf}
 use Rattle.pack.specs.Condition.{compares, passes, allPass, holds, utility, write}
 use Rattle.transition.specs.Happening.{change, act, firing, effectsOf, fires, round, Settles, actionOf, Plays}
 
 -- some effect is meant for the state itself and writes f
-unfoldable pub writes : List Effect → ℕ → Bool
-writes [] f = false
-writes (e ∷ es) f = (eqb (e .whom) 0 && eqb (e .fluent) f) || writes es f
+abbrev pub writes : List Effect → ℕ → Bool
+writes es f = someOf (λ e. eqb (e .whom) 0 && eqb (e .fluent) f) es
 
 -- or some trigger's
 unfoldable pub triggerWrites : List Trigger → ℕ → Bool
@@ -36,7 +36,7 @@ none-of : {a b : Bool} → a ≡ false → b ≡ false → (a || b) ≡ false
 none-of {a} {b} e f = subst (λ (a : Bool). (a || b) ≡ false) (sym e) f
 
 write-still : (es : List Effect) (f : ℕ) (values : List ℕ) → writes es f ≡ false → getD (write 0 es values) f 0 ≡ getD values f 0
-unfolding write writes
+unfolding write someOf
 write-still [] f values e = refl
 write-still (e ∷ es) f values z =
     let (here, rest) = either-false (eqb (e .whom) 0 && eqb (e .fluent) f) (writes es f) z in
@@ -51,7 +51,7 @@ write-still (e ∷ es) f values z =
 
 -- what fires is a trigger's
 fires-still : (ts : List Trigger) (s : State) (f : ℕ) → triggerWrites ts f ≡ false → writes (fires ts s) f ≡ false
-unfolding firing triggerWrites writes
+unfolding firing triggerWrites someOf
 fires-still [] s f e = refl
 fires-still (t ∷ ts) s f e =
     let (here, rest) = either-false (writes (t .effects) f) (triggerWrites ts f) e in

@@ -10,7 +10,7 @@ use Rattle.pack.specs.Condition.{allPass}
 use Rattle.pack.specs.Grammar.{Dimensions, testAt}
 use Rattle.pack.specs.Syntax.{Test}
 use Rattle.pack.specs.Reading.{done}
-use Rattle.pack.specs.Laws.Judged.{Left, left-start, left-one, left-next, left-none, counted-starts, all-next, all-fails, all-none, test-ends}
+use Rattle.pack.specs.Laws.Judged.{Left, Next, left-start, left-one, left-next, left-none, counted-starts, all-next, all-fails, all-none}
 use Rattle.pack.proofs.judge.all_pass.Statement.{statement}
 use Rattle.pack.proofs.judge.all_pass.Tie as tie
 
@@ -20,6 +20,11 @@ Inv-loop s at buffer t node n₀ left₀ n left =
 
 abbrev μ-loop : tie.MeasureT-loop
 μ-loop s at buffer t node n₀ left₀ n left = left
+
+-- the next test
+next : (c : tie.In-loop Inv-loop μ-loop) → let start = c .before .before .before .before .before .before in (d : Dimensions) → Over d (start .args .t) → (xs : List Test) (end : ℕ) → alternativeAt d (start .args .s .now) (start .args .at) ≡ done xs end
+    → Next (testAt d) (start .args .s .now) (c .before .loop .n) (c .before .loop .left) (allPass (stateOf (start .args .t) (start .args .buffer .now) (start .args .node))) xs end
+next c d over xs end e = left-one _ _ _ _ _ _ _ (c .before .loop .inv d over xs end e) (c .loop-test .taken)
 
 pub all-pass-spec : {M : Type 1} → statement M
 all-pass-spec =
@@ -39,32 +44,24 @@ all-pass-spec =
     λ d over xs end e. left-start _ _ _ _ _ _ _ (counted-starts 9 (testAt d) (start .args .s .now) (start .args .at) xs end (omega arith) e _ (c .wide .ensures) .0))
     (λ c κs.
     let start = c .before .before .before .before .before .before in
-    let x = (left-one _ _ _ _ _ _ _ (c .before .loop .inv (start .pre .dimensions) (start .pre .over) (start .pre .value) (start .pre .end) (start .pre .reads)) (c .loop-test .taken)) in
-    record { table = start .pre .table; there = start .pre .there; dimensions = (start .pre .dimensions); over = start .pre .over; value = x .item; end = x .place; reads = x .here })
-    (λ c.
-    let start = c .before .before .before .before .before .before .before .before in
-    let turn = c .before .before .before in
-    omega (arith, test-ends (start .pre .dimensions) (start .pre .over .small) (start .args .s .now) (turn .loop .n) ((left-one _ _ _ _ _ _ _ (turn .loop .inv (start .pre .dimensions) (start .pre .over) (start .pre .value) (start .pre .end) (start .pre .reads)) (c .before .before .loop-test .taken)) .item) ((left-one _ _ _ _ _ _ _ (turn .loop .inv (start .pre .dimensions) (start .pre .over) (start .pre .value) (start .pre .end) (start .pre .reads)) (c .before .before .loop-test .taken)) .place) ((left-one _ _ _ _ _ _ _ (turn .loop .inv (start .pre .dimensions) (start .pre .over) (start .pre .value) (start .pre .end) (start .pre .reads)) (c .before .before .loop-test .taken)) .here) _ refl .1))
-    (λ c.
-    let start = c .before .before .before .before .before .before .before .before .before in
-    let turn = c .before .before .before .before in
-    omega (arith, test-ends (start .pre .dimensions) (start .pre .over .small) (start .args .s .now) (turn .loop .n) ((left-one _ _ _ _ _ _ _ (turn .loop .inv (start .pre .dimensions) (start .pre .over) (start .pre .value) (start .pre .end) (start .pre .reads)) (c .before .before .before .loop-test .taken)) .item) ((left-one _ _ _ _ _ _ _ (turn .loop .inv (start .pre .dimensions) (start .pre .over) (start .pre .value) (start .pre .end) (start .pre .reads)) (c .before .before .before .loop-test .taken)) .place) ((left-one _ _ _ _ _ _ _ (turn .loop .inv (start .pre .dimensions) (start .pre .over) (start .pre .value) (start .pre .end) (start .pre .reads)) (c .before .before .before .loop-test .taken)) .here) _ refl .1))
-    (λ c κs. search needs)
-    (λ c.
-    let start = c .before .before .before .before .before .before .before .before .before .before in
-    let turn = c .before .before .before .before .before in
-    omega (arith, test-ends (start .pre .dimensions) (start .pre .over .small) (start .args .s .now) (turn .loop .n) ((left-one _ _ _ _ _ _ _ (turn .loop .inv (start .pre .dimensions) (start .pre .over) (start .pre .value) (start .pre .end) (start .pre .reads)) (c .before .before .before .before .loop-test .taken)) .item) ((left-one _ _ _ _ _ _ _ (turn .loop .inv (start .pre .dimensions) (start .pre .over) (start .pre .value) (start .pre .end) (start .pre .reads)) (c .before .before .before .before .loop-test .taken)) .place) ((left-one _ _ _ _ _ _ _ (turn .loop .inv (start .pre .dimensions) (start .pre .over) (start .pre .value) (start .pre .end) (start .pre .reads)) (c .before .before .before .before .loop-test .taken)) .here) (c .wide2 .result) (c .wide2 .ensures) .1))
+    let x = next c (start .pre .dimensions) (start .pre .over) (start .pre .value) (start .pre .end) (start .pre .reads) in
+    record { table = start .pre .table; there = start .pre .there; dimensions = start .pre .dimensions; over = start .pre .over; value = x .item; end = x .place; reads = x .here })
+    (λ c κs.
+    let turn = c .before .before in
+    let start = turn .before .before .before .before .before .before in
+    let x = next turn (start .pre .dimensions) (start .pre .over) (start .pre .value) (start .pre .end) (start .pre .reads) in
+    record { over = start .pre .dimensions; small = start .pre .over .small; value = x .item; end = x .place; reads = x .here })
     (λ c. search needs)
     (λ c. search needs)
     (λ c.
-    let start = c .before .before .before .before .before .before .before .before .before .before in
-    let turn = c .before .before .before .before .before in
-    λ d over xs end e. let x = left-one _ _ _ _ _ _ _ (turn .loop .inv d over xs end e) (c .before .before .before .before .loop-test .taken) in
-    left-next _ _ _ _ _ _ _ x _ (test-ends d (over .small) (start .args .s .now) (turn .loop .n) (x .item) (x .place) (x .here) _ (c .wide2 .ensures) .0) (all-next (stateOf (start .args .t) (start .args .buffer .now) (start .args .node)) (x .item) (x .rest) (sym (c .before .before .before .passes .ensures d over (x .item) (x .place) (x .here)) ∙ c .before .before .if1 .taken)))
+    let at-test = c .before .before in
+    λ d over xs end e.
+    let x = next (at-test .before) d over xs end e in
+    left-next _ _ _ _ _ _ _ x _ (sym (c .after-test .ensures d (over .small) (x .item) (x .place) (x .here)))
+    (all-next _ (x .item) (x .rest) (sym (at-test .passes .ensures d over (x .item) (x .place) (x .here)) ∙ c .before .if1 .taken)))
     (λ c.
-    let start = c .before .before .before .before .before .before .before .before in
-    λ d over xs end e. let x = left-one _ _ _ _ _ _ _ (c .before .before .before .loop .inv d over xs end e) (c .before .before .loop-test .taken) in
-    sym (x .same ∙ all-fails (stateOf (start .args .t) (start .args .buffer .now) (start .args .node)) (x .item) (x .rest) (sym (c .before .passes .ensures d over (x .item) (x .place) (x .here)) ∙ c .if1 .left)))
-    (λ c.
-    let start = c .before .before .before .before .before .before in
-    λ d over xs end e. sym (left-none _ _ _ _ _ _ _ (c .before .loop .inv d over xs end e) (c .loop-test .left) ∙ all-none (stateOf (start .args .t) (start .args .buffer .now) (start .args .node)))))
+    let at-test = c .before in
+    λ d over xs end e.
+    let x = next (at-test .before) d over xs end e in
+    sym (x .same ∙ all-fails _ (x .item) (x .rest) (sym (at-test .passes .ensures d over (x .item) (x .place) (x .here)) ∙ c .if1 .left)))
+    (λ c d over xs end e. sym (left-none _ _ _ _ _ _ _ (c .before .loop .inv d over xs end e) (c .loop-test .left) ∙ all-none _)))

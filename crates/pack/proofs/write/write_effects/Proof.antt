@@ -12,7 +12,6 @@ use Rattle.pack.specs.Contracts.Table.{cells}
 use Rattle.pack.specs.Contracts.Write.{RowOnly}
 use Rattle.pack.specs.Syntax.{Effect}
 use Rattle.pack.specs.Reading.{done}
-use Rattle.pack.specs.Laws.OneByte.{effect-bytes}
 use Rattle.pack.specs.Laws.Judged.{counted-starts}
 use Rattle.pack.specs.Laws.WrittenValues.{only-none, only-then, Owed, owed-one, owed-next, owed-none}
 use Rattle.pack.proofs.write.write_effects.Statement.{statement}
@@ -47,18 +46,20 @@ write-effects-spec =
     let turn = c .before .before in
     let x = owed-one _ _ _ _ _ _ _ _ (turn .loop .inv .0 (start .pre .dimensions) (start .pre .small) (start .pre .wide) (start .pre .value) (start .pre .end) (start .pre .reads)) (c .before .loop-test .taken) in
     record { dimensions = (start .pre .dimensions); small = start .pre .small; wide = start .pre .wide; value = x .item; end = x .place; reads = x .here; inside = omega (arith, start .pre .inside, turn .loop .inv .1 .long) })
-    (λ c.
-    let start = c .before .before .before .before .before .before .before .before .before .before in
-    let turn = c .before .before .before .before .before in
-    let x = owed-one _ _ _ _ _ _ _ _ (turn .loop .inv .0 (start .pre .dimensions) (start .pre .small) (start .pre .wide) (start .pre .value) (start .pre .end) (start .pre .reads)) (c .before .before .before .before .loop-test .taken) in
-    omega (arith, effect-bytes (start .pre .dimensions) (start .pre .small) (start .args .s .now) (turn .loop .n) (x .item) (x .place) (x .here) .inside))
+    (λ c κs.
+    let turn = c .before .before .before .before in
+    let start = turn .before .before .before .before .before .before in
+    let x = owed-one _ _ _ _ _ _ _ _ (turn .before .loop .inv .0 (start .pre .dimensions) (start .pre .small) (start .pre .wide) (start .pre .value) (start .pre .end) (start .pre .reads)) (turn .loop-test .taken) in
+    record { over = start .pre .dimensions; small = start .pre .small; value = x .item; end = x .place; reads = x .here })
     (λ c. search needs)
     (λ c. search needs)
     (λ c.
-    let turn = c .before .before .before .before .before in (
-      λ d small wide xs end e. let x = owed-one _ _ _ _ _ _ _ _ (turn .loop .inv .0 d small wide xs end e) (c .before .before .before .before .loop-test .taken) in
-          owed-next _ _ _ _ _ _ _ _ x _ _ (effect-bytes d small (c .before .before .before .before .before .before .before .before .before .before .args .s .now) (turn .loop .n) (x .item) (x .place) (x .here) .ends) (c .before .before .write-effect .ensures .values d small wide (x .item) (x .place) (x .here)),
-      only-then _ _ _ _ _ (turn .loop .inv .1) (c .before .before .write-effect .ensures .only),
+    let at-effect = c .before .before .before in
+    let turn = at-effect .before .before in (
+      λ d small wide xs end e.
+          let x = owed-one _ _ _ _ _ _ _ _ (turn .before .loop .inv .0 d small wide xs end e) (turn .loop-test .taken) in
+          owed-next _ _ _ _ _ _ _ _ x _ _ (sym (c .after-effect .ensures d small (x .item) (x .place) (x .here))) (at-effect .write-effect .ensures .values d small wide (x .item) (x .place) (x .here)),
+      only-then _ _ _ _ _ (turn .before .loop .inv .1) (at-effect .write-effect .ensures .only),
     ))
     (λ c. c .before .loop .inv .1 .long)
     (λ c.

@@ -3,7 +3,7 @@ use native.Mathlib.Omega.{arith}
 use borrow.Author.Needs.{needs}
 use borrow.Author.Tests.{not-true, not-false}
 use Rattle.pack.specs.Grammar.{testAt}
-use Rattle.planner.proofs.Looking.{Rest, run-start, run-stop, run-on, run-none, testRun, look-next, look-inside, test-inside, test-room, test-end, all-by, all-none}
+use Rattle.planner.proofs.Looking.{Rest, run-start, run-stop, run-on, run-none, testRun, look-next, look-inside, test-there, test-end, all-by, all-none}
 use Rattle.planner.proofs.look.could_all.Statement.{statement}
 use Rattle.planner.proofs.look.could_all.Tie as tie
 
@@ -23,13 +23,21 @@ could-all-spec =
     (λ c. look-inside _ _ _ _ _ _ testAt (c .before .before .before .before .pre))
     (λ c κs. search needs)
     (λ c. run-start (testRun _ _ _ _ _ _) _ _ (omega arith) _ (c .wide .ensures))
-    (λ c κs. look-next _ _ _ _ _ _ testAt (c .before .before .before .before .before .before .before .pre) (c .before .loop .inv) (c .loop-test .taken))
-    (λ c. λ p k v g. run-stop (testRun _ _ _ _ _ _) _ _ (c .before .before .before .loop .inv) (c .before .before .loop-test .taken) (λ k x rest g. all-by _ _ x rest (c .before .could-pass .ensures (k .0) (k .1) x g) (not-true _ (c .if1 .taken))) (p, k) v g)
-    (λ c. omega (arith, test-inside _ _ _ _ _ _ _ (look-next _ _ _ _ _ _ testAt (c .before .before .before .before .before .before .before .before .before .pre) (c .before .before .before .loop .inv) (c .before .before .loop-test .taken))))
-    (λ c. omega (arith, test-inside _ _ _ _ _ _ _ (look-next _ _ _ _ _ _ testAt (c .before .before .before .before .before .before .before .before .before .before .pre) (c .before .before .before .before .loop .inv) (c .before .before .before .loop-test .taken))))
-    (λ c κs. search needs)
-    (λ c. omega (arith, test-room _ _ _ _ _ _ _ (look-next _ _ _ _ _ _ testAt (c .before .before .before .before .before .before .before .before .before .before .before .pre) (c .before .before .before .before .before .loop .inv) (c .before .before .before .before .loop-test .taken)) (c .wide2 .ensures)))
+    (λ c κs.
+    let start = c .before .before .before .before .before .before .before in
+    look-next _ _ _ _ _ _ testAt (start .pre) (c .before .loop .inv) (c .loop-test .taken))
+    (λ c p k v g.
+    let turn = c .before .before in
+    run-stop (testRun _ _ _ _ _ _) _ _ (turn .before .loop .inv) (turn .loop-test .taken) (λ k x rest g. all-by _ _ x rest (c .before .could-pass .ensures (k .0) (k .1) x g) (not-true _ (c .if1 .taken))) (p, k) v g)
+    (λ c κs.
+    let turn = c .before .before in
+    let start = turn .before .before .before .before .before .before .before in
+    test-there _ _ _ _ _ _ _ (look-next _ _ _ _ _ _ testAt (start .pre) (turn .before .loop .inv) (turn .loop-test .taken)))
     (λ c. search needs)
     (λ c. search needs)
-    (λ c. run-on (testRun _ _ _ _ _ _) _ _ (c .before .before .before .before .before .loop .inv) (c .before .before .before .before .loop-test .taken) _ (λ k x g. test-end _ _ _ _ _ _ _ (c .wide2 .ensures) (k .0) (k .1) x g) (λ k x rest g. all-by _ _ x rest (c .before .before .before .could-pass .ensures (k .0) (k .1) x g) (not-false _ (c .before .before .if1 .left))))
-    (λ c. λ p k v g. run-none (testRun _ _ _ _ _ _) _ _ (c .before .loop .inv) (c .loop-test .left) (λ k. all-none _ _) (p, k) v g))
+    (λ c.
+    let at-test = c .before .before in
+    let turn = at-test .before in
+    run-on (testRun _ _ _ _ _ _) _ _ (turn .before .loop .inv) (turn .loop-test .taken) _ (λ k x g. test-end _ _ _ _ _ _ _ (c .after-test .ensures) (k .0) (k .1) x g)
+    (λ k x rest g. all-by _ _ x rest (at-test .could-pass .ensures (k .0) (k .1) x g) (not-false _ (c .before .if1 .left))))
+    (λ c p k v g. run-none (testRun _ _ _ _ _ _) _ _ (c .before .loop .inv) (c .loop-test .left) (λ k. all-none _ _) (p, k) v g))

@@ -1,42 +1,29 @@
--- None of the effects so far is meant for a belief. Assumes nothing.
-use mathlib.Core.Path.{refl, sym}
-use Prim.Native.Nat.{ℕ, suc}
+-- Behind the pack's end there are no effects; elsewhere none of them is meant for a belief. Assumes nothing.
+use Prim.Native.Nat.{suc}
+use mathlib.Core.Path.{refl, sym, _∙_}
 use native.Mathlib.Omega.{arith}
 use borrow.Author.Needs.{needs}
-use Rattle.transition.proofs.Causing.{Telled, tell-start, tell-bytes, tell-on, tell-no, tell-nothing}
+use borrow.Author.Tests.{not-true}
+use Rattle.transition.proofs.Causing.{effects-there, tell-nothing, none-silent}
 use Rattle.transition.proofs.Acting.{clash}
 use Rattle.transition.proofs.round.silent.Statement.{statement}
 use Rattle.transition.proofs.round.silent.Tie as tie
 
-abbrev Inv-loop : tie.InvT-loop
-Inv-loop pack at n₀ left₀ n left = (c : ℕ) → Telled pack at (suc c) n left
+returns : tie.Need-returns
+returns c = let start = c .before .before in λ d small es x e k. sym (tell-nothing (start .args .pack .now) (start .args .at) (suc k) (c .if1 .taken) d small es x)
 
-abbrev μ-loop : tie.MeasureT-loop
-μ-loop pack at n₀ left₀ n left = left
-
-returns : tie.Need-returns Inv-loop μ-loop
-returns c = let a = c .before .before .args in λ d small es x e k. sym (tell-nothing (a .pack .now) (a .at) (suc k) (c .if1 .taken) d small es x)
-
-loop-holds : tie.Need-loop-holds Inv-loop μ-loop
-loop-holds c = let a = c .before .before .before .before .args in λ k. tell-start (a .pack .now) (a .at) (suc k) (omega (arith, c .before .before .if1 .left)) _ (c .wide .ensures)
-
-inside : tie.Need-shared-slice-read-wide-2 Inv-loop μ-loop
-inside c = let s = c .before .before .before .before .before .before .before in let l = c .before .before .loop in omega (arith, tell-bytes (s .args .pack .now) (s .args .at) 1 (l .n) (l .left) (l .inv 0) (c .before .loop-test .taken) (s .pre))
-
-add-n-2 : tie.Need-add-n-2 Inv-loop μ-loop
-add-n-2 c = let s = c .before .before .before .before .before .before .before .before .before in let l = c .before .before .before .before .loop in omega (arith, tell-bytes (s .args .pack .now) (s .args .at) 1 (l .n) (l .left) (l .inv 0) (c .before .before .before .loop-test .taken) (s .pre))
-
-loop-again : tie.Need-loop-again Inv-loop μ-loop
-loop-again c =
-    let a = c .before .before .before .before .before .before .before .before .before .args in
-    let l = c .before .before .before .before .loop in
-    λ k. tell-on (a .pack .now) (a .at) (suc k) (l .n) (l .left) (l .inv k) (c .before .before .before .loop-test .taken) (λ e. omega (arith, e, c .before .wide2 .ensures, c .if2 .left))
-
-returns-3 : tie.Need-returns-3 Inv-loop μ-loop
-returns-3 c = let a = c .before .before .before .before .before .before .args in let l = c .before .loop in λ d small es x e k. sym (tell-no (a .pack .now) (a .at) (suc k) (l .n) (l .left) (l .inv k) (c .loop-test .left) d small es x)
+returns-3 : tie.Need-returns-3
+returns-3 c =
+    let at-asked = c .before in
+    λ d small es x e.
+    let there = x .some (omega (arith, at-asked .before .if1 .left)) in
+    none-silent es (sym (at-asked .some-effect .ensures d small es (there .end) (there .reads)) ∙ c .if2 .left)
 
 pub silent-spec : {M : Type 1} → statement M
 silent-spec =
     tie.close
-    (tie.spec Inv-loop μ-loop returns (λ c. search needs) (λ c. search needs) (λ c κs. search needs) loop-holds inside (λ c κs. search needs) (λ c d small es x e. clash e refl) add-n-2 (λ c. search needs) (λ c. search needs)
-    loop-again returns-3)
+    (tie.spec
+    returns
+    (λ c κs. let start = c .before .before in effects-there (omega (arith, c .if1 .left)) (start .pre))
+    (λ c d small es x e. clash e refl)
+    returns-3)
