@@ -60,9 +60,6 @@ module _ {A K : Type 0} (w : Run A K) (s : List ℕ) (from : ℕ) where
   abbrev pub Told : Bool → Type 0
   Told r = (k : K) (xs : List A) → Whole k xs → r ≡ w .tells k xs
 
-  pub run-inside : w .limit ≤ 128 → (k : K) (xs : List A) → Whole k xs → from < length s
-  run-inside few k xs g = counted-starts (w .limit) (w .part k) s from xs (g .end) few (g .reads) (getD s from 0) refl .1
-
   pub run-start : w .limit ≤ 128 → (n : ℕ) → getD s from 0 ≡ n → Rest (from + 1) n
   run-start few n e k xs g = left-start (w .part k) s (w .tells k) xs (g .end) n (from + 1) (counted-starts (w .limit) (w .part k) s from xs (g .end) few (g .reads) n e .0)
 

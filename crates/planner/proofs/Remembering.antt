@@ -517,9 +517,6 @@ module _ (h : Shape) where
           (λ i l. inl (λ q g u. put .high q (omega (arith, g, step-bounds)))) m;
     }
 
-  pub noted-none : {t : Table} {was : List ℕ} {root a next : ℕ} → Noted h t root a next was was
-  noted-none = record { only = record { low = λ q l. refl; high = λ q l. refl }; memory = λ p K limit few s m f. m }
-
   -- one slot more
   pub memory-more : {p : Theory} {K : ℕ} {now : List ℕ} (n : ℕ) {limit : ℕ} → limit ≡ 961 * n → Memory p K h limit now → SlotEntry h now n → Memory p K h (limit + 961) now
   memory-more {now = now} n e m x = record {

@@ -5,10 +5,9 @@ use mathlib.Core.Bool.{Bool, true, false}
 use mathlib.Core.List.{List, [], _∷_}
 use lib.ListN.{length}
 use Rattle.pack.specs.Reading.{Reply, gives, refuses}
-use Rattle.pack.specs.Grammar.{packOf}
 use Rattle.chart.specs.Compare.{Verdict, same, differ}
 use Rattle.chart.specs.Call.{chartRoom, chainRoom, listRoom, workRoom}
-use Rattle.chart.specs.Replies.{startReply, compareReply}
+use Rattle.chart.specs.Replies.{startReply, queryReply, compareReply}
 use Rattle.transition.specs.Replies.{stepReply}
 use Rattle.planner.specs.Replies.{explainedReply, Plan, searchReply}
 
@@ -35,7 +34,7 @@ ones = 0x01 ∷ 0x01 ∷ 0x01 ∷ 0x01 ∷ []
 abbrev pub doubled : List ℕ
 doubled = 0x02 ∷ 0x00 ∷ 0x02 ∷ 0x02 ∷ 0x00 ∷ 0x01 ∷ 0x01 ∷ []
 
--- a row of the table: a call on P and what it replies, or bytes that are no pack
+-- a row of the table: a call on P and what it replies, or bytes that are no pack and what every call replies to them
 pub data Reading : Type 0 where
   start : Reply (List ℕ) → Reading
   step : (chart : List ℕ) (action : ℕ) → Reply (List ℕ) → Reading
@@ -51,7 +50,13 @@ Says (step chart action r) = (out work : List ℕ) → chartRoom ≤ length out 
 Says (compare first second r) = (chain work : List ℕ) → chainRoom ≤ length chain → workRoom ≤ length work → compareReply P first second chain work ≡ r
 Says (explained c a K e r) = (work : List ℕ) → workRoom ≤ length work → explainedReply P started c a K e work ≡ r
 Says (search T K E r) = (list work : List ℕ) → listRoom ≤ length list → workRoom ≤ length work → searchReply P T K E list work ≡ r
-Says (refusal pack number place) = packOf pack ≡ refuses number place
+Says (refusal pack number place) =
+    ((out work : List ℕ) → startReply pack out work ≡ refuses number place)
+    × ((chart chain : List ℕ) (fluent : ℕ) (work : List ℕ) → queryReply pack chart chain fluent work ≡ refuses number place)
+    × ((first second chain work : List ℕ) → compareReply pack first second chain work ≡ refuses number place)
+    × ((chart : List ℕ) (action : ℕ) (out work : List ℕ) → stepReply pack chart action out work ≡ refuses number place)
+    × ((chart : List ℕ) (c a K e : ℕ) (work : List ℕ) → explainedReply pack chart c a K e work ≡ refuses number place)
+    × ((T K E : ℕ) (list work : List ℕ) → searchReply pack T K E list work ≡ refuses number place)
 
 -- "The readings of P marked * are shown to follow from the definitions, as one theorem over a small table"; "The rows of 1 and 5."
 abbrev pub starred : List Reading

@@ -18,14 +18,10 @@ use pack::write::consenters;
 use transition::layout::SLOT;
 ghost use mathlib.Core.Path.{_≡_};
 ghost use mathlib.Core.Bool.{true, false};
-ghost use mathlib.Core.List.{List};
 ghost use Prim.Native.Nat.{suc, _+_, _*_, _<_, _≤_};
-ghost use Rattle.pack.specs.Syntax.{Node, Theory};
-ghost use Rattle.pack.specs.State.{meaning};
 ghost use Rattle.planner.specs.Ending.{Explained};
 ghost use Rattle.planner.specs.Inner.Lists.{slotTable, Other, Above, AboveBy, AboveBySome, Agreed};
-ghost use Rattle.planner.specs.Inner.Memory.{Memory};
-ghost use Rattle.planner.specs.Inner.Explain.{Stage, Prepared, Free, Told};
+ghost use Rattle.planner.specs.Inner.Explain.{Prepared, Free, Answers};
 
 // Whether character c's action a is explained: as is known, or as is found out.
 pub fn explained(
@@ -40,7 +36,7 @@ pub fn explained(
     e: Nesting,
 ) -> bool
     requires { ⌜ Prepared (k .0) (now pack) (now places) p (now work) (slotTable p (now work) slot) (slot + 961) × (c < p .characters) × (a < p .actions) × (0 < k .0) × (k .0 ≤ 6) × Free slot (1 + k .0 * e .0) ⌝ }
-    ensures { λ r. ⌜ ((th : Theory) (T : List Node) → Stage th T (now (pack .entry)) (now (places .entry)) p (now (work .entry)) (slotTable p (now (work .entry)) slot) (slot + 961) → Memory th (k .0) p (slot + 961) (now (work .entry)) → Told (Memory th (k .0) p (slot + 961)) (slot + 961) (now (work .entry)) (now (work .exit)) r (Explained th (k .0) (e .0) c a (meaning (p .characters) T 0))) ⌝ }
+    ensures { λ r. ⌜ Answers (k .0) (now (pack .entry)) (now (places .entry)) p slot (now (work .entry)) (now (work .exit)) r (λ th s. Explained th (k .0) (e .0) c a s) ⌝ }
 {
     if e.0 == 0 {
         return false;
@@ -76,7 +72,7 @@ pub fn explains(
     e: Nesting,
 ) -> bool
     requires { ⌜ Prepared (k .0) (now pack) (now places) p (now work) (slotTable p (now work) slot) (slot + 961) × (c < p .characters) × (a < p .actions) × (0 < k .0) × (k .0 ≤ 6) × Free slot (1 + k .0 * e .0) × (0 < e .0) ⌝ }
-    ensures { λ r. ⌜ ((th : Theory) (T : List Node) → Stage th T (now (pack .entry)) (now (places .entry)) p (now (work .entry)) (slotTable p (now (work .entry)) slot) (slot + 961) → Memory th (k .0) p (slot + 961) (now (work .entry)) → Told (Memory th (k .0) p (slot + 961)) (slot + 961) (now (work .entry)) (now (work .exit)) r (Explained th (k .0) (e .0) c a (meaning (p .characters) T 0))) ⌝ }
+    ensures { λ r. ⌜ Answers (k .0) (now (pack .entry)) (now (places .entry)) p slot (now (work .entry)) (now (work .exit)) r (λ th s. Explained th (k .0) (e .0) c a s) ⌝ }
 {
     let q = wide(work[slot + 1 + p.fluents + c]);
     let number = known_step(pack, places, p, a, work, slot, q);
@@ -120,7 +116,7 @@ pub fn extends(
     base: usize,
 ) -> bool
     requires { ⌜ Prepared (k .0) (now pack) (now places) p (now work) (slotTable p (now work) slot) (slot + 961) × (c < p .characters) × (0 < k .0) × (k .0 ≤ 6) × Free slot (1 + left + k .0 * e .0) ⌝ }
-    ensures { λ r. ⌜ ((th : Theory) (T : List Node) → Stage th T (now (pack .entry)) (now (places .entry)) p (now (work .entry)) (slotTable p (now (work .entry)) slot) (slot + 961) → Memory th (k .0) p (slot + 961) (now (work .entry)) → Told (Memory th (k .0) p (slot + 961)) (slot + 961) (now (work .entry)) (now (work .exit)) r (Above th (k .0) (e .0) c base (suc left) (meaning (p .characters) T 0))) ⌝ }
+    ensures { λ r. ⌜ Answers (k .0) (now (pack .entry)) (now (places .entry)) p slot (now (work .entry)) (now (work .exit)) r (λ th s. Above th (k .0) (e .0) c base (suc left) s) ⌝ }
 {
     let t = table_in(work, p, slot);
     if base < utility(pack, places[CHARACTER_UTILITIES + c] as usize, work, t, 0) {
@@ -168,7 +164,7 @@ pub fn extends_by(
     base: usize,
 ) -> bool
     requires { ⌜ Prepared (k .0) (now pack) (now places) p (now work) (slotTable p (now work) slot) (slot + 961) × (c < p .characters) × (0 < k .0) × (k .0 ≤ 6) × Free slot (2 + left + k .0 * e .0) ⌝ }
-    ensures { λ r. ⌜ ((th : Theory) (T : List Node) → Stage th T (now (pack .entry)) (now (places .entry)) p (now (work .entry)) (slotTable p (now (work .entry)) slot) (slot + 961) → Memory th (k .0) p (slot + 961) (now (work .entry)) → Told (Memory th (k .0) p (slot + 961)) (slot + 961) (now (work .entry)) (now (work .exit)) r (AboveBySome th (k .0) (e .0) c base (suc left) (meaning (p .characters) T 0))) ⌝ }
+    ensures { λ r. ⌜ Answers (k .0) (now (pack .entry)) (now (places .entry)) p slot (now (work .entry)) (now (work .exit)) r (λ th s. AboveBySome th (k .0) (e .0) c base (suc left) s) ⌝ }
 {
     let mut x = next_promising(pack, places, p, work, slot, 0, c + 1, left, base);
     while x < p.actions {
@@ -196,7 +192,7 @@ pub fn via(
     base: usize,
 ) -> bool
     requires { ⌜ Prepared (k .0) (now pack) (now places) p (now work) (slotTable p (now work) slot) (slot + 961) × (c < p .characters) × (x < p .actions) × (0 < k .0) × (k .0 ≤ 6) × Free slot (2 + left + k .0 * e .0) ⌝ }
-    ensures { λ r. ⌜ ((th : Theory) (T : List Node) → Stage th T (now (pack .entry)) (now (places .entry)) p (now (work .entry)) (slotTable p (now (work .entry)) slot) (slot + 961) → Memory th (k .0) p (slot + 961) (now (work .entry)) → Told (Memory th (k .0) p (slot + 961)) (slot + 961) (now (work .entry)) (now (work .exit)) r (AboveBy th (k .0) (e .0) c base (suc left) x (meaning (p .characters) T 0))) ⌝ }
+    ensures { λ r. ⌜ Answers (k .0) (now (pack .entry)) (now (places .entry)) p slot (now (work .entry)) (now (work .exit)) r (λ th s. AboveBy th (k .0) (e .0) c base (suc left) x s) ⌝ }
 {
     let agreed = allowed(pack, places, p, work, slot, c, x, k, e);
     if !agreed {
@@ -222,7 +218,7 @@ pub fn allowed(
     e: Nesting,
 ) -> bool
     requires { ⌜ Prepared (k .0) (now pack) (now places) p (now work) (slotTable p (now work) slot) (slot + 961) × (x < p .actions) × (0 < k .0) × (k .0 ≤ 6) × Free slot (1 + k .0 * e .0) ⌝ }
-    ensures { λ r. ⌜ ((th : Theory) (T : List Node) → Stage th T (now (pack .entry)) (now (places .entry)) p (now (work .entry)) (slotTable p (now (work .entry)) slot) (slot + 961) → Memory th (k .0) p (slot + 961) (now (work .entry)) → Told (Memory th (k .0) p (slot + 961)) (slot + 961) (now (work .entry)) (now (work .exit)) r (Agreed th (k .0) (e .0) who x (meaning (p .characters) T 0))) ⌝ }
+    ensures { λ r. ⌜ Answers (k .0) (now (pack .entry)) (now (places .entry)) p slot (now (work .entry)) (now (work .exit)) r (λ th s. Agreed th (k .0) (e .0) who x s) ⌝ }
 {
     let at = places[ACTION * x + CONSENTERS] as usize;
     let count = consenters(pack, at);
@@ -252,7 +248,7 @@ pub fn fine(
     e: Nesting,
 ) -> bool
     requires { ⌜ Prepared (k .0) (now pack) (now places) p (now work) (slotTable p (now work) slot) (slot + 961) × (d < p .characters) × (x < p .actions) × (0 < k .0) × (k .0 ≤ 6) × Free slot (1 + k .0 * e .0) ⌝ }
-    ensures { λ r. ⌜ ((th : Theory) (T : List Node) → Stage th T (now (pack .entry)) (now (places .entry)) p (now (work .entry)) (slotTable p (now (work .entry)) slot) (slot + 961) → Memory th (k .0) p (slot + 961) (now (work .entry)) → Told (Memory th (k .0) p (slot + 961)) (slot + 961) (now (work .entry)) (now (work .exit)) r (Other who d → Explained th (k .0) (e .0) d x (meaning (p .characters) T 0))) ⌝ }
+    ensures { λ r. ⌜ Answers (k .0) (now (pack .entry)) (now (places .entry)) p slot (now (work .entry)) (now (work .exit)) r (λ th s. Other who d → Explained th (k .0) (e .0) d x s) ⌝ }
 {
     if d == who {
         return true;

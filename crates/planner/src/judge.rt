@@ -18,14 +18,10 @@ use pack::number::Number;
 use pack::places::PLACES;
 ghost use mathlib.Core.Path.{_≡_};
 ghost use mathlib.Core.Bool.{_&&_};
-ghost use mathlib.Core.List.{List};
 ghost use lib.Dec.{ltb};
-ghost use Rattle.pack.specs.Syntax.{Node, Theory};
-ghost use Rattle.pack.specs.State.{meaning};
-ghost use Rattle.planner.specs.Ending.{Explained};
 ghost use Rattle.planner.specs.Replies.{foresightLimit, nestingLimit};
 ghost use Rattle.planner.specs.Promises.{Judgement};
-ghost use Rattle.planner.specs.Inner.Explain.{Judging, Judgeable, Verdict};
+ghost use Rattle.planner.specs.Inner.Explain.{Judgeable, VerdictOf};
 
 // Whether the numbers handed to Explained are those of something there.
 pub fn in_range(
@@ -63,7 +59,7 @@ pub fn judge_chart(
     work: &mut [u8],
 ) -> bool
     requires { ⌜ Judgeable (now pack) (now places) p (now chart) nodes character action (k .0) (e .0) (now work) ⌝ }
-    ensures { λ r. ⌜ ((th : Theory) (T : List Node) → Judging th T (now (pack .entry)) (now (places .entry)) p (now (chart .entry)) nodes character action (k .0) (e .0) (now (work .entry)) → Verdict (Explained th (k .0) (e .0) character action (meaning (p .characters) T 0)) (now (work .entry)) (now (work .exit)) r) ⌝ }
+    ensures { λ r. ⌜ VerdictOf (now (pack .entry)) (now (places .entry)) p (now (chart .entry)) nodes character action (k .0) (e .0) (now (work .entry)) (now (work .exit)) r ⌝ }
 {
     copy_table(chart, 1, nodes, work, 0, p.fluents, p.characters);
     clear(work, NAMES, BEFORE_TABLES);

@@ -13,14 +13,11 @@ use transition::layout::SLOT;
 use transition::step::step_slot;
 ghost use mathlib.Core.Path.{_≡_};
 ghost use mathlib.Core.Bool.{true};
-ghost use mathlib.Core.List.{List};
-ghost use Prim.Native.Nat.{ℕ, _+_, _*_, _<_, _≤_};
+ghost use Prim.Native.Nat.{_+_, _*_, _<_, _≤_};
 ghost use lib.ListN.{length, getD};
-ghost use Rattle.pack.specs.Syntax.{Node, Theory};
-ghost use Rattle.pack.specs.State.{meaning};
 ghost use Rattle.planner.specs.Inner.Lists.{slotTable};
-ghost use Rattle.planner.specs.Inner.Memory.{Memory, Before, Kept, Place, StepRead, StepPut, Noted, Slot, Again, LeftNoted};
-ghost use Rattle.planner.specs.Inner.Explain.{Stage, Steppable, Advanced};
+ghost use Rattle.planner.specs.Inner.Memory.{Before, Kept, Place, StepRead, StepPut, Noted, Slot, Again, LeftNoted};
+ghost use Rattle.planner.specs.Inner.Explain.{Steppable, Advances};
 
 // The place of the entry for an action in a row of the table of a name.
 pub fn step_at(name: usize, root: usize, action: usize) -> usize
@@ -108,7 +105,7 @@ pub fn known_step(
     root: usize,
 ) -> u8
     requires { ⌜ Steppable (now pack) (now places) p action (now work) (slotTable p (now work) slot) root (slot + 961) ⌝ }
-    ensures { λ r. ⌜ ((th : Theory) (T : List Node) (foresight : ℕ) → Stage th T (now (pack .entry)) (now (places .entry)) p (now (work .entry)) (slotTable p (now (work .entry)) slot) (slot + 961) → Memory th foresight p (slot + 961) (now (work .entry)) → Advanced th foresight p (meaning (p .characters) T root) action (slotTable p (now (work .entry)) slot) (now (work .entry)) (now (work .exit)) (slot + 961) r) ⌝ }
+    ensures { λ r. ⌜ Advances (now (pack .entry)) (now (places .entry)) p action slot root (now (work .entry)) (now (work .exit)) r ⌝ }
 {
     let t = table_in(work, p, slot);
     let name = name_of(work, p, slot);

@@ -38,14 +38,11 @@ ghost use mathlib.Core.Bool.{true, false, _&&_};
 ghost use mathlib.Core.List.{List};
 ghost use Prim.Native.Nat.{suc, _+_, _*_, _<_, _≤_};
 ghost use lib.ListN.{length, getD};
-ghost use Rattle.pack.specs.Syntax.{Node, Theory};
-ghost use Rattle.pack.specs.State.{meaning};
-ghost use Rattle.chart.specs.Chart.{Written};
-ghost use Rattle.planner.specs.Ending.{authorUtility};
+ghost use Rattle.pack.specs.Syntax.{Node};
 ghost use Rattle.planner.specs.Inner.Lists.{slotTable, Ends, EndsBy};
-ghost use Rattle.planner.specs.Inner.Memory.{Memory, Before};
-ghost use Rattle.planner.specs.Inner.Explain.{Stage, Staged, Free};
-ghost use Rattle.planner.specs.Inner.Search.{Best, Trail, Underway, Outset, Repeated, OnPath, Laying, Layable, LaidStart, Shortest, Seeking, Seekable, SearchPut};
+ghost use Rattle.planner.specs.Inner.Memory.{Before};
+ghost use Rattle.planner.specs.Inner.Explain.{Staged, Free};
+ghost use Rattle.planner.specs.Inner.Search.{Underway, Finds, EndsHere, Outset, Repeated, OnPath, Laying, Layable, LaidStart, ShortestFrom, Seekable, SearchPutFrom};
 ghost use Rattle.planner.specs.Promises.{Searching};
 
 // The list that was found: how many actions it has, and the author's utility at its end; no actions where there is none.
@@ -69,7 +66,7 @@ pub fn completes(
     base: usize,
 ) -> usize
     requires { ⌜ Underway (k .0) (e .0) base (now pack) (now places) p (now work) slot done left × (0 < k .0) × (k .0 ≤ 6) × Free slot (1 + left + k .0 * e .0) × (done + left ≤ length (now list)) × (slot ≡ done * 961) ⌝ }
-    ensures { λ r. ⌜ ((th : Theory) (T : List Node) → Stage th T (now (pack .entry)) (now (places .entry)) p (now (work .entry)) (slotTable p (now (work .entry)) slot) (slot + 961) → Memory th (k .0) p (slot + 961) (now (work .entry)) → Trail th (k .0) (e .0) base p (now (work .entry)) done left (meaning (p .characters) T 0) → Best (Memory th (k .0) p (slot + 961)) (Ends th (k .0) (e .0) base (meaning (p .characters) T 0)) left (now (list .entry)) (now (list .exit)) done (slot + 961) (now (work .entry)) (now (work .exit)) r) ⌝ }
+    ensures { λ r. ⌜ Finds (k .0) (e .0) base (now (pack .entry)) (now (places .entry)) p slot done left (now (list .entry)) (now (list .exit)) (now (work .entry)) (now (work .exit)) r (λ th. Ends th (k .0) (e .0) base) ⌝ }
 {
     if left == 0 {
         return ends(pack, places, p, work, slot, base);
@@ -146,7 +143,7 @@ pub fn completes_after(
     base: usize,
 ) -> usize
     requires { ⌜ Underway (k .0) (e .0) base (now pack) (now places) p (now work) slot done (suc left) × (0 < k .0) × (k .0 ≤ 6) × Free slot (2 + left + k .0 * e .0) × (done + suc left ≤ length (now list)) × (slot ≡ done * 961) ⌝ }
-    ensures { λ r. ⌜ ((th : Theory) (T : List Node) → Stage th T (now (pack .entry)) (now (places .entry)) p (now (work .entry)) (slotTable p (now (work .entry)) slot) (slot + 961) → Memory th (k .0) p (slot + 961) (now (work .entry)) → Trail th (k .0) (e .0) base p (now (work .entry)) done (suc left) (meaning (p .characters) T 0) → Best (Memory th (k .0) p (slot + 961)) (Ends th (k .0) (e .0) base (meaning (p .characters) T 0)) (suc left) (now (list .entry)) (now (list .exit)) done (slot + 961) (now (work .entry)) (now (work .exit)) r) ⌝ }
+    ensures { λ r. ⌜ Finds (k .0) (e .0) base (now (pack .entry)) (now (places .entry)) p slot done (suc left) (now (list .entry)) (now (list .exit)) (now (work .entry)) (now (work .exit)) r (λ th. Ends th (k .0) (e .0) base) ⌝ }
 {
     let actions = p.actions;
     let mut x = next_promising(pack, places, p, work, slot, 0, 0, left, base);
@@ -163,7 +160,7 @@ pub fn completes_after(
 // The author's utility in the state in a slot where it is above base, or 0.
 pub fn ends(pack: &[u8], places: &[u16], p: Shape, work: &[u8], slot: usize, base: usize) -> usize
     requires { ⌜ Staged (now pack) (now places) p (now work) (slotTable p (now work) slot) (slot + 961) × Free slot 1 ⌝ }
-    ensures { λ r. ⌜ ((th : Theory) (T : List Node) → Stage th T (now (pack .entry)) (now (places .entry)) p (now (work .entry)) (slotTable p (now (work .entry)) slot) (slot + 961) → (base < authorUtility th (meaning (p .characters) T 0) → r ≡ authorUtility th (meaning (p .characters) T 0)) × (authorUtility th (meaning (p .characters) T 0) ≤ base → r ≡ 0)) ⌝ }
+    ensures { λ r. ⌜ EndsHere base (now (pack .entry)) (now (places .entry)) p slot (now (work .entry)) r ⌝ }
 {
     let t = table_in(work, p, slot);
     let worth = utility(pack, places[UTILITIES] as usize, work, t, 0);
@@ -186,7 +183,7 @@ pub fn completes_by(
     base: usize,
 ) -> usize
     requires { ⌜ Underway (k .0) (e .0) base (now pack) (now places) p (now work) slot done (suc left) × (x < p .actions) × (0 < k .0) × (k .0 ≤ 6) × Free slot (2 + left + k .0 * e .0) × (done + suc left ≤ length (now list)) × (slot ≡ done * 961) ⌝ }
-    ensures { λ r. ⌜ ((th : Theory) (T : List Node) → Stage th T (now (pack .entry)) (now (places .entry)) p (now (work .entry)) (slotTable p (now (work .entry)) slot) (slot + 961) → Memory th (k .0) p (slot + 961) (now (work .entry)) → Trail th (k .0) (e .0) base p (now (work .entry)) done (suc left) (meaning (p .characters) T 0) → Best (Memory th (k .0) p (slot + 961)) (EndsBy th (k .0) (e .0) base x (meaning (p .characters) T 0)) (suc left) (now (list .entry)) (now (list .exit)) done (slot + 961) (now (work .entry)) (now (work .exit)) r) ⌝ }
+    ensures { λ r. ⌜ Finds (k .0) (e .0) base (now (pack .entry)) (now (places .entry)) p slot done (suc left) (now (list .entry)) (now (list .exit)) (now (work .entry)) (now (work .exit)) r (λ th. EndsBy th (k .0) (e .0) base x) ⌝ }
 {
     let agreed = allowed(pack, places, p, work, slot, p.characters, x, k, e);
     if !agreed {
@@ -228,7 +225,7 @@ pub fn shortest(
     base: usize,
 ) -> Ended
     requires { ⌜ Outset (k .0) base (now pack) (now places) p (now work) × (0 < k .0) × (k .0 ≤ 6) × (e .0 ≤ 3) × (s .0 ≤ 8) × (8 ≤ length (now list)) ⌝ }
-    ensures { λ r. ⌜ ((th : Theory) (T : List Node) → Stage th T (now (pack .entry)) (now (places .entry)) p (now (work .entry)) (slotTable p (now (work .entry)) 0) 961 → Memory th (k .0) p 961 (now (work .entry)) → Written (p .characters) T → authorUtility th (meaning (p .characters) T 0) ≤ base → Shortest (Ends th (k .0) (e .0) base (meaning (p .characters) T 0)) (s .0) (now (list .entry)) (now (list .exit)) (now (work .entry)) (now (work .exit)) r) ⌝ }
+    ensures { λ r. ⌜ ShortestFrom (s .0) (k .0) (e .0) base (now (pack .entry)) (now (places .entry)) p (now (list .entry)) (now (list .exit)) (now (work .entry)) (now (work .exit)) r ⌝ }
 {
     let mut n = 1;
     while n <= s.0 {
@@ -270,7 +267,7 @@ pub fn search_nodes(
     work: &mut [u8],
 ) -> Found
     requires { ⌜ Seekable (now pack) (now places) p first nodes (s .0) (k .0) (e .0) (now list) (now work) ⌝ }
-    ensures { λ r. ⌜ ((th : Theory) (T : List Node) → Seeking th T (now (pack .entry)) (now (places .entry)) p first nodes (s .0) (k .0) (e .0) (now (list .entry)) (now (work .entry)) → SearchPut th (s .0) (k .0) (e .0) (meaning (p .characters) T 0) (now (list .entry)) (now (list .exit)) (now (work .entry)) (now (work .exit)) r) ⌝ }
+    ensures { λ r. ⌜ SearchPutFrom (now (pack .entry)) (now (places .entry)) p first nodes (s .0) (k .0) (e .0) (now (list .entry)) (now (list .exit)) (now (work .entry)) (now (work .exit)) r ⌝ }
 {
     lay_start(pack, first, nodes, p, work);
     let t = table_in(work, p, 0);

@@ -6,20 +6,14 @@ use pack::places::ACTION;
 use pack::places::EFFECTS;
 use pack::places::OBSERVED;
 use pack::table::Table;
-ghost use mathlib.Core.List.{List};
-ghost use Prim.Native.Nat.{ℕ, _<_};
-ghost use Rattle.pack.specs.Syntax.{Effect, Node, Theory};
-ghost use Rattle.pack.specs.State.{meaning};
-ghost use Rattle.pack.specs.Grammar.{Dimensions};
-ghost use Rattle.pack.specs.Contracts.Judge.{Small};
-ghost use Rattle.transition.specs.Happening.{actionOf};
-ghost use Rattle.transition.specs.Contracts.Cause.{EffectsAt, Telling};
-ghost use Rattle.transition.specs.Contracts.Play.{Untold, Setting, Actable, Acted};
+ghost use Prim.Native.Nat.{_<_};
+ghost use Rattle.transition.specs.Contracts.Cause.{Telling, OfEffects};
+ghost use Rattle.transition.specs.Contracts.Play.{Untold, Actable, ActsIn};
 
 // The lowest character that no effect at a place is meant for, or 7.
 pub fn lowest_untold(pack: &[u8], at: usize, characters: usize) -> usize
     requires { ⌜ Telling (now pack) at × (characters < 7) ⌝ }
-    ensures { λ r. ⌜ ((d : Dimensions) → Small d → (es : List Effect) → EffectsAt d (now (pack .entry)) at es → Untold es characters r) ⌝ }
+    ensures { λ r. ⌜ OfEffects (now (pack .entry)) at (λ es. Untold es characters r) ⌝ }
 {
     let mut c = 0;
     while c < characters {
@@ -42,7 +36,7 @@ pub fn act(
     slot: usize,
 ) -> usize
     requires { ⌜ Actable (now pack) (now places) action (now work) t root slot ⌝ }
-    ensures { λ r. ⌜ ((p : Theory) (T : List Node) (actions triggers : ℕ) → Setting p T (now (pack .entry)) (now (places .entry)) actions triggers (now (work .entry)) t slot → action < actions → root < t .nodes → Acted (Rattle.transition.specs.Happening.act (actionOf p action) (meaning (t .characters) T root)) t (now (work .entry)) (now (work .exit)) slot r) ⌝ }
+    ensures { λ r. ⌜ ActsIn (now (pack .entry)) (now (places .entry)) action root t (now (work .entry)) (now (work .exit)) slot r ⌝ }
 {
     let place = places[ACTION * action + EFFECTS];
     let effects = [place; 32];

@@ -6,16 +6,12 @@ use pack::places::PLACES;
 use pack::table::Table;
 use pack::write::write_effects;
 ghost use mathlib.Core.Path.{_≡_};
-ghost use mathlib.Core.List.{List};
-ghost use Rattle.pack.specs.Syntax.{Effect};
-ghost use Rattle.pack.specs.Grammar.{Dimensions};
-ghost use Rattle.pack.specs.Contracts.Judge.{Small};
-ghost use Rattle.transition.specs.Contracts.Cause.{told, EffectsAt, Telling, Tellable, ToldWritten, Watched, Took};
+ghost use Rattle.transition.specs.Contracts.Cause.{told, Telling, OfEffects, Tellable, ToldWritten, Watched, Took};
 
 // Whether some effect at a place is meant for whom.
 pub fn tells(pack: &[u8], at: usize, whom: usize) -> bool
     requires { ⌜ Telling (now pack) at ⌝ }
-    ensures { λ r. ⌜ ((d : Dimensions) → Small d → (es : List Effect) → EffectsAt d (now (pack .entry)) at es → r ≡ told es whom) ⌝ }
+    ensures { λ r. ⌜ OfEffects (now (pack .entry)) at (λ es. r ≡ told es whom) ⌝ }
 {
     if pack.len() <= at {
         return false;

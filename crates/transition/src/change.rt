@@ -19,7 +19,7 @@ ghost use lib.ListN.{length};
 ghost use Rattle.chart.specs.Contracts.Numbers.{Numbering, keyAt};
 ghost use Rattle.transition.specs.Laws.Changed.{acted, old, There};
 ghost use Rattle.transition.specs.Contracts.Cause.{Tabled};
-ghost use Rattle.transition.specs.Inner.Change.{Scene, Stands, Scened, Seen, believed, rowAfter, memberOf, Sourced, SlotIs, SlotsPut, RowRoom, Puts, Laid, RowMade, ChangeMade};
+ghost use Rattle.transition.specs.Inner.Change.{Scene, Stands, Scened, InScene, Seen, believed, rowAfter, memberOf, Sourced, SlotIs, SlotsPut, RowRoom, Puts, Laid, RowMade, ChangeMade};
 
 // Which of a row's seven slots stand for the row having taken part and for the row as it was, the others being its characters'; where the observation conditions are; and the
 // row in which it happens.
@@ -42,7 +42,7 @@ pub fn slot_of(
     d: usize,
 ) -> usize
     requires { ⌜ Scened (now pack) (now places) (now effects) h (now work) t × (m < t .nodes) × (d < t .characters) ⌝ }
-    ensures { λ r. ⌜ ((s : Scene) → Stands s (now (pack .entry)) (now (places .entry)) (now (effects .entry)) h (now (work .entry)) t → SlotIs h (t .nodes) (believed s (t .characters) m d) r) ⌝ }
+    ensures { λ r. ⌜ InScene (now (pack .entry)) (now (places .entry)) (now (effects .entry)) h (now (work .entry)) t (λ s. SlotIs h (t .nodes) (believed s (t .characters) m d) r) ⌝ }
 {
     if tells(pack, effects[m] as usize, d + 1) {
         return m * 7 + d;
@@ -67,7 +67,7 @@ pub fn put_slots(
     to: usize,
 )
     requires { ⌜ Scened (now pack) (now places) (now effects) h (now work) t × (m < t .nodes) × (t .rows + t .nodes * t .width ≤ to) × (to + t .characters ≤ length (now work)) ⌝ }
-    ensures { λ _. ⌜ ((s : Scene) → Stands s (now (pack .entry)) (now (places .entry)) (now (effects .entry)) h (now (work .entry)) t → SlotsPut h (t .nodes) (t .characters) (believed s (t .characters) m) (now (work .entry)) (now (work .exit)) to) ⌝ }
+    ensures { λ _. ⌜ InScene (now (pack .entry)) (now (places .entry)) (now (effects .entry)) h (now (work .entry)) t (λ s. SlotsPut h (t .nodes) (t .characters) (believed s (t .characters) m) (now (work .entry)) (now (work .exit)) to) ⌝ }
 {
     let mut d = 0;
     while d < t.characters {
@@ -89,7 +89,7 @@ pub fn put_acted(
     to: usize,
 )
     requires { ⌜ Scened (now pack) (now places) (now effects) h (now work) t × (m < t .nodes) × RowRoom (now work) t to ⌝ }
-    ensures { λ _. ⌜ ((s : Scene) → Stands s (now (pack .entry)) (now (places .entry)) (now (effects .entry)) h (now (work .entry)) t → Puts s h t (acted m) (now (work .entry)) (now (work .exit)) to) ⌝ }
+    ensures { λ _. ⌜ InScene (now (pack .entry)) (now (places .entry)) (now (effects .entry)) h (now (work .entry)) t (λ s. Puts s h t (acted m) (now (work .entry)) (now (work .exit)) to) ⌝ }
 {
     let from = t.rows + m * t.width;
     copy_part(work, from, to, t.fluents);
@@ -168,7 +168,7 @@ pub fn put_row(
     to: usize,
 )
     requires { ⌜ Scened (now pack) (now places) (now effects) h (now work) t × (m < t .nodes) × (took ≡ false → h .old < 7) × RowRoom (now work) t to ⌝ }
-    ensures { λ _. ⌜ ((s : Scene) → Stands s (now (pack .entry)) (now (places .entry)) (now (effects .entry)) h (now (work .entry)) t → Puts s h t (rowAfter m took) (now (work .entry)) (now (work .exit)) to) ⌝ }
+    ensures { λ _. ⌜ InScene (now (pack .entry)) (now (places .entry)) (now (effects .entry)) h (now (work .entry)) t (λ s. Puts s h t (rowAfter m took) (now (work .entry)) (now (work .exit)) to) ⌝ }
 {
     if took {
         put_acted(pack, places, effects, h, work, t, m, to)
@@ -189,7 +189,7 @@ pub fn put_member(
     to: usize,
 )
     requires { ⌜ Scened (now pack) (now places) (now effects) h (now work) t × (slot < t .nodes * 7 + 1) × There (t .characters) (memberOf h (t .nodes) slot) × RowRoom (now work) t to ⌝ }
-    ensures { λ _. ⌜ ((s : Scene) → Stands s (now (pack .entry)) (now (places .entry)) (now (effects .entry)) h (now (work .entry)) t → Puts s h t (memberOf h (t .nodes) slot) (now (work .entry)) (now (work .exit)) to) ⌝ }
+    ensures { λ _. ⌜ InScene (now (pack .entry)) (now (places .entry)) (now (effects .entry)) h (now (work .entry)) t (λ s. Puts s h t (memberOf h (t .nodes) slot) (now (work .entry)) (now (work .exit)) to) ⌝ }
 {
     let from = made_of(pack, places, h, work, t, slot);
     put_row(pack, places, effects, h, work, t, from.row, from.took, to);
@@ -214,7 +214,7 @@ pub fn change_row(
 ) -> usize
     requires { ⌜ Scened (now pack) (now places) (now effects) h (now work) t × Laid (now work) t b u ⌝ }
     requires { ⌜ Numbering (now work) b (t .nodes * 7 + 1) count × (i < count) × There (t .characters) (memberOf h (t .nodes) (keyAt (now work) b (t .nodes * 7 + 1) i)) ⌝ }
-    ensures { λ r. ⌜ ((s : Scene) → Stands s (now (pack .entry)) (now (places .entry)) (now (effects .entry)) h (now (work .entry)) t → RowMade s h t (now (work .entry)) (now (work .exit)) b u i count r) ⌝ }
+    ensures { λ r. ⌜ InScene (now (pack .entry)) (now (places .entry)) (now (effects .entry)) h (now (work .entry)) t (λ s. RowMade s h t (now (work .entry)) (now (work .exit)) b u i count r) ⌝ }
 {
     let size = t.nodes * 7 + 1;
     let slot = wide(work[b + size + i]);
@@ -247,7 +247,7 @@ pub fn change_table(
     u: usize,
 ) -> usize
     requires { ⌜ Scened (now pack) (now places) (now effects) h (now work) t × Laid (now work) t b u ⌝ }
-    ensures { λ r. ⌜ ((s : Scene) → Stands s (now (pack .entry)) (now (places .entry)) (now (effects .entry)) h (now (work .entry)) t → ChangeMade s h t (now (work .entry)) (now (work .exit)) b u r) ⌝ }
+    ensures { λ r. ⌜ InScene (now (pack .entry)) (now (places .entry)) (now (effects .entry)) h (now (work .entry)) t (λ s. ChangeMade s h t (now (work .entry)) (now (work .exit)) b u r) ⌝ }
 {
     let size = t.nodes * 7 + 1;
     clear(work, b, size);

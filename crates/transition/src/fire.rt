@@ -7,12 +7,8 @@ use pack::table::Table;
 ghost use Prim.Native.Nat.{_<_, _≤_};
 ghost use mathlib.Core.Path.{_≡_};
 ghost use mathlib.Core.Bool.{_||_};
-ghost use mathlib.Core.List.{List};
 ghost use lib.ListN.{length};
-ghost use Rattle.pack.specs.Syntax.{Trigger, Node};
-ghost use Rattle.pack.specs.Grammar.{Dimensions};
-ghost use Rattle.transition.specs.Contracts.Cause.{Tabled};
-ghost use Rattle.transition.specs.Inner.Fire.{Triggered, Firable, Fires, FiredBelow};
+ghost use Rattle.transition.specs.Inner.Fire.{Firable, Fires, FiresAll};
 
 // The place of the effects of the lowest trigger that holds in row m, or 8192, which is behind every pack.
 pub fn firing(pack: &[u8], places: &[u16], triggers: usize, work: &[u8], t: Table, m: usize) -> u16
@@ -45,7 +41,7 @@ pub fn fire_all(
     effects: &mut [u16],
 ) -> bool
     requires { ⌜ Firable (now pack) (now places) triggers (now work) t × (t .nodes ≤ length (now effects)) ⌝ }
-    ensures { λ r. ⌜ ((d : Dimensions) (table : List Node) (ts : List Trigger) → Tabled d table (now (work .entry)) t → Triggered d (now (pack .entry)) (now (places .entry)) ts triggers → FiredBelow d (now (pack .entry)) ts (t .characters) table (t .nodes) (now (effects .exit)) r) ⌝ }
+    ensures { λ r. ⌜ FiresAll (now (pack .entry)) (now (places .entry)) triggers (now (work .entry)) t (now (effects .exit)) r ⌝ }
 {
     let mut any = false;
     let mut m = 0;

@@ -14,15 +14,11 @@ use pack::effects::some_effect;
 use pack::table::Table;
 ghost use mathlib.Core.Path.{_≡_};
 ghost use mathlib.Core.Bool.{true};
-ghost use mathlib.Core.List.{List};
 ghost use Prim.Native.Nat.{ℕ, _<_, _≤_};
 ghost use lib.ListN.{length, getD};
-ghost use Rattle.pack.specs.Syntax.{Effect};
-ghost use Rattle.pack.specs.Grammar.{Dimensions};
-ghost use Rattle.pack.specs.Contracts.Judge.{Small};
 ghost use Rattle.pack.specs.Contracts.Table.{tableOf, stateOf};
-ghost use Rattle.transition.specs.Contracts.Cause.{EffectsAt, Telling};
-ghost use Rattle.transition.specs.Inner.Change.{Scene, Stands, Scened};
+ghost use Rattle.transition.specs.Contracts.Cause.{Telling, OfEffects};
+ghost use Rattle.transition.specs.Inner.Change.{Scene, Scened, InScene};
 ghost use Rattle.transition.specs.Contracts.Stage.{StageRoom, Staged};
 ghost use Rattle.transition.specs.Contracts.Play.{Slotted, Acted};
 ghost use Rattle.transition.specs.Inner.Round.{Silent, Caused, CausedSome, Rewritten, SlotTable, Everyone};
@@ -30,7 +26,7 @@ ghost use Rattle.transition.specs.Inner.Round.{Silent, Caused, CausedSom
 // Whether the effects at a place are meant for nobody's beliefs.
 pub fn silent(pack: &[u8], at: usize) -> bool
     requires { ⌜ Telling (now pack) at ⌝ }
-    ensures { λ r. ⌜ ((d : Dimensions) → Small d → (es : List Effect) → EffectsAt d (now (pack .entry)) at es → r ≡ true → Silent es) ⌝ }
+    ensures { λ r. ⌜ OfEffects (now (pack .entry)) at (λ es. r ≡ true → Silent es) ⌝ }
 {
     if pack.len() <= at {
         return true;
@@ -44,7 +40,7 @@ pub fn silent(pack: &[u8], at: usize) -> bool
 // Whether the effects in the first n rows are.
 pub fn all_silent(pack: &[u8], effects: &[u16], n: usize) -> bool
     requires { ⌜ (n ≤ 32) × (n ≤ length (now effects)) × ((m : ℕ) → m < n → Telling (now pack) (getD (now effects) m 0)) ⌝ }
-    ensures { λ r. ⌜ (r ≡ true → (m : ℕ) → m < n → (d : Dimensions) → Small d → (es : List Effect) → EffectsAt d (now (pack .entry)) (getD (now (effects .entry)) m 0) es → Silent es) ⌝ }
+    ensures { λ r. ⌜ (r ≡ true → (m : ℕ) → m < n → OfEffects (now (pack .entry)) (getD (now (effects .entry)) m 0) Silent) ⌝ }
 {
     let mut m = 0;
     while m < n {
@@ -120,7 +116,7 @@ pub fn round(
     slot: usize,
 ) -> usize
     requires { ⌜ Scened (now pack) (now places) (now effects) h (now work) t × StageRoom (now work) t slot × Everyone h × Slotted (tableOf t (now work)) (now work) t slot ⌝ }
-    ensures { λ r. ⌜ ((s : Scene) → Stands s (now (pack .entry)) (now (places .entry)) (now (effects .entry)) h (now (work .entry)) t → Staged s (h .root) t (now (work .entry)) (now (work .exit)) slot r) ⌝ }
+    ensures { λ r. ⌜ InScene (now (pack .entry)) (now (places .entry)) (now (effects .entry)) h (now (work .entry)) t (λ s. Staged s (h .root) t (now (work .entry)) (now (work .exit)) slot r) ⌝ }
 {
     if !all_silent(pack, effects, t.nodes) {
         return stage(pack, places, effects, h, work, t, slot);

@@ -4,11 +4,7 @@ use crate::fire::fire_all;
 use crate::round::round;
 use pack::places::PLACES;
 use pack::table::Table;
-ghost use mathlib.Core.List.{List};
-ghost use Prim.Native.Nat.{ℕ};
-ghost use Rattle.pack.specs.Syntax.{Node, Theory};
-ghost use Rattle.pack.specs.State.{meaning};
-ghost use Rattle.transition.specs.Contracts.Play.{Setting, Slotted, SettledIn, Settleable};
+ghost use Rattle.transition.specs.Contracts.Play.{Settleable, SettlesIn};
 
 // Settles the state in a slot, of which t is the table: 0 where it does, 12 where there are more than 32 states, 11 where a trigger holds after round 16.
 pub fn settle(
@@ -20,7 +16,7 @@ pub fn settle(
     slot: usize,
 ) -> u8
     requires { ⌜ Settleable (now pack) (now places) triggers (now work) t slot ⌝ }
-    ensures { λ r. ⌜ ((p : Theory) (T : List Node) (actions : ℕ) → Setting p T (now (pack .entry)) (now (places .entry)) actions triggers (now (work .entry)) t slot → Slotted T (now (work .entry)) t slot → SettledIn p (meaning (t .characters) T 0) t (now (work .entry)) (now (work .exit)) slot r) ⌝ }
+    ensures { λ r. ⌜ SettlesIn (now (pack .entry)) (now (places .entry)) triggers t (now (work .entry)) (now (work .exit)) slot r ⌝ }
 {
     if triggers == 0 {
         return 0;

@@ -14,7 +14,7 @@ use pack::table::Table;
 ghost use Prim.Native.Nat.{_+_, _*_, _≤_};
 ghost use lib.ListN.{length, set};
 ghost use Rattle.chart.specs.Contracts.Put.{PartCopied};
-ghost use Rattle.transition.specs.Inner.Change.{Scene, Stands, Scened};
+ghost use Rattle.transition.specs.Inner.Change.{Scene, Scened, InScene};
 ghost use Rattle.transition.specs.Contracts.Stage.{StageRoom, Staged};
 
 // Puts n rows of w bytes, which stand from `from` on in the scratch, into the slot at `slot`: their count there and the rows behind it.
@@ -37,7 +37,7 @@ pub fn stage(
     slot: usize,
 ) -> usize
     requires { ⌜ Scened (now pack) (now places) (now effects) h (now work) t × StageRoom (now work) t slot ⌝ }
-    ensures { λ r. ⌜ ((s : Scene) → Stands s (now (pack .entry)) (now (places .entry)) (now (effects .entry)) h (now (work .entry)) t → Staged s (h .root) t (now (work .entry)) (now (work .exit)) slot r) ⌝ }
+    ensures { λ r. ⌜ InScene (now (pack .entry)) (now (places .entry)) (now (effects .entry)) h (now (work .entry)) t (λ s. Staged s (h .root) t (now (work .entry)) (now (work .exit)) slot r) ⌝ }
 {
     let rows = change_table(pack, places, effects, h, work, t, NUMBERS, MADE);
     if rows == 1 {

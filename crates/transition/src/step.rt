@@ -4,11 +4,7 @@ use crate::settle::settle;
 use pack::judge::holds;
 use pack::places::ACTION;
 use pack::table::Table;
-ghost use mathlib.Core.List.{List};
-ghost use Prim.Native.Nat.{ℕ, _<_};
-ghost use Rattle.pack.specs.Syntax.{Node, Theory};
-ghost use Rattle.pack.specs.State.{meaning};
-ghost use Rattle.transition.specs.Contracts.Play.{Setting, Playable, PlayedIn};
+ghost use Rattle.transition.specs.Contracts.Play.{Playable, PlaysIn};
 
 // Plays an action in what a row of a table means, into a slot: 0, or 10, 11 or 12.
 pub fn step_slot(
@@ -22,7 +18,7 @@ pub fn step_slot(
     slot: usize,
 ) -> u8
     requires { ⌜ Playable (now pack) (now places) triggers action (now work) t root slot ⌝ }
-    ensures { λ r. ⌜ ((p : Theory) (T : List Node) (actions : ℕ) → Setting p T (now (pack .entry)) (now (places .entry)) actions triggers (now (work .entry)) t slot → action < actions → root < t .nodes → PlayedIn p (meaning (t .characters) T root) action t (now (work .entry)) (now (work .exit)) slot r) ⌝ }
+    ensures { λ r. ⌜ PlaysIn (now (pack .entry)) (now (places .entry)) triggers action root t (now (work .entry)) (now (work .exit)) slot r ⌝ }
 {
     let may = holds(pack, places[ACTION * action] as usize, work, t, root);
     if !may {

@@ -34,11 +34,6 @@ module _ (C : ℕ) (t : List Node) (r : IsTable C t) where
   pub start-table-iff : (rows : List Node) → Starts C means0 rows ↔ (startTable C t ≡ rows)
   start-table-iff rows = (λ y. starts-one C means0 (startTable C t) rows start-table y, λ e. subst (Starts C means0) e start-table)
 
--- two tables with one meaning
-module _ (C : ℕ) (t u : List Node) (r : IsTable C t) (q : IsTable C u) (e : meaning C t 0 ≡ meaning C u 0) where
-  pub start-table-same : startTable C t ≡ startTable C u
-  start-table-same = start-table-iff C t r (startTable C u) .0 (subst (λ (s : State). Starts C s (startTable C u)) (sym e) (start-table C u q))
-
 -- one meaning is: no chain of characters that are there tells them apart
 pub one-meaning : (C : ℕ) (t u : List Node) → ((chain : List ℕ) → Valid C chain → meaning C t 0 chain ≡ meaning C u 0 chain) → meaning C t 0 ≡ meaning C u 0
 one-meaning C t u h = same-valid C t u 0 0 .1 h
@@ -122,11 +117,3 @@ module _ (C F : ℕ) (t u : List Node) (r : IsFull C F t) (q : IsFull C F u) whe
     ]
     | no n ↦ absurd (n r)
   ]
-
--- four tables with two meanings
-pub compare-table-same : (C F : ℕ) (t u t′ u′ : List Node) → IsFull C F t → IsFull C F u → IsFull C F t′ → IsFull C F u′ → meaning C t 0 ≡ meaning C t′ 0 → meaning C u 0 ≡ meaning C u′ 0
-    → compareTable C F t u ≡ compareTable C F t′ u′
-compare-table-same C F t u t′ u′ r q r′ q′ e g =
-    compare-table-iff C F t u r q (compareTable C F t′ u′) .0
-    (subst (λ (s : State). Compared C s (meaning C u 0) (compareTable C F t′ u′)) (sym e)
-    (subst (λ (s : State). Compared C (meaning C t′ 0) s (compareTable C F t′ u′)) (sym g) (compare-table-iff C F t′ u′ r′ q′ (compareTable C F t′ u′) .1 refl)))

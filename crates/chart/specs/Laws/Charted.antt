@@ -152,14 +152,6 @@ chart {C} x =
     classes-zero : (cls : ℕ → ℕ) → classes cls 0 ≡ 0
     classes-zero cls = unfold classes in refl
 
--- it is one, whatever the tables were
-pub chart-one : {C : ℕ} {s : State} (x y : Charting C s) → x .rows ≡ y .rows
-chart-one {C} x y = unique C (x .rows) (y .rows) (x .written) (y .written) (x .means ∙ sym (y .means))
-
--- and it is a table itself
-pub chart-tabled : {C : ℕ} {s : State} → Charting C s → Tabled C s
-chart-tabled x = record { table = x .rows; closed = x .written .ordered .closed; some = some (x .rows) (x .written .ordered .whole); means = x .means }
-
 module _ {C : ℕ} {s : State} (x : Charting C s) where
   pub few-rows : (n : ℕ) → AtMost n C s ↔ (length (x .rows) ≤ n)
   few-rows n =

@@ -52,10 +52,6 @@ module _ {R S : ℕ → ℕ → Type 0} (r : Sorts R) (s : Sorts S) (N : ℕ) (f
   unfolding First
   finer n k h m l x = h m l (f m n (omega arith) k x)
 
-  pub classes-le : classes-of r N ≤ classes-of s N
-  unfolding classes-of
-  classes-le = count-le (first? r) (first? s) N finer
-
   pub classes-eq : classes-of s N ≤ classes-of r N → (n m : ℕ) → n < N → m < N → R n m → S n m
   unfolding classes-of
   classes-eq h n m ln lm x =

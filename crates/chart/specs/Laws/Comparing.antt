@@ -136,10 +136,3 @@ module _ {C F : ℕ} where
   pub compare-short : {s s′ : State} (x : Full C F s) (y : Full C F s′) (chain : List ℕ) (f : ℕ) → compareOf x y ≡ differ chain f → length chain ≤ (length (x .table .table) + length (y .table .table)) - 2
   unfolding compareOf
   compare-short x y chain f e = subst (λ (r : Verdict). Long r ≤ (length (x .table .table) + length (y .table .table)) - 2) e (comparing x y .1)
-
-  pub compared-iff : {s s′ : State} (x : Full C F s) (y : Full C F s′) (r : Verdict) → Compared C s s′ r ↔ (compareOf x y ≡ r)
-  compared-iff {s} {s′} x y r = (λ h. compared-one C s s′ (compareOf x y) r (compared x y) h, λ e. subst (Compared C s s′) e (compared x y))
-
-  pub compare-same : {s s′ z z′ : State} (x : Full C F s) (y : Full C F s′) (v : Full C F z) (w : Full C F z′) → s ≡ z → s′ ≡ z′ → compareOf x y ≡ compareOf v w
-  compare-same {s} {s′} {z} {z′} x y v w e g = compared-one C z z′ (compareOf x y) (compareOf v w)
-      (subst (λ (s′ : State). Compared C z s′ (compareOf x y)) g (subst (λ (s : State). Compared C s s′ (compareOf x y)) e (compared x y))) (compared v w)

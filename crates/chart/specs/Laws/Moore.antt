@@ -121,16 +121,8 @@ module _ (C : ℕ) (val : ℕ → List ℕ) (bel : ℕ → ℕ → ℕ) where
     exact-all k key ex st n m ln lm =
         (λ e. fun-ext λ ch. stable-all k st ch n m ln lm (ex n m ln lm .0 e), λ p. ex n m ln lm .1 (λ ch l. ap (λ f. f ch) p))
 
-    -- they may stop after N - 1 rounds
-    pub exact-bound : (key : ℕ → ℕ) → Exact N (N - 1) key → (n m : ℕ) → n < N → m < N → (key n ≡ key m) ↔ (at n ≡ at m)
-    exact-bound key ex = exact-all (N - 1) key ex (λ n m ln lm s ch l. ap (λ f. f ch) (bound n m ln lm s))
-
     -- and before that where one more round, key′, splits no class
     module _ (k : ℕ) (key key′ : ℕ → ℕ) (ex : Exact N k key) (ex′ : Exact N (suc k) key′) where
-      -- seen by a look at one node of each class
-      pub stop-rep : (rep : ℕ → ℕ) → ((n : ℕ) → n < N → key′ n ≡ key′ (rep (key n))) → Stable k
-      stop-rep rep h n m ln lm s = ex′ n m ln lm .0 (h n ln ∙ ap (λ i. key′ (rep i)) (ex n m ln lm .1 s) ∙ sym (h m lm))
-
       -- or by their number: each number below q is used before, and after the round all numbers are below q
       pub stop-count : (q : ℕ) → ((i : ℕ) → i < q → (n : ℕ) × (n < N) × (key n ≡ i)) → ((n : ℕ) → n < N → key′ n < q) → Stable k
       stop-count q used below n m ln lm s =

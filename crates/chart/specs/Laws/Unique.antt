@@ -58,10 +58,6 @@ module _ (C : ℕ) (t u : List Node) (w : Written C t) (v : Written C u) (e : me
       (λ x. by-cases (decLt (length u) (length t)) (λ l. absurd (omega (arith, w .ordered .known (length u) l, v .ordered .whole, upto (length u) (omega arith) (omega arith) .0))) (λ y. omega arith)) in
       ext-getD nowhere t u long (upto (length t) (omega arith) (omega arith) .2)
 
--- written charts are equal exactly when no chain tells them apart
-pub written-same : (C : ℕ) (t u : List Node) → Written C t → Written C u → (t ≡ u) ↔ ((chain : List ℕ) → Valid C chain → meaning C t 0 chain ≡ meaning C u 0 chain)
-written-same C t u w v = (λ e chain x. ap (λ (t : List Node). meaning C t 0 chain) e, λ h. unique C t u w v (same-valid C t u 0 0 .1 h))
-
 -- every row is reached: so the rows of a written chart are the states reached by beliefs, each once
 pub named : (i k : ℕ) (bs : List ℕ) → Fresh k bs → i < meets k bs → (i < k) ⊎ ((c : ℕ) × (c < length bs) × (getD bs c 0 ≡ i))
 unfolding meets Fresh

@@ -124,10 +124,6 @@ pub some-none : (σ : State) → holds σ [] ≡ false
 unfolding holds
 some-none σ = refl
 
--- the place after a test
-pub test-ends : (d : Dimensions) → Small d → (s : List ℕ) (n : ℕ) (x : Test) (m : ℕ) → testAt d s n ≡ done x m → (k : ℕ) → getD s n 0 ≡ k → (m ≡ (n + 4) + k) × ((n + 4) + k ≤ length s)
-test-ends d small s n x m e k q = let b = test-bytes d small s n x m e in let i = b .ends in let j = b .inside in (omega arith, omega arith)
-
 -- a rule: its condition, and its number behind it
 pub record RuleParts (d : Dimensions) (s : List ℕ) (n : ℕ) (x : Rule) (m : ℕ) : Type 0 where
   pub middle : ℕ

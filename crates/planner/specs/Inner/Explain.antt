@@ -6,7 +6,7 @@ use mathlib.Core.List.{List}
 use Prim.Native.Nat.{ℕ, _+_, _*_, _<_, _≤_}
 use lib.ListN.{length}
 use Rattle.pack.specs.Syntax.{Node, Theory}
-use Rattle.pack.specs.State.{State}
+use Rattle.pack.specs.State.{State, meaning}
 use Rattle.pack.specs.Contracts.Answer.{dims}
 use Rattle.pack.specs.Contracts.Table as table
 use Rattle.pack.specs.declared.table.Table.{Table}
@@ -16,6 +16,8 @@ use Rattle.transition.specs.Contracts.Cause.{Tabled}
 use Rattle.transition.specs.Happening.{Plays}
 use Rattle.transition.specs.Contracts.Play.{Theorized, Left}
 use Rattle.planner.specs.declared.memory.Shape.{Shape}
+use Rattle.planner.specs.Ending.{Explained}
+use Rattle.planner.specs.Inner.Lists.{slotTable}
 use Rattle.planner.specs.Inner.Memory.{InSlot, Memory}
 
 -- a theory, found in the pack, and a table before the first free slot
@@ -48,6 +50,12 @@ pub record Told (M : List ℕ → Type 0) (slot : ℕ) (was now : List ℕ) (r :
   pub high : table.Above was now workRoom
   pub memory : M now
 
+-- asked about the state in a slot, where what is known is true: the flag r says whether P holds of it
+abbrev pub Answers : (foresight : ℕ) (pack places : List ℕ) (h : Shape) (slot : ℕ) (work work′ : List ℕ) (r : Bool) (P : Theory → State → Type 0) → Type 0
+Answers foresight pack places h slot work work′ r P =
+    (th : Theory) (T : List Node) → Stage th T pack places h work (slotTable h work slot) (slot + 961) → Memory th foresight h (slot + 961) work
+    → Told (Memory th foresight h (slot + 961)) (slot + 961) work work′ r (P th (meaning (h .characters) T 0))
+
 -- an action and a row of the table
 abbrev pub Steppable : (pack places : List ℕ) (h : Shape) (a : ℕ) (work : List ℕ) (t : Table) (root slot : ℕ) → Type 0
 Steppable pack places h a work t root slot = (foresight : ℕ) × (Prepared foresight pack places h work t slot × (a < h .actions) × (root < t .nodes) × Free slot 1)
@@ -60,6 +68,12 @@ pub record Advanced (p : Theory) (foresight : ℕ) (h : Shape) (z : State) (a : 
   pub high : table.Above was now workRoom
   pub memory : Memory p foresight h slot now
   pub further : r ≡ 0 → Memory p foresight h (slot + 961) now
+
+-- a step of what row `root` of the table in a slot means, into the slot behind it
+abbrev pub Advances : (pack places : List ℕ) (h : Shape) (a : ℕ) (slot root : ℕ) (work work′ : List ℕ) (r : ℕ) → Type 0
+Advances pack places h a slot root work work′ r =
+    (th : Theory) (T : List Node) (foresight : ℕ) → Stage th T pack places h work (slotTable h work slot) (slot + 961) → Memory th foresight h (slot + 961) work
+    → Advanced th foresight h (meaning (h .characters) T root) a (slotTable h work slot) work work′ (slot + 961) r
 
 -- an accepted pack and chart, and numbers of something there
 pub record Judging (th : Theory) (T : List Node) (pack places : List ℕ) (h : Shape) (chart : List ℕ) (nodes character action foresight nesting : ℕ) (work : List ℕ) : Type 0 where
@@ -81,3 +95,9 @@ pub record Verdict (P : Type 0) (work work′ : List ℕ) (r : Bool) : Type 0 wh
   pub sound : r ≡ true → P
   pub complete : r ≡ false → P → ⊥
   pub scratch : work′ ≡ cleared work
+
+-- whether the action is explained to the character in what the chart means
+abbrev pub VerdictOf : (pack places : List ℕ) (h : Shape) (chart : List ℕ) (nodes character action foresight nesting : ℕ) (work work′ : List ℕ) (r : Bool) → Type 0
+VerdictOf pack places h chart nodes character action foresight nesting work work′ r =
+    (th : Theory) (T : List Node) → Judging th T pack places h chart nodes character action foresight nesting work
+    → Verdict (Explained th foresight nesting character action (meaning (h .characters) T 0)) work work′ r

@@ -65,6 +65,19 @@ abbrev pub Underway : (foresight nesting base : ℕ) (pack places : List ℕ) (h
 Underway K e base pack places h work slot n left =
     (p : Theory) × ((T : List Node) × (Stage p T pack places h work (slotTable h work slot) (slot + 961) × Memory p K h (slot + 961) work × Trail p K e base h work n left (meaning (h .characters) T 0)))
 
+-- asked of the state in a slot, the last of the path, where what is known is true: r is the utility at the end of the earliest good list of `left` actions, which is put down
+abbrev pub Finds : (foresight nesting base : ℕ) (pack places : List ℕ) (h : Shape) (slot n left : ℕ) (was now work work′ : List ℕ) (r : ℕ) (Good : Theory → State → List ℕ → ℕ → Type 0) → Type 0
+Finds K e base pack places h slot n left was now work work′ r Good =
+    (th : Theory) (T : List Node) → Stage th T pack places h work (slotTable h work slot) (slot + 961) → Memory th K h (slot + 961) work
+    → Trail th K e base h work n left (meaning (h .characters) T 0)
+    → Best (Memory th K h (slot + 961)) (Good th (meaning (h .characters) T 0)) left was now n (slot + 961) work work′ r
+
+-- the author's utility in the state in a slot where it is above base, or 0
+abbrev pub EndsHere : (base : ℕ) (pack places : List ℕ) (h : Shape) (slot : ℕ) (work : List ℕ) (r : ℕ) → Type 0
+EndsHere base pack places h slot work r =
+    (th : Theory) (T : List Node) → Stage th T pack places h work (slotTable h work slot) (slot + 961)
+    → (base < authorUtility th (meaning (h .characters) T 0) → r ≡ authorUtility th (meaning (h .characters) T 0)) × (authorUtility th (meaning (h .characters) T 0) ≤ base → r ≡ 0)
+
 -- a stage with a written chart and a memory, and the author's utility there is at most base
 abbrev pub Outset : (foresight base : ℕ) (pack places : List ℕ) (h : Shape) (work : List ℕ) → Type 0
 Outset K base pack places h work = (p : Theory) × ((T : List Node) × (Stage p T pack places h work (slotTable h work 0) 961 × Memory p K h 961 work × Written (h .characters) T × (authorUtility p (meaning (h .characters) T 0) ≤ base)))
@@ -81,6 +94,12 @@ pub record Shortest (Good : List ℕ → ℕ → Type 0) (story : ℕ) (was now 
   pub shortest : (other : List ℕ) (v : ℕ) → 0 < length other → length other < r .count → ¬ Good other v
   pub low : Below work work′ 961
   pub high : Above work work′ workRoom
+
+-- of the state in the first slot
+abbrev pub ShortestFrom : (story foresight nesting base : ℕ) (pack places : List ℕ) (h : Shape) (was now work work′ : List ℕ) (r : Ended) → Type 0
+ShortestFrom T K e base pack places h was now work work′ r =
+    (th : Theory) (table : List Node) → Stage th table pack places h work (slotTable h work 0) 961 → Memory th K h 961 work → Written (h .characters) table
+    → authorUtility th (meaning (h .characters) table 0) ≤ base → Shortest (Ends th K e base (meaning (h .characters) table 0)) T was now work work′ r
 
 -- the nodes that are read from a place on, and room
 pub record Laying (T : List Node) (pack : List ℕ) (first nodes : ℕ) (h : Shape) (work : List ℕ) : Type 0 where
@@ -121,3 +140,9 @@ pub record SearchPut (th : Theory) (story foresight nesting : ℕ) (s : State) (
   pub said : searchSaid r ≡ told summary (answerReply answer)
   pub result : list′ ≡ resultAfter (told (λ p. p .list) (answerReply answer)) list
   pub scratch : work′ ≡ cleared work
+
+-- the same, from what node 0 means of the nodes that are read from a place on
+abbrev pub SearchPutFrom : (pack places : List ℕ) (h : Shape) (first nodes story foresight nesting : ℕ) (list list′ work work′ : List ℕ) (r : Found) → Type 0
+SearchPutFrom pack places h first nodes story foresight nesting list list′ work work′ r =
+    (th : Theory) (T : List Node) → Seeking th T pack places h first nodes story foresight nesting list work
+    → SearchPut th story foresight nesting (meaning (h .characters) T 0) list list′ work work′ r

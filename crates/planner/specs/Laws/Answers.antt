@@ -38,13 +38,3 @@ module _ (p : Theory) (t : List Node) (r : IsTable (p .characters) t) where
 module _ (p : Theory) (t u : List Node) (r : IsTable (p .characters) t) (q : IsTable (p .characters) u) (e : meaning (p .characters) t 0 ≡ meaning (p .characters) u 0) where
   pub search-table-same : (T K E : ℕ) → searchTable p T K E t ≡ searchTable p T K E u
   search-table-same T K E = search-table-iff p t r T K E (searchTable p T K E u) .0 (subst (λ (s : State). Searched p T K E s (searchTable p T K E u)) (sym e) (search-table p u q T K E))
-
-  pub explained-table-same : (K n c a : ℕ) → explainedTable p K n c a t ≡ explainedTable p K n c a u
-  explained-table-same K n c a = bools (explainedTable p K n c a t) (explainedTable p K n c a u)
-      (λ x. explained-table-iff p u q K n c a .1 (subst (λ (s : State). Explained p K n c a s) e (explained-table-iff p t r K n c a .0 x)))
-      (λ x. explained-table-iff p t r K n c a .1 (subst (λ (s : State). Explained p K n c a s) (sym e) (explained-table-iff p u q K n c a .0 x)))
-    where
-      bools : (a b : Bool) → (a ≡ true → b ≡ true) → (b ≡ true → a ≡ true) → a ≡ b
-      bools true b f g = sym (f refl)
-      bools false true f g = g refl
-      bools false false f g = refl

@@ -28,18 +28,6 @@ module _ (p : Theory) (asked : ℕ → Type 0) (content : ℕ → ℕ → State 
   leads-split [] m s u x = (s, refl, x)
   leads-split (a ∷ l) m s u x = let (t, y, z) = leads-split l m (x .0) u (x .3) in (t, (x .0, x .1, x .2, y), z)
 
--- an ending that comes back to a state is an ending without the way around, if something is left
-pub shortcut : (p : Theory) (k t e : ℕ) (s : State) (l m r : List ℕ) (v u : State) → 0 < length (l ++ r)
-    → Leads p (λ d. Unit {0}) (Explained p k e) s l v → Leads p (λ d. Unit {0}) (Explained p k e) v m v → Leads p (λ d. Unit {0}) (Explained p k e) v r u
-    → (x : Ending p t k e s (l ++ (m ++ r))) → x .end ≡ u → Ending p t k e s (l ++ r)
-shortcut p k t e s l m r v u pos a b c x g = record {
-  some = pos;
-  within = omega (arith, x .within, length-append l r, length-append l (m ++ r), length-append m r);
-  end = u;
-  leads = leads-join p (λ d. Unit {0}) (Explained p k e) l r s v u a c;
-  better = rw g at (x .better);
-}
-
 -- a list of actions is of those that are there
 pub leads-low : (p : Theory) (asked : ℕ → Type 0) (content : ℕ → ℕ → State → Type 0) (list : List ℕ) (s t : State) → Leads p asked content s list t → Valid (length (p .actions)) list
 unfolding Leads Valid

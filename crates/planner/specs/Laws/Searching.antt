@@ -47,11 +47,3 @@ module _ (p : Theory) (T K E : ℕ) where
   searched-one s (ending l w v) none x y = absurd (y l (x .first .good))
   searched-one s none (ending l w v) x y = absurd (x l (y .first .good))
   searched-one s none none x y = refl
-
-  -- the relation is the function
-  pub searched-iff : {s : State} (x : Tabled (p .characters) s) (r : Answer) → Searched p T K E s r ↔ (searchOf x ≡ r)
-  searched-iff {s} x r = (λ y. searched-one s (searchOf x) r (searched x) y, λ e. subst (Searched p T K E s) e (searched x))
-
-  -- which no table decides
-  pub search-same : {s s′ : State} (x : Tabled (p .characters) s) (y : Tabled (p .characters) s′) → s ≡ s′ → searchOf x ≡ searchOf y
-  search-same {s} {s′} x y e = searched-one s (searchOf x) (searchOf y) (searched x) (subst (λ (s : State). Searched p T K E s (searchOf y)) (sym e) (searched y))

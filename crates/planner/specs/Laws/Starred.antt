@@ -6,8 +6,8 @@ use mathlib.Core.List.{List, [], _∷_}
 use native.Mathlib.Omega.{arith}
 use lib.Dec.{ltb}
 use borrow.Author.Tests.{ltb-true}
-use Rattle.pack.specs.Syntax.{Node, Pack}
-use Rattle.pack.specs.Reading.{gives, refuses, runs}
+use Rattle.pack.specs.Syntax.{Node, Theory, Pack}
+use Rattle.pack.specs.Reading.{Reply, gives, refuses, runs}
 use Rattle.pack.specs.Number.{numberAt, between, beliefAt, risingAt}
 use Rattle.pack.specs.Grammar.{packOf, chartOf, packAt, headAt, nodesAt, nodeAt, theoryAt, actionAt, triggerAt, rulesAt, ruleAt, conditionAt, testAt, effectsAt, effectAt, consentersAt}
 use Rattle.pack.specs.Condition.{compares, passes, allPass, holds, utility}
@@ -15,13 +15,16 @@ use Rattle.pack.specs.State.{meaning}
 use Rattle.pack.specs.Layout.{numberBytes, listBytes, Each}
 use Rattle.pack.specs.Laws.Exact.{Bytes}
 use Rattle.chart.specs.Compare.{same, differ}
-use Rattle.chart.specs.Replies.{allBelow}
+use Rattle.chart.specs.Call.{call}
+use Rattle.chart.specs.Replies.{allBelow, startReply, queryReply, compareReply}
 use Rattle.chart.specs.Laws.Replies.{Given, Chart, start-says, compare-says}
 use Rattle.transition.specs.Happening.{Refuses}
 use Rattle.transition.specs.Step.{leaves, refused, Steps}
+use Rattle.transition.specs.Replies.{stepReply}
 use Rattle.transition.specs.Laws.Replies.{step-says}
 use Rattle.planner.specs.Ending.{Explained}
 use Rattle.planner.specs.Search.{ending, none}
+use Rattle.planner.specs.Replies.{explainedReply, searchReply}
 use Rattle.planner.specs.Readings as row
 use Rattle.planner.specs.Readings.{starred, Says}
 use Rattle.planner.specs.Laws.Replies.{explained-says, explained-denies, search-says}
@@ -104,13 +107,31 @@ ending-row list work h g = search-says given 1 1 1 (omega arith) (omega arith) (
 none-row : Says (row.search 1 1 0 (refuses 13 0))
 none-row list work h g = search-says given 1 1 0 (omega arith) (omega arith) (omega arith) (omega arith) (omega arith) list work h g none .1 (misses-all 1 1)
 
+-- the first refusal stays
+refused-call : {A : Type 0} (bytes : List ℕ) (charts : List (List ℕ)) (enough : Bool) (inRange : Theory → Bool) (rest : Pack → List (List Node) → Reply A) {n q : ℕ}
+    → packOf bytes ≡ refuses n q → call bytes charts enough inRange rest ≡ refuses n q
+unfolding call
+refused-call bytes charts enough inRange rest e = rw e
+
+-- what is no pack is refused by every call, whatever else it is lent
+refusing : (bytes : List ℕ) {n q : ℕ} → packOf bytes ≡ refuses n q → Says (row.refusal bytes n q)
+unfolding startReply queryReply compareReply stepReply explainedReply searchReply
+refusing bytes e = (
+  λ out work. refused-call bytes _ _ _ _ e,
+  λ chart chain fluent work. refused-call bytes _ _ _ _ e,
+  λ first second chain work. refused-call bytes _ _ _ _ e,
+  λ chart action out work. refused-call bytes _ _ _ _ e,
+  λ chart c a K e′ work. refused-call bytes _ _ _ _ e,
+  λ T K E list work. refused-call bytes _ _ _ _ e,
+)
+
 empty-row : Says (row.refusal [] 1 0)
 unfolding packOf packAt headAt numberAt between
-empty-row = refl
+empty-row = refusing [] refl
 
 blank-row : Says (row.refusal (row.P-with 0x00) 5 6)
 unfolding packOf packAt headAt nodesAt nodeAt numberAt between beliefAt runs
-blank-row = refl
+blank-row = refusing (row.P-with 0x00) refl
 
 pub readings : Each Says starred
 unfolding Each

@@ -33,6 +33,10 @@ pub record Telling (pack : List ℕ) (at : ℕ) : Type 0 where
   pub effects : List Effect
   pub stand : EffectsAt dimensions pack at effects
 
+-- what holds of whatever effects stand there
+abbrev pub OfEffects : (pack : List ℕ) (at : ℕ) (Q : List Effect → Type 0) → Type 0
+OfEffects pack at Q = (d : Dimensions) → Small d → (es : List Effect) → EffectsAt d pack at es → Q es
+
 -- and a row of values to write into
 pub record Tellable (pack : List ℕ) (at : ℕ) (work : List ℕ) (row fluents : ℕ) : Type 0 where
   pub telling : Telling pack at

@@ -6,14 +6,14 @@ use mathlib.Core.List.{List}
 use Prim.Native.Nat.{ℕ, suc, _+_, _<_, _≤_}
 use lib.ListN.{length, getD}
 use Rattle.pack.specs.Syntax.{Effect, Node, Theory}
-use Rattle.pack.specs.State.{State}
+use Rattle.pack.specs.State.{State, meaning}
 use Rattle.pack.specs.Contracts.Answer.{dims}
 use Rattle.pack.specs.Contracts.Judge.{Small}
 use Rattle.pack.specs.Contracts.Contents.{TheoryFound}
 use Rattle.pack.specs.Contracts.Table.{rowsAt}
 use Rattle.pack.specs.declared.table.Table.{Table}
 use Rattle.chart.specs.Chart.{Written, Starts}
-use Rattle.transition.specs.Happening.{Settles, Stops, Plays, Refuses}
+use Rattle.transition.specs.Happening.{act, actionOf, Settles, Stops, Plays, Refuses}
 use Rattle.transition.specs.Contracts.Cause.{told, Tabled}
 use Rattle.transition.specs.Contracts.Stage.{StageRoom, SlotOnly, InSlot}
 
@@ -54,6 +54,11 @@ pub record Acted (z : State) (t : Table) (was now : List ℕ) (slot r : ℕ) : T
   pub holds : InSlot t z now slot r
   pub only : SlotOnly was now slot
 
+abbrev pub ActsIn : (pack places : List ℕ) (action root : ℕ) (t : Table) (was now : List ℕ) (slot r : ℕ) → Type 0
+ActsIn pack places action root t was now slot r =
+    (p : Theory) (T : List Node) (actions triggers : ℕ) → Setting p T pack places actions triggers was t slot → action < actions → root < t .nodes
+    → Acted (act (actionOf p action) (meaning (t .characters) T root)) t was now slot r
+
 -- in the slot stands the written chart of s
 pub record Left (s : State) (t : Table) (work : List ℕ) (slot : ℕ) : Type 0 where
   pub few : getD work slot 0 ≤ 32
@@ -65,8 +70,18 @@ pub record SettledIn (p : Theory) (z : State) (t : Table) (was now : List ℕ) (
   pub stops : r ≢ 0 → Stops p 16 z r
   pub only : SlotOnly was now slot
 
+abbrev pub SettlesIn : (pack places : List ℕ) (triggers : ℕ) (t : Table) (was now : List ℕ) (slot r : ℕ) → Type 0
+SettlesIn pack places triggers t was now slot r =
+    (p : Theory) (T : List Node) (actions : ℕ) → Setting p T pack places actions triggers was t slot → Slotted T was t slot
+    → SettledIn p (meaning (t .characters) T 0) t was now slot r
+
 -- it plays, and the slot holds what it leaves, or it is refused
 pub record PlayedIn (p : Theory) (z : State) (a : ℕ) (t : Table) (was now : List ℕ) (slot r : ℕ) : Type 0 where
   pub plays : r ≡ 0 → (s : State) × Plays p z a s × Left s t now slot
   pub refuses : r ≢ 0 → Refuses p z a r
   pub only : SlotOnly was now slot
+
+abbrev pub PlaysIn : (pack places : List ℕ) (triggers action root : ℕ) (t : Table) (was now : List ℕ) (slot r : ℕ) → Type 0
+PlaysIn pack places triggers action root t was now slot r =
+    (p : Theory) (T : List Node) (actions : ℕ) → Setting p T pack places actions triggers was t slot → action < actions → root < t .nodes
+    → PlayedIn p (meaning (t .characters) T root) action t was now slot r

@@ -78,6 +78,10 @@ pub record Stands (s : Scene) (pack places effects : List ℕ) (h : Change) (wor
 abbrev pub Scened : (pack places effects : List ℕ) (h : Change) (work : List ℕ) (t : Table) → Type 0
 Scened pack places effects h work t = (s : Scene) × Stands s pack places effects h work t
 
+-- what holds of whatever scene that is
+abbrev pub InScene : (pack places effects : List ℕ) (h : Change) (work : List ℕ) (t : Table) (Q : Scene → Type 0) → Type 0
+InScene pack places effects h work t Q = (s : Scene) → Stands s pack places effects h work t → Q s
+
 -- its table alone
 abbrev pub Seen : (work : List ℕ) (t : Table) → Type 0
 Seen work t = (s : Scene) × Tabled (s .dimensions) (s .table) work t

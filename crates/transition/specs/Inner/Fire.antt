@@ -43,3 +43,9 @@ pub record FiredBelow (d : Dimensions) (pack : List ℕ) (ts : List Trigger) (C 
   pub each : (m : ℕ) → m < n → FireIs d pack ts (meaning C table m) (getD effects m 0)
   pub some : any ≡ true → ((m : ℕ) → m < n → firing ts (meaning C table m) ≡ Option.none) → ⊥
   pub none : any ≡ false → (m : ℕ) → m < n → firing ts (meaning C table m) ≡ Option.none
+
+-- in all rows of whatever table that is, by whatever triggers stand there
+abbrev pub FiresAll : (pack places : List ℕ) (triggers : ℕ) (work : List ℕ) (t : Table) (effects : List ℕ) (r : Bool) → Type 0
+FiresAll pack places triggers work t effects r =
+    (d : Dimensions) (table : List Node) (ts : List Trigger) → Tabled d table work t → Triggered d pack places ts triggers
+    → FiredBelow d pack ts (t .characters) table (t .nodes) effects r

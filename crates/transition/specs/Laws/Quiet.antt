@@ -23,7 +23,3 @@ module _ (p : Theory) (t : List Node) (reached : (i : ℕ) → i < length t → 
       λ q i l. let c = reached i l in ap (firing (p .triggers)) (sym (there (p .characters) t reached i c)) ∙ q (c .0) (c .1),
       λ f chain v. ap (firing (p .triggers)) (after-walk (p .characters) t chain 0 v) ∙ f (walk t 0 chain) (walk-inside (p .characters) t closed chain 0 some v),
     )
-
-  pub not-quiet : (i : ℕ) → i < length t → (fired : Trigger) → firing (p .triggers) (at i) ≡ Option.some fired → ¬ Quiet p (at 0)
-  unfolding Quiet
-  not-quiet i l fired e q = let c = reached i l in let g : Option.some fired ≡ Option.none = sym e ∙ ap (firing (p .triggers)) (sym (there (p .characters) t reached i c)) ∙ q (c .0) (c .1) in let z : _≡_ {A = ℕ} 0 1 = cc in omega arith

@@ -31,11 +31,6 @@ module _ (p : Theory) (t : List Node) (r : IsTable (p .characters) t) where
   pub step-table-iff : (a : ℕ) (o : Outcome) → Steps p means0 a o ↔ (stepTable p t a ≡ o)
   step-table-iff a o = (λ y. steps-one (step-table a) y, λ e. subst (Steps p means0 a) e (step-table a))
 
--- two tables with one meaning
-module _ (p : Theory) (t u : List Node) (r : IsTable (p .characters) t) (q : IsTable (p .characters) u) (e : meaning (p .characters) t 0 ≡ meaning (p .characters) u 0) where
-  pub step-table-same : (a : ℕ) → stepTable p t a ≡ stepTable p u a
-  step-table-same a = step-table-iff p t r a (stepTable p u a) .0 (subst (λ (s : State). Steps p s a (stepTable p u a)) (sym e) (step-table p u q a))
-
 unfoldable pub IsLeaves : Outcome → List Node → Type 0
 IsLeaves (leaves v) u = v ≡ u
 IsLeaves (refused n) u = ⊥

@@ -39,9 +39,3 @@ module _ (p : Theory) where
   pub steps : {s : State} (x : Tabled (p .characters) s) (a : ℕ) → Steps p s a (stepOf x a)
   unfolding stepOf
   steps x a = stepping x a .1
-
-  pub steps-iff : {s : State} (x : Tabled (p .characters) s) (a : ℕ) (r : Outcome) → Steps p s a r ↔ (stepOf x a ≡ r)
-  steps-iff {s} x a r = (λ y. steps-one (steps x a) y, λ e. subst (Steps p s a) e (steps x a))
-
-  pub step-same : {s s′ : State} (x : Tabled (p .characters) s) (y : Tabled (p .characters) s′) → s ≡ s′ → (a : ℕ) → stepOf x a ≡ stepOf y a
-  step-same x y e a = steps-one (steps x a) (subst (λ (s : State). Steps p s a (stepOf y a)) (sym e) (steps y a))
