@@ -23,8 +23,9 @@
  * AFTER AN ANSWER the call hands back 0. The report's first numbers are what the call's comment says, the result buffer's
  * first bytes are the result, and the work buffer's first 49,152 bytes are 0. All other bytes and numbers are as they were.
  *
- * AFTER A REFUSAL the call hands back the refusal's number. The report's first number is the place, if the report has one;
- * the result buffer is as it was. After 1 to 9 and 21 to 27 so is the work buffer; after 10 to 13 its first 49,152 bytes are 0.
+ * AFTER A REFUSAL the call hands back the refusal's number. The report's first number is the place; the result buffer is as it
+ * was. A report of fewer than 3 numbers is itself refused, as 8, unless the pack or a chart is refused before it; if it has no
+ * number at all, the place is told nowhere: lend 3 to see it. After 1 to 9 and 21 to 27 so is the work buffer; after 10 to 13 its first 49,152 bytes are 0.
  * All else is as it was. The place is, for 2 to 7 and 22 to 27, where the first byte of the number at fault is, in the pack or
  * in the chart (for a pack above 8,192 bytes it is 0); for 1 and 21 the length of the pack or of the chart; for 8 to 13 it is 0.
  *

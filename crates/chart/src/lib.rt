@@ -2,15 +2,15 @@
 pub mod bytes;
 pub mod call;
 pub mod compare;
-pub mod copy;
 pub mod merge;
-pub mod number;
+pub mod numbering;
+pub mod out;
 pub mod pairs;
 pub mod partition;
+pub mod pass;
 pub mod query;
 pub mod start;
 pub mod values;
-pub mod write;
 
 // What Start hands back, and Step above it: the length of the chart that was written, or a refusal's number and place.
 pub enum Charted {

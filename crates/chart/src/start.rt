@@ -8,8 +8,8 @@ use crate::call::both_at_most;
 use crate::call::check_lent;
 use crate::call::unless_refused;
 use crate::merge::write_merged;
+use crate::out::write_chart;
 use crate::partition::partition;
-use crate::write::write_chart;
 use pack::contents::read_contents;
 use pack::copy::copy_table;
 use pack::number::Number;
@@ -36,7 +36,7 @@ pub fn merge_table(work: &mut [u8], n: usize, w: usize, f: usize, c: usize) -> u
     requires { ⌜ Mergeable (now work) n w f c ⌝ }
     ensures { λ r. ⌜ Merged (now (work .entry)) (now (work .exit)) n w f c r ⌝ }
 {
-    let reached = crate::copy::copy_table(work, n, w, f, c, 1, NUMBERS, REACHED);
+    let reached = crate::pass::copy_reachable(work, n, w, f, c, 1, NUMBERS, REACHED);
     let classes = partition(work, reached, w, f, c, REACHED, LEVEL, CLASSES, FIRSTS, 32);
     if reached <= classes {
         copy_part(work, REACHED, MERGED, reached * w);

@@ -8,11 +8,11 @@ use chart::query::query;
 use chart::start::start;
 use planner::Found;
 use planner::Judged;
-use planner::judge::judge;
 use planner::limits::Foresight;
 use planner::limits::Nesting;
 use planner::limits::Story;
 use planner::search::search;
+use planner::verdict::verdict;
 use transition::play::step;
 ghost use mathlib.Core.Path.{_≡_};
 ghost use mathlib.Core.List.{[], _∷_};
@@ -206,7 +206,7 @@ pub extern "C" fn pirwodd_explained(
     ensures { λ r. ⌜ ExplainedReturned (now (pack .entry)) (now (chart .entry)) character action foresight nesting (now (work .entry)) (now (report .entry)) (now (work .exit)) (now (report .exit)) r ⌝ }
 {
     let room = lent(report.len(), work.len());
-    let answer = judge(
+    let answer = verdict(
         pack,
         chart,
         index(character),

@@ -15,7 +15,7 @@ use pack::places::CHARACTER_UTILITIES;
 use pack::places::CONSENTERS;
 use pack::write::consenter;
 use pack::write::consenters;
-use transition::layout::SLOT;
+use transition::regions::SLOT;
 ghost use mathlib.Core.Path.{_≡_};
 ghost use mathlib.Core.Bool.{true, false};
 ghost use Prim.Native.Nat.{suc, _+_, _*_, _<_, _≤_};

@@ -1,7 +1,7 @@
 // What is known of the lists from a state: entries by the name of its table, one for each hash, each true.
-use crate::layout::LISTS;
 use crate::memory::Shape;
 use crate::memory::name_of;
+use crate::regions::LISTS;
 use pack::number::wide;
 ghost use mathlib.Core.Path.{_≡_};
 ghost use mathlib.Core.Bool.{true};

@@ -1,15 +1,15 @@
 // Steps that are known: what an action leaves of a row of a kept table is made once, and then copied.
-use crate::layout::KEPT;
-use crate::layout::NAMES;
-use crate::layout::STEPS;
 use crate::memory::Shape;
 use crate::memory::name_anew;
 use crate::memory::name_of;
 use crate::memory::table_in;
+use crate::regions::KEPT;
+use crate::regions::NAMES;
+use crate::regions::STEPS;
 use chart::bytes::copy_part;
 use pack::number::wide;
 use pack::table::Table;
-use transition::layout::SLOT;
+use transition::regions::SLOT;
 use transition::step::step_slot;
 ghost use mathlib.Core.Path.{_≡_};
 ghost use mathlib.Core.Bool.{true};

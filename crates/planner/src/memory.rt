@@ -1,16 +1,16 @@
 // What is known of states, behind a step's scratch: tables that are kept, each under a number that is its name. What is known of steps and of lists is known by these names.
-use crate::layout::BEFORE_TABLES;
-use crate::layout::HASHED;
-use crate::layout::KEPT;
-use crate::layout::NAMES;
-use crate::layout::TABLES;
-use crate::layout::TAKEN;
+use crate::regions::BEFORE_TABLES;
+use crate::regions::HASHED;
+use crate::regions::KEPT;
+use crate::regions::NAMES;
+use crate::regions::TABLES;
+use crate::regions::TAKEN;
 use chart::bytes::clear;
 use chart::bytes::copy_part;
 use chart::values::first_other;
 use pack::number::wide;
 use pack::table::Table;
-use transition::layout::SLOT;
+use transition::regions::SLOT;
 ghost use mathlib.Core.Path.{_≡_};
 ghost use mathlib.Core.Bool.{true};
 ghost use Prim.Native.Nat.{_+_, _*_, _<_, _≤_};

@@ -1,6 +1,6 @@
 // Step: the checks, and an action played in a chart.
-use crate::layout::SECOND_ROWS;
-use crate::layout::SLOT;
+use crate::regions::SECOND_ROWS;
+use crate::regions::SLOT;
 use crate::step::step_slot;
 use chart::Charted;
 use chart::bytes::sweep;
@@ -9,7 +9,7 @@ use chart::call::WORK_ROOM;
 use chart::call::both_at_most;
 use chart::call::check_lent;
 use chart::call::check_under;
-use chart::write::write_chart;
+use chart::out::write_chart;
 use pack::contents::read_pack;
 use pack::copy::copy_table;
 use pack::number::Number;

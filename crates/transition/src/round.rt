@@ -1,10 +1,10 @@
 // A round of triggers in a slot. Where it tells nobody anything, every belief stays where it was: the values change in place, and rows that have become the same are merged.
 use crate::cause::write_told;
 use crate::change::Change;
-use crate::layout::CLASSES;
-use crate::layout::FIRSTS;
-use crate::layout::LEVEL;
-use crate::layout::MERGED;
+use crate::regions::CLASSES;
+use crate::regions::FIRSTS;
+use crate::regions::LEVEL;
+use crate::regions::MERGED;
 use crate::stage::put_down;
 use crate::stage::stage;
 use chart::merge::write_merged;

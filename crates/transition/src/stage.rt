@@ -1,12 +1,12 @@
 // A stage of Step, part 1 or a round: the pass, the partition, and the merged table, which is put into a slot of the work buffer.
 use crate::change::Change;
 use crate::change::change_table;
-use crate::layout::CLASSES;
-use crate::layout::FIRSTS;
-use crate::layout::LEVEL;
-use crate::layout::MADE;
-use crate::layout::MERGED;
-use crate::layout::NUMBERS;
+use crate::regions::CLASSES;
+use crate::regions::FIRSTS;
+use crate::regions::LEVEL;
+use crate::regions::MADE;
+use crate::regions::MERGED;
+use crate::regions::NUMBERS;
 use chart::bytes::copy_part;
 use chart::merge::write_merged;
 use chart::partition::partition;

@@ -11,7 +11,7 @@ pub const CALLS: [(&str, &str, &str); 6] = [
     ("chart", "query", "query"),
     ("chart", "compare", "compare"),
     ("transition", "play", "step"),
-    ("planner", "judge", "judge"),
+    ("planner", "verdict", "verdict"),
     ("planner", "search", "search"),
 ];
 

@@ -3,8 +3,8 @@ use native.Mathlib.Omega.{arith}
 use borrow.Author.Needs.{needs}
 use Rattle.chart.specs.Laws.LoadedNodes.{read-copies}
 use Rattle.planner.proofs.Judging.{judge-ready, judge-memory, judge-high, judge-free, judge-verdict}
-use Rattle.planner.proofs.judge.judge_chart.Statement.{statement}
-use Rattle.planner.proofs.judge.judge_chart.Tie as tie
+use Rattle.planner.proofs.verdict.verdict_in.Statement.{statement}
+use Rattle.planner.proofs.verdict.verdict_in.Tie as tie
 
 copy-table-requires : tie.Need-copy-table-requires
 copy-table-requires c κs = let (th, (T, x)) = c .before .before .before .before .before .pre in read-copies (x .read) (x .room)
@@ -30,5 +30,5 @@ returns c =
     let z = c .before .before .sweep in
     λ th T x. judge-verdict x l (judge-high x l (e .ensures) (e .kept .0)) (v .ensures th T (judge-ready x l (e .ensures) (e .kept .0)) (judge-memory x l (e .ensures) (e .kept .0))) (z .ensures) (omega (arith, z .kept, v .kept, e .kept, l .long))
 
-pub judge-chart-spec : {M : Type 1} → statement M
-judge-chart-spec = tie.close (tie.spec copy-table-requires clear-requires explained-requires sweep-requires (λ c. search needs) returns)
+pub verdict-in-spec : {M : Type 1} → statement M
+verdict-in-spec = tie.close (tie.spec copy-table-requires clear-requires explained-requires sweep-requires (λ c. search needs) returns)

@@ -8,8 +8,8 @@ use Rattle.pack.specs.Contracts.Table.{cells}
 use Rattle.chart.specs.Laws.Cells.{cells-same, row-in, part-behind}
 use Rattle.chart.specs.Laws.Numbering.{few, numbering-same}
 use Rattle.chart.specs.Laws.PassRows.{row-filled}
-use Rattle.chart.proofs.copy.fill_row.Statement.{statement}
-use Rattle.chart.proofs.copy.fill_row.Tie as tie
+use Rattle.chart.proofs.pass.fill_row.Statement.{statement}
+use Rattle.chart.proofs.pass.fill_row.Tie as tie
 
 room : (s : tie.Start) → s .args .count ≤ s .args .n
 room s = let a = s .args in few (a .work .now) (a .m) (a .n) (a .count) (s .pre .1 .0)

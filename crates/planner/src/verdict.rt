@@ -1,12 +1,12 @@
 // Explained: the checks, and the verdict on a chart.
 use crate::Judged;
 use crate::explain::explained;
-use crate::layout::BEFORE_TABLES;
-use crate::layout::NAMES;
 use crate::limits::Foresight;
 use crate::limits::Nesting;
 use crate::limits::explainable;
 use crate::memory::Shape;
+use crate::regions::BEFORE_TABLES;
+use crate::regions::NAMES;
 use chart::bytes::clear;
 use chart::bytes::sweep;
 use chart::call::WORK_ROOM;
@@ -46,7 +46,7 @@ pub fn in_range(
 }
 
 // The verdict in a chart of so many nodes. The work buffer is cleared.
-pub fn judge_chart(
+pub fn verdict_in(
     pack: &[u8],
     places: &[u16],
     p: Shape,
@@ -69,7 +69,7 @@ pub fn judge_chart(
 }
 
 // Explained(pack, chart, character, action, K, e, work): yes or no, or a refusal's number and place.
-pub fn judge(
+pub fn verdict(
     pack: &[u8],
     chart: &[u8],
     character: usize,
@@ -95,7 +95,7 @@ pub fn judge(
                 fluents: p.fluents,
                 characters: p.characters,
             };
-            let verdict = judge_chart(
+            let verdict = verdict_in(
                 pack,
                 &places,
                 shape,

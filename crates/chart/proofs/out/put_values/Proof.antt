@@ -6,8 +6,8 @@ use native.Mathlib.Omega.{arith}
 use borrow.Author.Needs.{needs}
 use Rattle.chart.specs.Contracts.Out.{PartPut}
 use Rattle.chart.proofs.Outing.{put-none, put-same, put-all}
-use Rattle.chart.proofs.write.put_values.Statement.{statement}
-use Rattle.chart.proofs.write.put_values.Tie as tie
+use Rattle.chart.proofs.out.put_values.Statement.{statement}
+use Rattle.chart.proofs.out.put_values.Tie as tie
 
 abbrev Inv-loop : tie.InvT-loop
 Inv-loop src from out₀ to f q₀ out q = (q ≤ f) × (length out ≡ length out₀) × PartPut src out₀ out from to q 0 0

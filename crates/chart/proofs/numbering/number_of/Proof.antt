@@ -4,8 +4,8 @@ use lib.Seq.{lt-length-set}
 use native.Mathlib.Omega.{arith}
 use borrow.Author.Needs.{needs}
 use Rattle.chart.specs.Laws.Numbering.{room, given-old, given-new}
-use Rattle.chart.proofs.number.number_of.Statement.{statement}
-use Rattle.chart.proofs.number.number_of.Tie as tie
+use Rattle.chart.proofs.numbering.number_of.Statement.{statement}
+use Rattle.chart.proofs.numbering.number_of.Tie as tie
 
 -- a number is left
 left : (c : tie.Else1) → c .before .before .before .before .args .count < c .before .before .before .before .args .size

@@ -1,8 +1,8 @@
 -- The values as they are, then the beliefs shifted. Assumes nothing.
 use borrow.Author.Needs.{needs}
 use Rattle.chart.proofs.Outing.{put-row}
-use Rattle.chart.proofs.write.put_beside.Statement.{statement}
-use Rattle.chart.proofs.write.put_beside.Tie as tie
+use Rattle.chart.proofs.out.put_beside.Statement.{statement}
+use Rattle.chart.proofs.out.put_beside.Tie as tie
 
 put-part-requires : tie.Need-put-part-requires
 put-part-requires c κs = (search needs, c .before .before .before .before .before .before .before .pre .1)

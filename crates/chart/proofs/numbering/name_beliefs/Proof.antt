@@ -6,8 +6,8 @@ use native.Mathlib.Omega.{arith}
 use borrow.Author.Needs.{needs}
 use Rattle.chart.specs.Contracts.Numbers.{Named}
 use Rattle.chart.specs.Laws.PassRows.{named-none, named-more}
-use Rattle.chart.proofs.number.name_beliefs.Statement.{statement}
-use Rattle.chart.proofs.number.name_beliefs.Tie as tie
+use Rattle.chart.proofs.numbering.name_beliefs.Statement.{statement}
+use Rattle.chart.proofs.numbering.name_beliefs.Tie as tie
 
 abbrev Inv-loop : tie.InvT-loop
 Inv-loop work₀ m size to c count met₀ k₀ work met k = (k ≤ c) × (length work ≡ length work₀) × Named work₀ work m size count met to k (λ d. getD work₀ (to + d) 0)

@@ -1,9 +1,9 @@
 // The pass that copies the rows of a table that row 0 reaches, in the order met breadth first.
 use crate::bytes::clear;
 use crate::bytes::copy_part;
-use crate::number::more;
-use crate::number::name_beliefs;
-use crate::number::number_of;
+use crate::numbering::more;
+use crate::numbering::name_beliefs;
+use crate::numbering::number_of;
 use pack::number::wide;
 ghost use Prim.Native.Nat.{_+_, _*_, _<_};
 ghost use lib.ListN.{getD};
@@ -35,7 +35,7 @@ pub fn fill_row(
 }
 
 // Copies what can be reached from row 0 of the n rows from s on to t, in the order met breadth first; how many rows that is.
-pub fn copy_table(
+pub fn copy_reachable(
     work: &mut [u8],
     n: usize,
     w: usize,

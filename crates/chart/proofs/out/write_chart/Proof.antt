@@ -3,8 +3,8 @@ use mathlib.Core.Path.{_∙_}
 use lib.ListN.{length-set}
 use native.Mathlib.Omega.{arith}
 use borrow.Author.Needs.{needs}
-use Rattle.chart.proofs.write.write_chart.Statement.{statement}
-use Rattle.chart.proofs.write.write_chart.Tie as tie
+use Rattle.chart.proofs.out.write_chart.Statement.{statement}
+use Rattle.chart.proofs.out.write_chart.Tie as tie
 
 put-rows-requires : tie.Need-put-rows-requires
 put-rows-requires c κs =

@@ -3,8 +3,8 @@ use mathlib.Core.Path.{refl, _∙_}
 use borrow.Author.Needs.{needs}
 use borrow.Author.Tests.{lt-ltb, le-ltb}
 use Rattle.chart.specs.Laws.Arguments.{both-there, not-there}
-use Rattle.planner.proofs.judge.in_range.Statement.{statement}
-use Rattle.planner.proofs.judge.in_range.Tie as tie
+use Rattle.planner.proofs.verdict.in_range.Statement.{statement}
+use Rattle.planner.proofs.verdict.in_range.Tie as tie
 
 returns : tie.Need-returns
 returns c =

@@ -6,8 +6,8 @@ use native.Mathlib.Omega.{arith}
 use borrow.Author.Needs.{needs}
 use Rattle.chart.specs.Laws.Numbering.{numbering-none}
 use Rattle.chart.proofs.Copying.{Copying, copying-start, copying-row, copying-end, laid-same, sound-same}
-use Rattle.chart.proofs.copy.copy_table.Statement.{statement}
-use Rattle.chart.proofs.copy.copy_table.Tie as tie
+use Rattle.chart.proofs.pass.copy_reachable.Statement.{statement}
+use Rattle.chart.proofs.pass.copy_reachable.Tie as tie
 
 abbrev Inv-loop : tie.InvT-loop
 Inv-loop work₀ n w f c s m t root count₀ i₀ work count i = (length work ≡ length work₀) × Copying work₀ work n w f c s m t i count
@@ -43,8 +43,8 @@ returns c =
     let b = m .before .before .before .number-of .ensures in
     copying-end (c .before .loop .inv .1) (c .loop-test .left) (λ p l. b .low p l ∙ a .low p l) (λ p l. b .high p l ∙ a .high p (omega arith))
 
-pub copy-table-spec : {M : Type 1} → statement M
-copy-table-spec =
+pub copy-reachable-spec : {M : Type 1} → statement M
+copy-reachable-spec =
     tie.close
     (tie.spec Inv-loop μ-loop (λ c κs. omega (arith, c .before .before .pre .0)) number-of-requires (λ c κs. omega (arith, c .before .before .number-of .ensures .few)) loop-holds fill-row-requires
     (λ c. omega (arith, c .before .before .before .before .before .loop .inv .1 .going)) (λ c. omega (arith, c .before .before .before .before .before .loop .inv .1 .going)) loop-again (λ c. search needs) returns)

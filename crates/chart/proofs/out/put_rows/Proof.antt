@@ -7,8 +7,8 @@ use borrow.Author.Needs.{needs}
 use Rattle.chart.specs.Contracts.Out.{RowsPut}
 use Rattle.chart.specs.Laws.Cells.{row-in}
 use Rattle.chart.proofs.Outing.{rows-start, rows-next, rows-all}
-use Rattle.chart.proofs.write.put_rows.Statement.{statement}
-use Rattle.chart.proofs.write.put_rows.Tie as tie
+use Rattle.chart.proofs.out.put_rows.Statement.{statement}
+use Rattle.chart.proofs.out.put_rows.Tie as tie
 
 abbrev Inv-loop : tie.InvT-loop
 Inv-loop src from n w f c out₀ to more less i₀ out i = (i ≤ n) × (length out ≡ length out₀) × RowsPut src out₀ out w f c from to more less i
