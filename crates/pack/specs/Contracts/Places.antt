@@ -9,10 +9,15 @@ use Rattle.pack.specs.Grammar.{Dimensions, conditionAt, effectsAt, conse
 use Rattle.pack.specs.Contracts.Said.{said, shown, forget, whenPassed, whenIs}
 use Rattle.pack.specs.declared.number.Number.{Number}
 use Rattle.pack.specs.declared.number.Checked.{Checked}
+use Rattle.pack.specs.declared.head.Head.{Head}
 
 -- a place in bytes that are few enough for a pack, so that the place fits 16 bits
 abbrev pub Within : List ℕ → ℕ → Type 0
 Within s at = (at ≤ length s) × (length s ≤ 8192)
+
+-- what the readers of actions, triggers and utilities ask: a head within its limits, room for the places, and a place in the bytes
+abbrev pub Ready : List ℕ → ℕ → Head → (places : List ℕ) → Type 0
+Ready s at h places = (h .characters ≤ 6) × (h .fluents ≤ 24) × (length (h .sizes) ≡ 24) × (327 ≤ length places) × Within s at
 
 -- what p reads from a place on ends at n
 abbrev pub Ends : {A : Type 0} → Reader A → List ℕ → ℕ → ℕ → Type 0
