@@ -9,10 +9,8 @@ use crate::number::Number;
 use crate::number::read_between;
 ghost use Prim.Native.Nat.{_+_, _≤_};
 ghost use lib.ListN.{length};
-ghost use Rattle.pack.specs.Contracts.Said.{after};
-ghost use Rattle.pack.specs.Contracts.Answer.{dims, dimsOf};
-ghost use Rattle.pack.specs.Contracts.Places.{Within, Ready, ObservedRead, ActionRead, ActionsRead};
-ghost use Rattle.pack.specs.declared.number.Number.the-variants.{Refused};
+ghost use Rattle.pack.specs.Contracts.Answer.{dims};
+ghost use Rattle.pack.specs.Contracts.Places.{Within, Ready, ObservedRead, ActionRead, ActionsRead, ActionsAfter};
 
 // The observation conditions, one for each character.
 pub fn read_observed(
@@ -115,7 +113,7 @@ pub fn read_actions(
 // The same, where the part before it was read; else its refusal is handed on.
 pub fn actions_after(s: &[u8], at: usize, h: Head, earlier: Number, places: &mut [u16]) -> Number
     requires { ⌜ Ready (now s) at h (now places) ⌝ }
-    ensures { λ r. ⌜ after earlier Refused r (ActionsRead (dimsOf h) (now (s .entry)) at (now (places .exit)) r) ⌝ }
+    ensures { λ r. ⌜ ActionsAfter h earlier (now (s .entry)) at (now (places .exit)) r ⌝ }
 {
     match earlier {
         Number::Refused(k, p) => Number::Refused(k, p),

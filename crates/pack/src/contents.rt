@@ -5,24 +5,14 @@ use crate::number::Number;
 use crate::number::place_after;
 use crate::number::value_of;
 use crate::places::PLACES;
+use crate::reader;
 use crate::reader::Reader;
-use crate::reader::actions;
-use crate::reader::after_head;
-use crate::reader::head;
-use crate::reader::moved;
-use crate::reader::new;
-use crate::reader::next;
-use crate::reader::rows;
-use crate::reader::triggers;
-use crate::reader::utilities;
 ghost use Prim.Native.Nat.{_≤_};
 ghost use lib.ListN.{length};
 ghost use mathlib.Core.Path.{_≡_};
-ghost use Rattle.pack.specs.Contracts.Said.{after};
-ghost use Rattle.pack.specs.Contracts.Answer.{dimsOf};
 ghost use Rattle.pack.specs.Contracts.Places.{Ready};
-ghost use Rattle.pack.specs.Contracts.Contents.{countsOf, contentsOf, TheoryRead, PartsRead, PackRead, ContentsRead, Refusal};
-ghost use Rattle.pack.specs.declared.number.Checked.the-variants.{Refused};
+ghost use Rattle.pack.specs.Contracts.Contents.{countsOf, TheoryAfter, contentsOf, PartsRead};
+ghost use Rattle.pack.specs.Contracts.Contents.{PackRead, ContentsRead, Refusal};
 
 // How many actions and triggers there are.
 pub struct Counts {
@@ -45,14 +35,14 @@ pub fn in_turn(actions: Number, triggers: Number, utilities: Checked) -> Counts
 // The actions, the triggers and the utilities, with the places of their parts, where the nodes before them were read.
 pub fn read_theory<'a, 'b>(r: Reader<'a>, h: Head, nodes: Number, places: &'b mut [u16]) -> Counts
     requires { ⌜ Ready (now (r .src)) (r .at) h (now places) ⌝ }
-    ensures { λ c. ⌜ after nodes Refused (c .answer) (TheoryRead (dimsOf h) (now (r .entry .src)) (r .entry .at) (now (places .exit)) c) ⌝ }
+    ensures { λ c. ⌜ TheoryAfter h nodes (now (r .entry .src)) (r .entry .at) (now (places .exit)) c ⌝ }
 {
-    let k = actions(r, h, nodes, places);
-    let r = moved(r, k);
-    let l = triggers(r, h, k, places);
-    let r = moved(r, l);
-    let u = utilities(r, h, l, places);
-    in_turn(k, l, u)
+    let actions = reader::actions(r, h, nodes, places);
+    let r = reader::moved(r, actions);
+    let triggers = reader::triggers(r, h, actions, places);
+    let r = reader::moved(r, triggers);
+    let utilities = reader::utilities(r, h, triggers, places);
+    in_turn(actions, triggers, utilities)
 }
 
 // What a pack holds: its dimensions and counts, and the place of its first node's first value.
@@ -105,13 +95,13 @@ pub fn read_parts(s: &[u8], places: &mut [u16]) -> Contents
     requires { ⌜ (327 ≤ length (now places)) × (length (now s) ≤ 8192) ⌝ }
     ensures { λ r. ⌜ PartsRead (now (s .entry)) (now (places .exit)) r ⌝ }
 {
-    let r = new(s, 0);
-    let h = head(r);
-    let r = after_head(r, h);
-    let count = next(r, 1, 33, 3);
-    let r = moved(r, count);
-    let nodes = rows(r, h, count);
-    let r = moved(r, nodes);
+    let r = reader::new(s, 0);
+    let h = reader::head(r);
+    let r = reader::after_head(r, h);
+    let count = reader::next(r, 1, 33, 3);
+    let r = reader::moved(r, count);
+    let nodes = reader::rows(r, h, count);
+    let r = reader::moved(r, nodes);
     let c = read_theory(r, h, nodes, places);
     together(h, count, c)
 }

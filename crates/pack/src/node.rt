@@ -87,8 +87,8 @@ pub fn check_rows(s: &[u8], at: usize, characters: usize, domains: &[u8], nodes:
     Checked::Passed(n)
 }
 
-// The nodes of a pack, as many as their count says, and the place after them. They are read where the head and the count
-// were; else the first refusal of the two is handed on.
+// The nodes of a pack, as many as their count says, and the place after them. They are read where the head and the
+// count were; else the first refusal of the two is handed on.
 pub fn rows_after(s: &[u8], at: usize, h: Head, count: Number) -> Number
     requires { ⌜ (h .fluents ≤ 24) × (length (h .sizes) ≡ 24) ⌝ }
     ensures { λ r. ⌜ rowsAfter h (said count) (now (s .entry)) at ≡ said r ⌝ }

@@ -1,5 +1,5 @@
-// The pack reader: the bytes that were lent and a position in them. It hands out number after number and part after part, and
-// is moved behind each. Its functions are thin: each takes the reader apart, and a function on the slice and the position
+// The pack reader: the bytes that were lent and a position in them. It hands out number after number and part after part,
+// and is moved behind each. Its functions are thin: each takes the reader apart, and one on the slice and the position
 // does the work.
 use crate::action::actions_after;
 use crate::head::Head;
@@ -16,11 +16,9 @@ ghost use Prim.Native.Nat.{_≤_};
 ghost use lib.ListN.{length};
 ghost use mathlib.Core.Path.{_≡_};
 ghost use Rattle.pack.specs.Number.{between};
-ghost use Rattle.pack.specs.Contracts.Said.{said, behind, after};
-ghost use Rattle.pack.specs.Contracts.Answer.{HeadRead, dimsOf, behindHead, rowsAfter};
-ghost use Rattle.pack.specs.Contracts.Places.{Ready, ActionsRead, TriggersRead, UtilitiesRead};
-ghost use Rattle.pack.specs.declared.number.Number.the-variants.{Refused};
-ghost use Rattle.pack.specs.declared.number.Checked.the-variants as checked;
+ghost use Rattle.pack.specs.Contracts.Said.{said, behind};
+ghost use Rattle.pack.specs.Contracts.Answer.{HeadRead, behindHead, rowsAfter};
+ghost use Rattle.pack.specs.Contracts.Places.{Ready, ActionsAfter, TriggersAfter, UtilitiesAfter};
 
 // The bytes, and the place of what comes next.
 pub struct Reader<'a> {
@@ -80,7 +78,7 @@ pub fn rows<'a>(r: Reader<'a>, h: Head, count: Number) -> Number
 // The actions: how many there are, with the places of their parts.
 pub fn actions<'a, 'b>(r: Reader<'a>, h: Head, earlier: Number, places: &'b mut [u16]) -> Number
     requires { ⌜ Ready (now (r .src)) (r .at) h (now places) ⌝ }
-    ensures { λ n. ⌜ after earlier Refused n (ActionsRead (dimsOf h) (now (r .entry .src)) (r .entry .at) (now (places .exit)) n) ⌝ }
+    ensures { λ n. ⌜ ActionsAfter h earlier (now (r .entry .src)) (r .entry .at) (now (places .exit)) n ⌝ }
 {
     actions_after(r.src, r.at, h, earlier, places)
 }
@@ -88,7 +86,7 @@ pub fn actions<'a, 'b>(r: Reader<'a>, h: Head, earlier: Number, places: &'b mut 
 // The triggers: how many there are, with the places of their parts.
 pub fn triggers<'a, 'b>(r: Reader<'a>, h: Head, earlier: Number, places: &'b mut [u16]) -> Number
     requires { ⌜ Ready (now (r .src)) (r .at) h (now places) ⌝ }
-    ensures { λ n. ⌜ after earlier Refused n (TriggersRead (dimsOf h) (now (r .entry .src)) (r .entry .at) (now (places .entry)) (now (places .exit)) n) ⌝ }
+    ensures { λ n. ⌜ TriggersAfter h earlier (now (r .entry .src)) (r .entry .at) (now (places .entry)) (now (places .exit)) n ⌝ }
 {
     triggers_after(r.src, r.at, h, earlier, places)
 }
@@ -96,7 +94,7 @@ pub fn triggers<'a, 'b>(r: Reader<'a>, h: Head, earlier: Number, places: &'b mut
 // The utilities, with their places.
 pub fn utilities<'a, 'b>(r: Reader<'a>, h: Head, earlier: Number, places: &'b mut [u16]) -> Checked
     requires { ⌜ Ready (now (r .src)) (r .at) h (now places) ⌝ }
-    ensures { λ n. ⌜ after earlier checked.Refused n (UtilitiesRead (dimsOf h) (now (r .entry .src)) (r .entry .at) (now (places .entry)) (now (places .exit)) n) ⌝ }
+    ensures { λ n. ⌜ UtilitiesAfter h earlier (now (r .entry .src)) (r .entry .at) (now (places .entry)) (now (places .exit)) n ⌝ }
 {
     utilities_after(r.src, r.at, h, earlier, places)
 }

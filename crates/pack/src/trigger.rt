@@ -8,10 +8,8 @@ use crate::number::read_between;
 use crate::places::TRIGGERS;
 ghost use Prim.Native.Nat.{_+_, _≤_};
 ghost use lib.ListN.{length};
-ghost use Rattle.pack.specs.Contracts.Said.{after};
-ghost use Rattle.pack.specs.Contracts.Answer.{dims, dimsOf};
-ghost use Rattle.pack.specs.Contracts.Places.{Within, Ready, TriggerRead, TriggersRead};
-ghost use Rattle.pack.specs.declared.number.Number.the-variants.{Refused};
+ghost use Rattle.pack.specs.Contracts.Answer.{dims};
+ghost use Rattle.pack.specs.Contracts.Places.{Within, Ready, TriggerRead, TriggersRead, TriggersAfter};
 
 // A trigger: a condition and effects. Its places are marked from base on.
 pub fn read_trigger(
@@ -72,7 +70,7 @@ pub fn read_triggers(
 // The same, where the part before it was read; else its refusal is handed on.
 pub fn triggers_after(s: &[u8], at: usize, h: Head, earlier: Number, places: &mut [u16]) -> Number
     requires { ⌜ Ready (now s) at h (now places) ⌝ }
-    ensures { λ r. ⌜ after earlier Refused r (TriggersRead (dimsOf h) (now (s .entry)) at (now (places .entry)) (now (places .exit)) r) ⌝ }
+    ensures { λ r. ⌜ TriggersAfter h earlier (now (s .entry)) at (now (places .entry)) (now (places .exit)) r ⌝ }
 {
     match earlier {
         Number::Refused(k, p) => Number::Refused(k, p),

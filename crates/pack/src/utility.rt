@@ -11,10 +11,9 @@ ghost use mathlib.Core.Path.{_≡_};
 ghost use lib.ListN.{length};
 ghost use Rattle.pack.specs.Reading.{mapped};
 ghost use Rattle.pack.specs.Grammar.{ruleAt, rulesAt};
-ghost use Rattle.pack.specs.Contracts.Said.{shown, forget, after};
-ghost use Rattle.pack.specs.Contracts.Answer.{dims, dimsOf};
-ghost use Rattle.pack.specs.Contracts.Places.{Within, Ready, UtilitiesRead};
-ghost use Rattle.pack.specs.declared.number.Checked.the-variants.{Refused};
+ghost use Rattle.pack.specs.Contracts.Said.{shown, forget};
+ghost use Rattle.pack.specs.Contracts.Answer.{dims};
+ghost use Rattle.pack.specs.Contracts.Places.{Within, Ready, UtilitiesRead, UtilitiesAfter};
 
 // A condition and a number.
 pub fn check_rule(s: &[u8], at: usize, characters: usize, domains: &[u8]) -> Checked
@@ -87,7 +86,7 @@ pub fn read_utilities(
 // The same, where the part before it was read; else its refusal is handed on.
 pub fn utilities_after(s: &[u8], at: usize, h: Head, earlier: Number, places: &mut [u16]) -> Checked
     requires { ⌜ Ready (now s) at h (now places) ⌝ }
-    ensures { λ r. ⌜ after earlier Refused r (UtilitiesRead (dimsOf h) (now (s .entry)) at (now (places .entry)) (now (places .exit)) r) ⌝ }
+    ensures { λ r. ⌜ UtilitiesAfter h earlier (now (s .entry)) at (now (places .entry)) (now (places .exit)) r ⌝ }
 {
     match earlier {
         Number::Refused(k, p) => Checked::Refused(k, p),

@@ -46,4 +46,5 @@ behindHead h at = placeOf (h .answer) at
 
 -- the nodes, as many as their count says, behind a head and a count: the first refusal stays
 abbrev pub rowsAfter : Head → (count : Reading ℕ) → Reader ℕ
-rowsAfter h count s at = bind (shown (h .answer)) (λ read n. bind count (λ k n. mapped (λ nodes. k) (many (nodeAt (dimsOf h) k) k s at)))
+rowsAfter h count s at =
+    bind (shown (h .answer)) (λ read n. bind count (λ k n. mapped (λ nodes. k) (many (nodeAt (dimsOf h) k) k s at)))

@@ -7,8 +7,8 @@ use lib.ListN.{length, getD, take}
 use Rattle.pack.specs.Syntax.{Action, Trigger, Theory, Pack}
 use Rattle.pack.specs.Reading.{done, Reader, bind, mapped, many, Reply, gives, refuses, told}
 use Rattle.pack.specs.Grammar.{Dimensions, nodeAt, nodesAt, packAt, conditionAt, effectsAt, consentersAt, rulesAt, theoryAt, packOf}
-use Rattle.pack.specs.Contracts.Said.{behind, valueOf, shown, forget}
-use Rattle.pack.specs.Contracts.Answer.{dims}
+use Rattle.pack.specs.Contracts.Said.{behind, valueOf, shown, forget, after}
+use Rattle.pack.specs.Contracts.Answer.{dims, dimsOf}
 use Rattle.pack.specs.declared.number.Number.{Number}
 use Rattle.pack.specs.declared.number.Number.the-variants as numbers
 use Rattle.pack.specs.declared.number.Checked.{Checked}
@@ -45,11 +45,16 @@ pub record TheoryFound (d : Dimensions) (s places : List ℕ) (t : Theory) (k l 
 
 -- what the answers of three parts say together
 abbrev pub countsOf : (actions triggers : Number) → (utilities : Checked) → Counts
-countsOf actions triggers utilities = record { answer = utilities; actions = valueOf actions; triggers = valueOf triggers }
+countsOf actions triggers utilities =
+    record { answer = utilities; actions = valueOf actions; triggers = valueOf triggers }
 
 pub record TheoryRead (d : Dimensions) (s : List ℕ) (at : ℕ) (places : List ℕ) (r : Counts) : Type 0 where
   pub answer : mapped forget (theoryAt d s at) ≡ shown (r .answer)
   pub found : (t : Theory) (n : ℕ) → theoryAt d s at ≡ done t n → TheoryFound d s places t (r .actions) (r .triggers)
+
+-- the same behind the nodes: they were read, else their refusal is handed on
+abbrev pub TheoryAfter : Head → (nodes : Number) → (s : List ℕ) (at : ℕ) (places : List ℕ) → Counts → Type 0
+TheoryAfter h nodes s at places c = after nodes Refused (c .answer) (TheoryRead (dimsOf h) s at places c)
 
 -- an accepted pack: each of its parts, and where it stands
 pub record PackFound (s places : List ℕ) (p : Pack) (r : Contents) : Type 0 where
