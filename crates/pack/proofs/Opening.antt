@@ -1,4 +1,4 @@
--- What a head begins with: handed out number after number it is what the grammar reads, and its limits. Assumes nothing.
+-- What a head begins with: it is what the grammar reads, and its limits. Assumes nothing.
 use Prim.Native.Nat.{ℕ, _≤_}
 use mathlib.Core.Path.{_≡_, ap, _∙_}
 use mathlib.Core.List.{List}
@@ -6,23 +6,13 @@ use native.Mathlib.Omega.{arith}
 use Rattle.pack.specs.Reading.{done, bind, mapped, many}
 use Rattle.pack.specs.Number.{between}
 use Rattle.pack.specs.Grammar.{headAt}
-use Rattle.pack.specs.Contracts.Said.{said, behind, answered}
-use Rattle.pack.specs.Contracts.Answer.{dims, inTurn, openingAt}
-use Rattle.pack.specs.declared.number.Number.{Number}
-use Rattle.pack.specs.declared.number.Number.the-variants.{Is, Refused}
+use Rattle.pack.specs.Contracts.Said.{answered}
+use Rattle.pack.specs.Contracts.Answer.{dims, openingAt}
 use Rattle.pack.specs.declared.number.Checked.{Checked}
 use Rattle.pack.specs.declared.number.Checked.the-variants.{Passed}
 use Rattle.pack.specs.declared.head.Opening.{Opening}
 use Rattle.pack.specs.Laws.Reading.{mapped-bind, bind-mapped, bind-bind, both, unmapped}
 use Rattle.pack.specs.Laws.Number.{between-within}
-
--- each number is read behind the one before it; behind a refusal it does not matter where
-pub opening-turns : (v c f : Number) (s : List ℕ) (at : ℕ) → between 1 2 3 s at ≡ said v → between 1 7 3 s (behind v at) ≡ said c → between 1 25 3 s (behind c (behind v at)) ≡ said f
-    → openingAt s at ≡ inTurn (said v) (said c) (said f)
-unfolding openingAt
-opening-turns (Is x n) (Is y m) f s at e g h = rw (e, g, h)
-opening-turns (Is x n) (Refused k p) f s at e g h = rw (e, g)
-opening-turns (Refused k p) c f s at e g h = rw e
 
 -- the domain sizes stand behind it
 pub head-opening : (s : List ℕ) (at : ℕ) → headAt s at ≡ bind (openingAt s at) (λ counts n. mapped (dims (counts .0)) (many (between 1 129 3) (counts .1) s n))

@@ -3,6 +3,7 @@
 use crate::condition::check_condition;
 use crate::effect::check_consenters;
 use crate::effect::check_effects;
+use crate::head::Head;
 use crate::number::Checked;
 use crate::number::Number;
 use crate::number::read_between;
@@ -10,7 +11,7 @@ use crate::places::ACTION;
 ghost use Prim.Native.Nat.{_+_, _≤_};
 ghost use lib.ListN.{length};
 ghost use Rattle.pack.specs.Contracts.Answer.{dims};
-ghost use Rattle.pack.specs.Contracts.Places.{Within, ObservedRead, ActionRead, ActionsRead};
+ghost use Rattle.pack.specs.Contracts.Places.{Within, Ready, ObservedRead, ActionRead, ActionsRead, ActionsAfter};
 
 // The observation conditions, one for each character.
 pub fn read_observed(
@@ -106,6 +107,22 @@ pub fn read_actions(
                 }
             }
             Number::Is(count, n)
+        }
+    }
+}
+
+// The same, where the part before it was read; else its refusal is handed on.
+pub fn actions_after(s: &[u8], at: usize, h: Head, earlier: Number, places: &mut [u16]) -> Number
+    requires { ⌜ Ready (now s) at h (now places) ⌝ }
+    ensures { λ r. ⌜ ActionsAfter h earlier (now (s .entry)) at (now (places .exit)) r ⌝ }
+{
+    match earlier {
+        Number::Refused(k, p) => Number::Refused(k, p),
+        Number::Is(_, _) => {
+            let sizes = h.sizes;
+            let fluents = h.fluents;
+            let domains = &sizes[..fluents];
+            read_actions(s, at, h.characters, domains, places)
         }
     }
 }

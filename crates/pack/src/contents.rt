@@ -1,19 +1,18 @@
 // A whole pack: its head, its nodes, and what can happen and who wants what.
-use crate::action::read_actions;
-use crate::head::read_head;
-use crate::node::check_rows;
+use crate::head::Head;
 use crate::number::Checked;
 use crate::number::Number;
-use crate::number::read_between;
+use crate::number::place_after;
+use crate::number::value_of;
 use crate::places::PLACES;
-use crate::trigger::read_triggers;
-use crate::utility::read_utilities;
+use crate::reader;
+use crate::reader::Reader;
 ghost use Prim.Native.Nat.{_≤_};
-ghost use lib.ListN.{length, take};
+ghost use lib.ListN.{length};
 ghost use mathlib.Core.Path.{_≡_};
-ghost use Rattle.pack.specs.Contracts.Answer.{dims};
-ghost use Rattle.pack.specs.Contracts.Places.{Within};
-ghost use Rattle.pack.specs.Contracts.Contents.{TheoryRead, BodyRead, PartsRead, PackRead, ContentsRead, Refusal};
+ghost use Rattle.pack.specs.Contracts.Places.{Ready};
+ghost use Rattle.pack.specs.Contracts.Contents.{countsOf, TheoryAfter, contentsOf, PartsRead};
+ghost use Rattle.pack.specs.Contracts.Contents.{PackRead, ContentsRead, Refusal};
 
 // How many actions and triggers there are.
 pub struct Counts {
@@ -22,39 +21,28 @@ pub struct Counts {
     pub triggers: usize,
 }
 
-// The actions, the triggers and the utilities, with the places of their parts.
-pub fn read_theory(
-    s: &[u8],
-    at: usize,
-    characters: usize,
-    domains: &[u8],
-    places: &mut [u16],
-) -> Counts
-    requires { ⌜ (characters ≤ 6) × (327 ≤ length (now places)) × Within (now s) at ⌝ }
-    ensures { λ r. ⌜ TheoryRead (dims characters (now (domains .entry))) (now (s .entry)) at (now (places .exit)) r ⌝ }
+// What the actions, the triggers and the utilities say together: each handed on the refusals before it.
+pub fn in_turn(actions: Number, triggers: Number, utilities: Checked) -> Counts
+    ensures { λ r. ⌜ r ≡ countsOf actions triggers utilities ⌝ }
 {
-    match read_actions(s, at, characters, domains, places) {
-        Number::Refused(k, p) => Counts {
-            answer: Checked::Refused(k, p),
-            actions: 0,
-            triggers: 0,
-        },
-        Number::Is(actions, n) => match read_triggers(s, n, characters, domains, places) {
-            Number::Refused(k, p) => Counts {
-                answer: Checked::Refused(k, p),
-                actions: 0,
-                triggers: 0,
-            },
-            Number::Is(triggers, n) => {
-                let answer = read_utilities(s, n, characters, domains, places);
-                Counts {
-                    answer,
-                    actions,
-                    triggers,
-                }
-            }
-        },
+    Counts {
+        answer: utilities,
+        actions: value_of(actions),
+        triggers: value_of(triggers),
     }
+}
+
+// The actions, the triggers and the utilities, with the places of their parts, where the nodes before them were read.
+pub fn read_theory<'a, 'b>(r: Reader<'a>, h: Head, nodes: Number, places: &'b mut [u16]) -> Counts
+    requires { ⌜ Ready (now (r .src)) (r .at) h (now places) ⌝ }
+    ensures { λ c. ⌜ TheoryAfter h nodes (now (r .entry .src)) (r .entry .at) (now (places .exit)) c ⌝ }
+{
+    let actions = reader::actions(r, h, nodes, places);
+    let r = reader::moved(r, actions);
+    let triggers = reader::triggers(r, h, actions, places);
+    let r = reader::moved(r, triggers);
+    let utilities = reader::utilities(r, h, triggers, places);
+    in_turn(actions, triggers, utilities)
 }
 
 // What a pack holds: its dimensions and counts, and the place of its first node's first value.
@@ -84,55 +72,38 @@ pub fn refusal(k: u8, p: usize) -> Contents
     }
 }
 
-// What comes after the head: the nodes, and the rest.
-pub fn read_body(
-    s: &[u8],
-    at: usize,
-    characters: usize,
-    fluents: usize,
-    sizes: [u8; 24],
-    places: &mut [u16],
-) -> Contents
-    requires { ⌜ (characters ≤ 6) × (fluents ≤ 24) × (length sizes ≡ 24) × (327 ≤ length (now places)) × Within (now s) at ⌝ }
-    ensures { λ r. ⌜ BodyRead (dims characters (take fluents sizes)) (now (s .entry)) at (now (places .exit)) r ⌝ }
+// What the head, the count of nodes and the rest say together.
+pub fn together(h: Head, count: Number, c: Counts) -> Contents
+    ensures { λ r. ⌜ r ≡ contentsOf h count c ⌝ }
 {
-    let domains = &sizes[..fluents];
-    match read_between(s, at, 1, 33, 3) {
-        Number::Refused(k, p) => refusal(k, p),
-        Number::Is(nodes, first) => match check_rows(s, first, characters, domains, nodes) {
-            Checked::Refused(k, p) => refusal(k, p),
-            Checked::Passed(n) => {
-                let c = read_theory(s, n, characters, domains, places);
-                let answer = c.answer;
-                Contents {
-                    answer,
-                    characters,
-                    fluents,
-                    sizes,
-                    nodes,
-                    first,
-                    actions: c.actions,
-                    triggers: c.triggers,
-                }
-            }
-        },
+    let answer = c.answer;
+    let sizes = h.sizes;
+    Contents {
+        answer,
+        characters: h.characters,
+        fluents: h.fluents,
+        sizes,
+        nodes: value_of(count),
+        first: place_after(count, 0),
+        actions: c.actions,
+        triggers: c.triggers,
     }
 }
 
-// The head and what comes after it.
+// The parts of a pack, one after the other, by one reader of its bytes.
 pub fn read_parts(s: &[u8], places: &mut [u16]) -> Contents
     requires { ⌜ (327 ≤ length (now places)) × (length (now s) ≤ 8192) ⌝ }
     ensures { λ r. ⌜ PartsRead (now (s .entry)) (now (places .exit)) r ⌝ }
 {
-    let h = read_head(s, 0);
-    let answer = h.answer;
-    match answer {
-        Checked::Refused(k, p) => refusal(k, p),
-        Checked::Passed(n) => {
-            let sizes = h.sizes;
-            read_body(s, n, h.characters, h.fluents, sizes, places)
-        }
-    }
+    let r = reader::new(s, 0);
+    let h = reader::head(r);
+    let r = reader::after_head(r, h);
+    let count = reader::next(r, 1, 33, 3);
+    let r = reader::moved(r, count);
+    let nodes = reader::rows(r, h, count);
+    let r = reader::moved(r, nodes);
+    let c = read_theory(r, h, nodes, places);
+    together(h, count, c)
 }
 
 // A pack: accepted, with what it holds and the places of its parts, or refused.

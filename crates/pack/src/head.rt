@@ -2,13 +2,11 @@
 use crate::number::Checked;
 use crate::number::Number;
 use crate::number::read_between;
-use crate::reader::moved;
-use crate::reader::new;
-use crate::reader::next;
 ghost use mathlib.Core.Path.{_≡_};
 ghost use Prim.Native.Nat.{_≤_};
-ghost use Rattle.pack.specs.Contracts.Said.{said, answered};
-ghost use Rattle.pack.specs.Contracts.Answer.{inTurn, openingAt, DomainsRead, HeadRead};
+ghost use Rattle.pack.specs.Contracts.Said.{answered};
+ghost use Rattle.pack.specs.Contracts.Answer.{openingAt, DomainsRead, HeadRead, behindHead};
+ghost use Rattle.pack.specs.declared.number.Checked.the-variants.{Refused};
 
 // What a head begins with: how many characters and fluents there are.
 pub struct Opening {
@@ -17,44 +15,34 @@ pub struct Opening {
     pub fluents: usize,
 }
 
-// What version, characters and fluents say together: the first refusal of the three stays.
-pub fn in_turn(version: Number, characters: Number, fluents: Number) -> Opening
-    ensures { λ r. ⌜ inTurn (said version) (said characters) (said fluents) ≡ answered (r .answer) (r .characters, r .fluents) ⌝ }
+pub fn unopened(k: u8, p: usize) -> Opening
+    ensures { λ r. ⌜ r .answer ≡ Refused k p ⌝ }
 {
-    let refused = match version {
-        Number::Refused(k, p) => Checked::Refused(k, p),
-        Number::Is(_, _) => match characters {
-            Number::Refused(k, p) => Checked::Refused(k, p),
-            Number::Is(characters, _) => match fluents {
-                Number::Refused(k, p) => Checked::Refused(k, p),
-                Number::Is(fluents, n) => {
-                    return Opening {
-                        answer: Checked::Passed(n),
-                        characters,
-                        fluents,
-                    };
-                }
-            },
-        },
-    };
     Opening {
-        answer: refused,
+        answer: Checked::Refused(k, p),
         characters: 0,
         fluents: 0,
     }
 }
 
-// The numbers that a head begins with, handed out one after the other by a reader of the bytes.
+// The version, and how many characters and fluents there are.
 pub fn read_opening(s: &[u8], at: usize) -> Opening
     ensures { λ r. ⌜ openingAt (now (s .entry)) at ≡ answered (r .answer) (r .characters, r .fluents) ⌝ }
 {
-    let r = new(s, at);
-    let version = next(r, 1, 2, 3);
-    let r = moved(r, version);
-    let characters = next(r, 1, 7, 3);
-    let r = moved(r, characters);
-    let fluents = next(r, 1, 25, 3);
-    in_turn(version, characters, fluents)
+    match read_between(s, at, 1, 2, 3) {
+        Number::Refused(k, p) => unopened(k, p),
+        Number::Is(_, n) => match read_between(s, n, 1, 7, 3) {
+            Number::Refused(k, p) => unopened(k, p),
+            Number::Is(characters, n) => match read_between(s, n, 1, 25, 3) {
+                Number::Refused(k, p) => unopened(k, p),
+                Number::Is(fluents, n) => Opening {
+                    answer: Checked::Passed(n),
+                    characters,
+                    fluents,
+                },
+            },
+        },
+    }
 }
 
 // The domain sizes: as many of these as there are fluents.
@@ -125,5 +113,16 @@ pub fn read_head(s: &[u8], at: usize) -> Head
                 sizes,
             }
         }
+    }
+}
+
+// The place behind a head that was read; a refusal moves nothing.
+pub fn head_end(h: Head, at: usize) -> usize
+    ensures { λ r. ⌜ r ≡ behindHead h at ⌝ }
+{
+    let answer = h.answer;
+    match answer {
+        Checked::Passed(n) => n,
+        Checked::Refused(_, _) => at,
     }
 }

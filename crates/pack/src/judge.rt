@@ -5,25 +5,26 @@ use crate::number::wide;
 use crate::table::Table;
 use crate::table::follow;
 use crate::test::after_test;
-ghost use Prim.Native.Nat.{ℕ, _<_};
+ghost use Prim.Native.Nat.{ℕ, _<_, _≤_};
 ghost use mathlib.Core.Path.{_≡_};
+ghost use mathlib.Core.Bool.{false};
 ghost use mathlib.Core.List.{List};
-ghost use lib.Dec.{eqb};
-ghost use Rattle.pack.specs.Syntax.{is, isNot, atLeast, Test, Condition, Rule};
-ghost use Rattle.pack.specs.Reading.{pick, done};
-ghost use Rattle.pack.specs.Grammar.{Dimensions, testAt, conditionAt, rulesAt};
+ghost use Rattle.pack.specs.Syntax.{Test, Condition, Rule};
+ghost use Rattle.pack.specs.Reading.{done};
+ghost use Rattle.pack.specs.Grammar.{Dimensions, kindOf, testAt, conditionAt, rulesAt};
 ghost use Rattle.pack.specs.Condition.{compares, allPass};
 ghost use Rattle.pack.specs.Contracts.Table.{stateOf};
 ghost use Rattle.pack.specs.Contracts.Judge.{alternativeAt, Small, Over, Readable, Judged};
 
-// A test's kind: 0 is, 1 is not, 2 at least.
+// A test's kind: 0 is, 1 is not, 2 at least. An accepted pack has no other; a test of a kind that isn't there never holds.
 pub fn compare(kind: u8, x: u8, value: u8) -> bool
-    ensures { λ r. ⌜ r ≡ compares (pick (eqb kind 0) is (pick (eqb kind 1) isNot atLeast)) x value ⌝ }
+    ensures { λ r. ⌜ (kind < 3 → r ≡ compares (kindOf kind) x value) × (3 ≤ kind → r ≡ false) ⌝ }
 {
     match kind {
         0 => x == value,
         1 => x != value,
-        2..=255 => value <= x,
+        2 => value <= x,
+        3..=255 => false,
     }
 }
 

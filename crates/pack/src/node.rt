@@ -1,4 +1,5 @@
 // The node part of a pack, a count and for each node its values and its beliefs; and a chart, which is that part by itself.
+use crate::head::Head;
 use crate::number::Checked;
 use crate::number::Number;
 use crate::number::read_belief;
@@ -6,12 +7,12 @@ use crate::number::read_between;
 use crate::number::wide;
 ghost use mathlib.Core.Path.{_≡_};
 ghost use lib.ListN.{length};
-ghost use Prim.Native.Nat.{_+_};
+ghost use Prim.Native.Nat.{_+_, _≤_};
 ghost use Rattle.pack.specs.Reading.{mapped, many, told, whole};
 ghost use Rattle.pack.specs.Number.{beliefAt};
 ghost use Rattle.pack.specs.Grammar.{nodeAt, nodesAt, inChart};
 ghost use Rattle.pack.specs.Contracts.Said.{shown, said, forget};
-ghost use Rattle.pack.specs.Contracts.Answer.{dims, valuesAt};
+ghost use Rattle.pack.specs.Contracts.Answer.{dims, valuesAt, rowsAfter};
 ghost use Rattle.pack.specs.Contracts.Contents.{repliedCount};
 
 // A node's values, one for each fluent.
@@ -84,6 +85,30 @@ pub fn check_rows(s: &[u8], at: usize, characters: usize, domains: &[u8], nodes:
         }
     }
     Checked::Passed(n)
+}
+
+// The nodes of a pack, as many as their count says, and the place after them. They are read where the head and the
+// count were; else the first refusal of the two is handed on.
+pub fn rows_after(s: &[u8], at: usize, h: Head, count: Number) -> Number
+    requires { ⌜ (h .fluents ≤ 24) × (length (h .sizes) ≡ 24) ⌝ }
+    ensures { λ r. ⌜ rowsAfter h (said count) (now (s .entry)) at ≡ said r ⌝ }
+{
+    let answer = h.answer;
+    match answer {
+        Checked::Refused(k, p) => Number::Refused(k, p),
+        Checked::Passed(_) => match count {
+            Number::Refused(k, p) => Number::Refused(k, p),
+            Number::Is(nodes, _) => {
+                let sizes = h.sizes;
+                let fluents = h.fluents;
+                let domains = &sizes[..fluents];
+                match check_rows(s, at, h.characters, domains, nodes) {
+                    Checked::Refused(k, p) => Number::Refused(k, p),
+                    Checked::Passed(n) => Number::Is(nodes, n),
+                }
+            }
+        },
+    }
 }
 
 // How many nodes there are, and the place after them.

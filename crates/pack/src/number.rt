@@ -1,7 +1,7 @@
 // Numbers, and numbers with their limits.
 ghost use mathlib.Core.Path.{_≡_};
 ghost use Rattle.pack.specs.Number.{numberAt, between, item, beliefAt, risingAt};
-ghost use Rattle.pack.specs.Contracts.Said.{said, behind};
+ghost use Rattle.pack.specs.Contracts.Said.{said, behind, valueOf};
 
 // What reading a number finds: its value and the place after it, or a refusal's number and place.
 pub enum Number {
@@ -85,6 +85,16 @@ pub fn place_after(n: Number, at: usize) -> usize
     match n {
         Number::Is(_, next) => next,
         Number::Refused(_, _) => at,
+    }
+}
+
+// The number that was read; 0 for a refusal.
+pub fn value_of(n: Number) -> usize
+    ensures { λ r. ⌜ r ≡ valueOf n ⌝ }
+{
+    match n {
+        Number::Is(v, _) => v,
+        Number::Refused(_, _) => 0,
     }
 }
 

@@ -67,9 +67,12 @@ pub fn plain_test(s: &[u8], at: usize, characters: usize, domains: &[u8]) -> usi
     if !chain {
         return at;
     }
-    if 2 < s[n] {
-        return at;
+    let kind = s[n];
+    match kind {
+        0 | 1 | 2 => {
+            let claim = plain_claim(s, n + 1, domains);
+            if claim { n + 3 } else { at }
+        }
+        3..=255 => at,
     }
-    let claim = plain_claim(s, n + 1, domains);
-    if claim { n + 3 } else { at }
 }

@@ -1,13 +1,26 @@
-// A pack reader: the bytes that were lent and a position in them. It hands out number after number; the work is done by
-// functions of `number` on the slice and the position.
+// The pack reader: the bytes that were lent and a position in them. It hands out number after number and part after part,
+// and is moved behind each. Its functions are thin: each takes the reader apart, and one on the slice and the position
+// does the work.
+use crate::action::actions_after;
+use crate::head::Head;
+use crate::head::head_end;
+use crate::head::read_head;
+use crate::node::rows_after;
+use crate::number::Checked;
 use crate::number::Number;
 use crate::number::place_after;
 use crate::number::read_between;
+use crate::trigger::triggers_after;
+use crate::utility::utilities_after;
+ghost use Prim.Native.Nat.{_≤_};
+ghost use lib.ListN.{length};
 ghost use mathlib.Core.Path.{_≡_};
 ghost use Rattle.pack.specs.Number.{between};
 ghost use Rattle.pack.specs.Contracts.Said.{said, behind};
+ghost use Rattle.pack.specs.Contracts.Answer.{HeadRead, behindHead, rowsAfter};
+ghost use Rattle.pack.specs.Contracts.Places.{Ready, ActionsAfter, TriggersAfter, UtilitiesAfter};
 
-// The bytes, and the place of the number that comes next.
+// The bytes, and the place of what comes next.
 pub struct Reader<'a> {
     pub src: &'a [u8],
     pub at: usize,
@@ -27,7 +40,7 @@ pub fn next<'a>(r: Reader<'a>, low: usize, limit: usize, number: u8) -> Number
     read_between(r.src, r.at, low, limit, number)
 }
 
-// The reader behind a number that it handed out; where that is a refusal it stays.
+// The reader behind a number or a part that it handed out; where that is a refusal it stays.
 pub fn moved<'a>(r: Reader<'a>, n: Number) -> Reader<'a>
     ensures { λ q. ⌜ (q .src ≡ r .entry .src) × (q .at ≡ behind n (r .entry .at)) ⌝ }
 {
@@ -35,4 +48,53 @@ pub fn moved<'a>(r: Reader<'a>, n: Number) -> Reader<'a>
         src: r.src,
         at: place_after(n, r.at),
     }
+}
+
+// The head: version, characters, fluents and their domains.
+pub fn head<'a>(r: Reader<'a>) -> Head
+    ensures { λ h. ⌜ HeadRead (now (r .entry .src)) (r .entry .at) h ⌝ }
+{
+    read_head(r.src, r.at)
+}
+
+// The reader behind the head.
+pub fn after_head<'a>(r: Reader<'a>, h: Head) -> Reader<'a>
+    ensures { λ q. ⌜ (q .src ≡ r .entry .src) × (q .at ≡ behindHead h (r .entry .at)) ⌝ }
+{
+    Reader {
+        src: r.src,
+        at: head_end(h, r.at),
+    }
+}
+
+// The nodes: how many there are. Each part from here on is told what came before it, and a refusal is handed on.
+pub fn rows<'a>(r: Reader<'a>, h: Head, count: Number) -> Number
+    requires { ⌜ (h .fluents ≤ 24) × (length (h .sizes) ≡ 24) ⌝ }
+    ensures { λ n. ⌜ rowsAfter h (said count) (now (r .entry .src)) (r .entry .at) ≡ said n ⌝ }
+{
+    rows_after(r.src, r.at, h, count)
+}
+
+// The actions: how many there are, with the places of their parts.
+pub fn actions<'a, 'b>(r: Reader<'a>, h: Head, earlier: Number, places: &'b mut [u16]) -> Number
+    requires { ⌜ Ready (now (r .src)) (r .at) h (now places) ⌝ }
+    ensures { λ n. ⌜ ActionsAfter h earlier (now (r .entry .src)) (r .entry .at) (now (places .exit)) n ⌝ }
+{
+    actions_after(r.src, r.at, h, earlier, places)
+}
+
+// The triggers: how many there are, with the places of their parts.
+pub fn triggers<'a, 'b>(r: Reader<'a>, h: Head, earlier: Number, places: &'b mut [u16]) -> Number
+    requires { ⌜ Ready (now (r .src)) (r .at) h (now places) ⌝ }
+    ensures { λ n. ⌜ TriggersAfter h earlier (now (r .entry .src)) (r .entry .at) (now (places .entry)) (now (places .exit)) n ⌝ }
+{
+    triggers_after(r.src, r.at, h, earlier, places)
+}
+
+// The utilities, with their places.
+pub fn utilities<'a, 'b>(r: Reader<'a>, h: Head, earlier: Number, places: &'b mut [u16]) -> Checked
+    requires { ⌜ Ready (now (r .src)) (r .at) h (now places) ⌝ }
+    ensures { λ n. ⌜ UtilitiesAfter h earlier (now (r .entry .src)) (r .entry .at) (now (places .entry)) (now (places .exit)) n ⌝ }
+{
+    utilities_after(r.src, r.at, h, earlier, places)
 }

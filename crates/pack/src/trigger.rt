@@ -1,6 +1,7 @@
 // Triggers: checked, with the places of their parts. Trigger i has two places from 288 + 2 * i on: its condition and its effects.
 use crate::condition::check_condition;
 use crate::effect::check_effects;
+use crate::head::Head;
 use crate::number::Checked;
 use crate::number::Number;
 use crate::number::read_between;
@@ -9,7 +10,7 @@ use crate::places::TRIGGERS;
 ghost use Prim.Native.Nat.{_+_, _≤_};
 ghost use lib.ListN.{length};
 ghost use Rattle.pack.specs.Contracts.Answer.{dims};
-ghost use Rattle.pack.specs.Contracts.Places.{Within, TriggerRead, TriggersRead};
+ghost use Rattle.pack.specs.Contracts.Places.{Within, Ready, TriggerRead, TriggersRead, TriggersAfter};
 
 // A trigger: a condition and effects. Its places are marked from base on.
 pub fn read_trigger(
@@ -63,6 +64,22 @@ pub fn read_triggers(
                 }
             }
             Number::Is(count, n)
+        }
+    }
+}
+
+// The same, where the part before it was read; else its refusal is handed on.
+pub fn triggers_after(s: &[u8], at: usize, h: Head, earlier: Number, places: &mut [u16]) -> Number
+    requires { ⌜ Ready (now s) at h (now places) ⌝ }
+    ensures { λ r. ⌜ TriggersAfter h earlier (now (s .entry)) at (now (places .entry)) (now (places .exit)) r ⌝ }
+{
+    match earlier {
+        Number::Refused(k, p) => Number::Refused(k, p),
+        Number::Is(_, _) => {
+            let sizes = h.sizes;
+            let fluents = h.fluents;
+            let domains = &sizes[..fluents];
+            read_triggers(s, at, h.characters, domains, places)
         }
     }
 }

@@ -1,5 +1,6 @@
 // Utilities ("worths"): rules, each a condition and a number. The rules of the author and of each character have a place each, from 320 on.
 use crate::condition::check_condition;
+use crate::head::Head;
 use crate::number::Checked;
 use crate::number::Number;
 use crate::number::read_between;
@@ -12,7 +13,7 @@ ghost use Rattle.pack.specs.Reading.{mapped};
 ghost use Rattle.pack.specs.Grammar.{ruleAt, rulesAt};
 ghost use Rattle.pack.specs.Contracts.Said.{shown, forget};
 ghost use Rattle.pack.specs.Contracts.Answer.{dims};
-ghost use Rattle.pack.specs.Contracts.Places.{Within, UtilitiesRead};
+ghost use Rattle.pack.specs.Contracts.Places.{Within, Ready, UtilitiesRead, UtilitiesAfter};
 
 // A condition and a number.
 pub fn check_rule(s: &[u8], at: usize, characters: usize, domains: &[u8]) -> Checked
@@ -80,4 +81,20 @@ pub fn read_utilities(
         }
     }
     Checked::Passed(n)
+}
+
+// The same, where the part before it was read; else its refusal is handed on.
+pub fn utilities_after(s: &[u8], at: usize, h: Head, earlier: Number, places: &mut [u16]) -> Checked
+    requires { ⌜ Ready (now s) at h (now places) ⌝ }
+    ensures { λ r. ⌜ UtilitiesAfter h earlier (now (s .entry)) at (now (places .entry)) (now (places .exit)) r ⌝ }
+{
+    match earlier {
+        Number::Refused(k, p) => Checked::Refused(k, p),
+        Number::Is(_, _) => {
+            let sizes = h.sizes;
+            let fluents = h.fluents;
+            let domains = &sizes[..fluents];
+            read_utilities(s, at, h.characters, domains, places)
+        }
+    }
 }

@@ -5,8 +5,8 @@ use mathlib.Core.List.{List}
 use lib.ListN.{length, getD, take}
 use Rattle.pack.specs.Reading.{Reading, Reader, bind, mapped, runs, many}
 use Rattle.pack.specs.Number.{between, item}
-use Rattle.pack.specs.Contracts.Said.{answered, forget}
-use Rattle.pack.specs.Grammar.{Dimensions, headAt}
+use Rattle.pack.specs.Contracts.Said.{answered, shown, placeOf, forget}
+use Rattle.pack.specs.Grammar.{Dimensions, headAt, nodeAt}
 use Rattle.pack.specs.declared.head.Domains.{Domains}
 use Rattle.pack.specs.declared.head.Head.{Head}
 
@@ -20,10 +20,6 @@ claimAt domains s at = bind (item (length domains) s at) (λ fluent n. mapped fo
 -- a value for each fluent
 abbrev pub valuesAt : (domains : List ℕ) → Reader (List ℕ)
 valuesAt domains = runs (λ fluent. item (getD domains fluent 0)) (λ fluent v. fluent + 1) 0 (length domains)
-
--- version, characters and fluents in turn: the first refusal stays, and the version is not told
-abbrev pub inTurn : (version characters fluents : Reading ℕ) → Reading (ℕ × ℕ)
-inTurn version characters fluents = bind version (λ v n. bind characters (λ c n. mapped (λ f. (c, f)) fluents))
 
 -- what a head begins with, up to its domain sizes: how many characters and fluents there are
 unfoldable pub openingAt : Reader (ℕ × ℕ)
@@ -39,3 +35,16 @@ pub record HeadRead (s : List ℕ) (at : ℕ) (r : Head) : Type 0 where
   pub few : r .fluents ≤ 24
   pub long : length (r .sizes) ≡ 24
   pub small : r .characters ≤ 6
+
+-- what the parts behind a head need of it
+abbrev pub dimsOf : Head → Dimensions
+dimsOf h = dims (h .characters) (take (h .fluents) (h .sizes))
+
+-- the place behind a head that was read; a refusal moves nothing
+abbrev pub behindHead : Head → ℕ → ℕ
+behindHead h at = placeOf (h .answer) at
+
+-- the nodes, as many as their count says, behind a head and a count: the first refusal stays
+abbrev pub rowsAfter : Head → (count : Reading ℕ) → Reader ℕ
+rowsAfter h count s at =
+    bind (shown (h .answer)) (λ read n. bind count (λ k n. mapped (λ nodes. k) (many (nodeAt (dimsOf h) k) k s at)))

@@ -7,12 +7,13 @@ use lib.ListN.{length, getD, take}
 use Rattle.pack.specs.Syntax.{Action, Trigger, Theory, Pack}
 use Rattle.pack.specs.Reading.{done, Reader, bind, mapped, many, Reply, gives, refuses, told}
 use Rattle.pack.specs.Grammar.{Dimensions, nodeAt, nodesAt, packAt, conditionAt, effectsAt, consentersAt, rulesAt, theoryAt, packOf}
-use Rattle.pack.specs.Contracts.Said.{shown, forget}
-use Rattle.pack.specs.Contracts.Answer.{dims}
+use Rattle.pack.specs.Contracts.Said.{behind, valueOf, shown, forget, after}
+use Rattle.pack.specs.Contracts.Answer.{dims, dimsOf}
 use Rattle.pack.specs.declared.number.Number.{Number}
 use Rattle.pack.specs.declared.number.Number.the-variants as numbers
 use Rattle.pack.specs.declared.number.Checked.{Checked}
 use Rattle.pack.specs.declared.number.Checked.the-variants.{Passed, Refused}
+use Rattle.pack.specs.declared.head.Head.{Head}
 use Rattle.pack.specs.declared.contents.Counts.{Counts}
 use Rattle.pack.specs.declared.contents.Contents.{Contents}
 
@@ -42,9 +43,18 @@ pub record TheoryFound (d : Dimensions) (s places : List ℕ) (t : Theory) (k l 
   pub trigger : (i : ℕ) → i < l → (x : Trigger) → TriggerStands d s places (288 + 2 * i) (getD (t .triggers) i x)
   pub rules : (c : ℕ) → c < d .characters + 1 → Gives (rulesAt d) s (getD places (320 + c) 0) (getD (t .utilities) c [])
 
+-- what the answers of three parts say together
+abbrev pub countsOf : (actions triggers : Number) → (utilities : Checked) → Counts
+countsOf actions triggers utilities =
+    record { answer = utilities; actions = valueOf actions; triggers = valueOf triggers }
+
 pub record TheoryRead (d : Dimensions) (s : List ℕ) (at : ℕ) (places : List ℕ) (r : Counts) : Type 0 where
   pub answer : mapped forget (theoryAt d s at) ≡ shown (r .answer)
   pub found : (t : Theory) (n : ℕ) → theoryAt d s at ≡ done t n → TheoryFound d s places t (r .actions) (r .triggers)
+
+-- the same behind the nodes: they were read, else their refusal is handed on
+abbrev pub TheoryAfter : Head → (nodes : Number) → (s : List ℕ) (at : ℕ) (places : List ℕ) → Counts → Type 0
+TheoryAfter h nodes s at places c = after nodes Refused (c .answer) (TheoryRead (dimsOf h) s at places c)
 
 -- an accepted pack: each of its parts, and where it stands
 pub record PackFound (s places : List ℕ) (p : Pack) (r : Contents) : Type 0 where
@@ -61,11 +71,19 @@ pub record PackFound (s places : List ℕ) (p : Pack) (r : Contents) : Type 0 wh
 unfoldable pub bodyAt : Dimensions → Reader Pack
 bodyAt d s at = bind (nodesAt d s at) (λ nodes n. mapped (λ theory. record { theory = theory; nodes = nodes }) (theoryAt d s n))
 
-pub record BodyRead (d : Dimensions) (s : List ℕ) (at : ℕ) (places : List ℕ) (r : Contents) : Type 0 where
-  pub answer : mapped forget (bodyAt d s at) ≡ shown (r .answer)
-  pub found : (p : Pack) (n : ℕ) → bodyAt d s at ≡ done p n → PackFound s places p r
-  pub few : r .fluents ≤ 24
-  pub long : length (r .sizes) ≡ 24
+-- what the head, the count of nodes and the rest say together
+abbrev pub contentsOf : Head → (count : Number) → Counts → Contents
+contentsOf h count c =
+    record {
+      answer = c .answer;
+      characters = h .characters;
+      fluents = h .fluents;
+      sizes = h .sizes;
+      nodes = valueOf count;
+      first = behind count 0;
+      actions = c .actions;
+      triggers = c .triggers;
+    }
 
 pub record PartsRead (s places : List ℕ) (r : Contents) : Type 0 where
   pub answer : mapped forget (packAt s 0) ≡ shown (r .answer)

@@ -6,13 +6,22 @@ use lib.ListN.{length, getD}
 use Rattle.pack.specs.Reading.{done, Reader, mapped, many}
 use Rattle.pack.specs.Number.{between, counted}
 use Rattle.pack.specs.Grammar.{Dimensions, conditionAt, effectsAt, consentersAt, actionAt, triggerAt, rulesAt}
-use Rattle.pack.specs.Contracts.Said.{said, shown, forget, whenPassed, whenIs}
+use Rattle.pack.specs.Contracts.Said.{said, shown, forget, whenPassed, whenIs, after}
+use Rattle.pack.specs.Contracts.Answer.{dimsOf}
 use Rattle.pack.specs.declared.number.Number.{Number}
+use Rattle.pack.specs.declared.number.Number.the-variants as numbers
 use Rattle.pack.specs.declared.number.Checked.{Checked}
+use Rattle.pack.specs.declared.number.Checked.the-variants as checked
+use Rattle.pack.specs.declared.head.Head.{Head}
 
 -- a place in bytes that are few enough for a pack, so that the place fits 16 bits
 abbrev pub Within : List ℕ → ℕ → Type 0
 Within s at = (at ≤ length s) × (length s ≤ 8192)
+
+-- what the readers of actions, triggers and utilities ask: a head within its limits, room for places, a place in the bytes
+abbrev pub Ready : List ℕ → ℕ → Head → (places : List ℕ) → Type 0
+Ready s at h places =
+    (h .characters ≤ 6) × (h .fluents ≤ 24) × (length (h .sizes) ≡ 24) × (327 ≤ length places) × Within s at
 
 -- what p reads from a place on ends at n
 abbrev pub Ends : {A : Type 0} → Reader A → List ℕ → ℕ → ℕ → Type 0
@@ -78,3 +87,13 @@ pub record UtilitiesRead (d : Dimensions) (s : List ℕ) (at : ℕ) (was now : L
   pub answer : mapped forget (many (rulesAt d) (d .characters + 1) s at) ≡ shown r
   pub marked : whenPassed r (λ n. Marked (rulesAt d) s at now (λ k. 320 + k) (d .characters + 1))
   pub kept : KeptBelow 320 was now
+
+-- A part of a pack behind another: it is read where the one before it was, else that one's refusal is handed on.
+abbrev pub ActionsAfter : Head → (earlier : Number) → (s : List ℕ) (at : ℕ) (places : List ℕ) → Number → Type 0
+ActionsAfter h earlier s at places r = after earlier numbers.Refused r (ActionsRead (dimsOf h) s at places r)
+
+abbrev pub TriggersAfter : Head → (earlier : Number) → (s : List ℕ) (at : ℕ) (was now : List ℕ) → Number → Type 0
+TriggersAfter h earlier s at was now r = after earlier numbers.Refused r (TriggersRead (dimsOf h) s at was now r)
+
+abbrev pub UtilitiesAfter : Head → (earlier : Number) → (s : List ℕ) (at : ℕ) (was now : List ℕ) → Checked → Type 0
+UtilitiesAfter h earlier s at was now r = after earlier checked.Refused r (UtilitiesRead (dimsOf h) s at was now r)

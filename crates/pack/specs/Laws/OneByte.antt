@@ -117,6 +117,7 @@ pub record TestBytes (d : Dimensions) (s : List ℕ) (at : ℕ) (x : Test) (n : 
   pub chain : x .chain ≡ bytesAt s (at + 1) (getD s at 0)
   pub valid : Valid (d .characters) (bytesAt s (at + 1) (getD s at 0))
   pub kind : x .kind ≡ kindOf (getD s ((at + 1) + getD s at 0) 0)
+  pub known : getD s ((at + 1) + getD s at 0) 0 < 3
   pub fluent : x .fluent ≡ getD s (((at + 1) + getD s at 0) + 1) 0
   pub below : getD s (((at + 1) + getD s at 0) + 1) 0 < length (d .domains)
   pub value : x .value ≡ getD s (((at + 1) + getD s at 0) + 2) 0
@@ -136,6 +137,7 @@ test-bytes d small s at x n e =
     let b1 = both (item 3 s (b0 .place)) _ x n (b0 .right) in
     let e1 : item 3 s m ≡ done (b1 .value) (b1 .place) = ap (item 3 s) (sym (ch .ends)) ∙ b1 .left in
     let o1 = between-byte 0 3 4 s m (b1 .value) (b1 .place) (omega arith) e1 in
+    let w1 = between-within 0 3 4 s m (b1 .value) (b1 .place) e1 in
     let b2 = both (fluentAt d s (b1 .place)) _ x n (b1 .right) in
     let e2 : fluentAt d s (m + 1) ≡ done (b2 .value) (b2 .place) = ap (fluentAt d s) (sym (o1 .next)) ∙ b2 .left in
     let o2 = between-byte 0 (length (d .domains)) 4 s (m + 1) (b2 .value) (b2 .place) (let q = small .fluents in omega arith) e2 in
@@ -148,6 +150,7 @@ test-bytes d small s at x n e =
       chain = ap (λ (y : Test). y .chain) (sym (u .right)) ∙ ch .bytes;
       valid = ch .valid;
       kind = ap (λ (y : Test). y .kind) (sym (u .right)) ∙ ap kindOf (sym (o1 .value));
+      known = let p = o1 .value in let q = w1 .1 in omega arith;
       fluent = ap (λ (y : Test). y .fluent) (sym (u .right)) ∙ sym (o2 .value);
       below = let p = o2 .value in let q = w2 .1 in omega arith;
       value = ap (λ (y : Test). y .value) (sym (u .right)) ∙ sym (o3 .value);
@@ -169,13 +172,14 @@ valid-rest C s n (suc left) h v = rw sub-one (v .1)
 -- what of a test's bytes keeps its reader within the pack, where its chain has k characters
 pub record TestIn (d : Dimensions) (C F : ℕ) (s : List ℕ) (at k : ℕ) : Type 0 where
   pub valid : Valid C (bytesAt s (at + 1) k)
+  pub known : getD s ((at + 1) + k) 0 < 3
   pub below : getD s (((at + 1) + k) + 1) 0 < F
   pub inside : ((at + 1) + k) + 2 < length s
 
 pub test-in : (d : Dimensions) (C F : ℕ) → Small d → d .characters ≡ C → length (d .domains) ≡ F → (s : List ℕ) (at : ℕ) (x : Test) (n : ℕ) → testAt d s at ≡ done x n → (k : ℕ) → getD s at 0 ≡ k → TestIn d C F s at k
 test-in d C F small ec ef s at x n e k q =
     let b = test-bytes d small s at x n e in
-    subst (TestIn d C F s at) q (record { valid = subst (λ (c : ℕ). Valid c (bytesAt s (at + 1) (getD s at 0))) ec (b .valid); below = let p = b .below in omega arith; inside = b .inside })
+    subst (TestIn d C F s at) q (record { valid = subst (λ (c : ℕ). Valid c (bytesAt s (at + 1) (getD s at 0))) ec (b .valid); known = b .known; below = let p = b .below in omega arith; inside = b .inside })
 
 -- an effect, byte by byte: whom, the fluent and the value
 pub record EffectBytes (d : Dimensions) (s : List ℕ) (at : ℕ) (x : Effect) (n : ℕ) : Type 0 where

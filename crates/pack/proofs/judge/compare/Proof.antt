@@ -1,7 +1,6 @@
 -- The match has the kinds in the order of their numbers. Assumes nothing.
-use borrow.Author.Needs.{needs}
-use Prim.Native.Nat.{_-_}
-use Rattle.pack.proofs.Tests.{tests}
+use native.Mathlib.Omega.{arith}
+use mathlib.Core.Path.{refl}
 use Rattle.pack.specs.Condition.{compares}
 use Rattle.pack.proofs.judge.compare.Statement.{statement}
 use Rattle.pack.proofs.judge.compare.Tie as tie
@@ -11,6 +10,7 @@ unfolding compares
 compare-spec =
     tie.close
     (tie.spec
-    (λ c. search (needs, tests))
-    (λ c. rw (c .match .keys2))
-    (λ c. search (needs, tests)))
+    (λ c. (λ known. rw (c .match .keys1), λ other. absurd (omega (arith, other, c .match .keys1))))
+    (λ c. (λ known. rw (c .match .keys2), λ other. absurd (omega (arith, other, c .match .keys2))))
+    (λ c. (λ known. rw (c .match .keys3), λ other. absurd (omega (arith, other, c .match .keys3))))
+    (λ c. (λ known. absurd (omega (arith, known)), λ other. refl)))

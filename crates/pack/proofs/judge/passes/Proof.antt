@@ -87,4 +87,6 @@ passes-spec =
     (λ c κs. search needs)
     (λ c.
     let start = c .before .before .before .before .before .before .before .before .before .before .before .before .before in
-    λ d over x n e. c .compare .ensures ∙ ap (λ k. compares (kindOf (getD (start .args .s .now) (((start .args .at) + 1) + (c .before .before .before .before .before .before .before .before .before .wide .result)) 0)) (getD (start .args .buffer .now) ((start .args .t .rows + c .before .before .before .before .before .before .before .before .follow .result * start .args .t .width) + k) 0) (getD (start .args .s .now) ((((start .args .at) + 1) + (c .before .before .before .before .before .before .before .before .before .wide .result)) + 2) 0)) (sym (c .before .before .before .wide2 .ensures)) ∙ sym (passes-by (start .args .t) (start .args .buffer .now) (start .args .node) d over (start .args .s .now) (start .args .at) x n e (c .before .before .before .before .before .before .before .before .before .wide .result) (c .before .before .before .before .before .before .before .before .follow .result) (c .before .before .before .before .before .before .before .before .before .wide .ensures) (c .before .before .before .before .before .before .before .before .follow .ensures .0) (c .before .before .before .before .before .before .before .before .follow .ensures .1))))
+    let chain = c .before .before .before .before .before .before .before .before .before in
+    let within = test-in (start .pre .dimensions) (start .args .t .characters) (start .args .t .fluents) (start .pre .over .small) (start .pre .over .characters) (start .pre .over .fluents) (start .args .s .now) (start .args .at) (start .pre .value) (start .pre .end) (start .pre .reads) (chain .wide .result) (chain .wide .ensures) in
+    λ d over x n e. c .compare .ensures .0 (within .known) ∙ ap (λ k. compares (kindOf (getD (start .args .s .now) (((start .args .at) + 1) + (c .before .before .before .before .before .before .before .before .before .wide .result)) 0)) (getD (start .args .buffer .now) ((start .args .t .rows + c .before .before .before .before .before .before .before .before .follow .result * start .args .t .width) + k) 0) (getD (start .args .s .now) ((((start .args .at) + 1) + (c .before .before .before .before .before .before .before .before .before .wide .result)) + 2) 0)) (sym (c .before .before .before .wide2 .ensures)) ∙ sym (passes-by (start .args .t) (start .args .buffer .now) (start .args .node) d over (start .args .s .now) (start .args .at) x n e (c .before .before .before .before .before .before .before .before .before .wide .result) (c .before .before .before .before .before .before .before .before .follow .result) (c .before .before .before .before .before .before .before .before .before .wide .ensures) (c .before .before .before .before .before .before .before .before .follow .ensures .0) (c .before .before .before .before .before .before .before .before .follow .ensures .1))))

@@ -25,7 +25,6 @@ plain-test-spec =
     (λ c κs. search needs)
     (λ c past. absurd (omega (arith, past)))
     (λ c. search needs)
-    (λ c past. absurd (omega (arith, past)))
     (λ c. search needs)
     (λ c κs. search needs)
     (λ c. search needs)
@@ -38,5 +37,6 @@ plain-test-spec =
     let three : (n + 1) + 2 ≡ n + 3 = omega arith in
     test-reads (start .args .characters) (start .args .domains .now) (start .args .s .now) (start .args .at) (count .wide .result) n
     (count .before .before .if1 .left) (count .wide .ensures) (omega (arith, chain .before .before .if2 .left)) (chain .plain-chain .ensures (not-false _ (kind .before .before .if4 .left)))
-    (omega (arith, chain .before .if3 .left)) (omega (arith, kind .if5 .left)) (c .before .plain-claim .ensures (c .if6 .taken) ∙ ap (done tt) three))
+    (omega (arith, chain .before .if3 .left)) (omega (arith, kind .if5 .taken)) (c .before .plain-claim .ensures (c .if6 .taken) ∙ ap (done tt) three))
+    (λ c past. absurd (omega (arith, past)))
     (λ c past. absurd (omega (arith, past))))

@@ -1,0 +1,22 @@
+-- The domains are the first of the sizes, and what came before is looked at first. Assumes nothing.
+use borrow.Author.Needs.{needs}
+use native.Mathlib.Omega.{arith}
+use mathlib.Core.Path.{sym, subst}
+use lib.Seq.{length-take-le}
+use Rattle.pack.proofs.trigger.triggers_after.Statement.{statement}
+use Rattle.pack.proofs.trigger.triggers_after.Tie as tie
+
+pub triggers-after-spec : {M : Type 1} → statement M
+triggers-after-spec =
+    tie.close
+    (tie.spec
+    (λ c. search needs)
+    (λ c. search needs)
+    (λ c. search needs)
+    (λ c.
+    let start = c .before .before .before .before .before .before in
+    sym (length-take-le (start .args .h .fluents) (start .args .h .sizes) (omega (arith, start .pre .1, start .pre .2))))
+    (λ c κs. let start = c .before .before .before .before .before .before .before in (start .pre .0, start .pre .3, start .pre .4))
+    (λ c. rw (c .before .earlier .given .1))
+    (λ c. search needs)
+    (λ c. rw (c .before .before .before .before .before .before .enum-told .given .1) (c .before .before .read-triggers .ensures)))
