@@ -22,6 +22,7 @@ ghost use Prim.Native.Nat.{suc, _+_, _*_, _<_, _≤_};
 ghost use Rattle.planner.specs.Ending.{Explained};
 ghost use Rattle.planner.specs.Inner.Lists.{slotTable, Other, Above, AboveBy, AboveBySome, Agreed};
 ghost use Rattle.planner.specs.Inner.Explain.{Prepared, Free, Answers};
+ghost use Rattle.transition.specs.Contracts.Stage.{slotRoom};
 
 // Whether character c's action a is explained: as is known, or as is found out.
 pub fn explained(
@@ -35,7 +36,7 @@ pub fn explained(
     k: Foresight,
     e: Nesting,
 ) -> bool
-    requires { ⌜ Prepared (k .0) (now pack) (now places) p (now work) (slotTable p (now work) slot) (slot + 961) × (c < p .characters) × (a < p .actions) × (0 < k .0) × (k .0 ≤ 6) × Free slot (1 + k .0 * e .0) ⌝ }
+    requires { ⌜ Prepared (k .0) (now pack) (now places) p (now work) (slotTable p (now work) slot) (slot + slotRoom) × (c < p .characters) × (a < p .actions) × (0 < k .0) × (k .0 ≤ 6) × Free slot (1 + k .0 * e .0) ⌝ }
     ensures { λ r. ⌜ Answers (k .0) (now (pack .entry)) (now (places .entry)) p slot (now (work .entry)) (now (work .exit)) r (λ th s. Explained th (k .0) (e .0) c a s) ⌝ }
 {
     if e.0 == 0 {
@@ -71,7 +72,7 @@ pub fn explains(
     k: Foresight,
     e: Nesting,
 ) -> bool
-    requires { ⌜ Prepared (k .0) (now pack) (now places) p (now work) (slotTable p (now work) slot) (slot + 961) × (c < p .characters) × (a < p .actions) × (0 < k .0) × (k .0 ≤ 6) × Free slot (1 + k .0 * e .0) × (0 < e .0) ⌝ }
+    requires { ⌜ Prepared (k .0) (now pack) (now places) p (now work) (slotTable p (now work) slot) (slot + slotRoom) × (c < p .characters) × (a < p .actions) × (0 < k .0) × (k .0 ≤ 6) × Free slot (1 + k .0 * e .0) × (0 < e .0) ⌝ }
     ensures { λ r. ⌜ Answers (k .0) (now (pack .entry)) (now (places .entry)) p slot (now (work .entry)) (now (work .exit)) r (λ th s. Explained th (k .0) (e .0) c a s) ⌝ }
 {
     let q = wide(work[slot + 1 + p.fluents + c]);
@@ -115,7 +116,7 @@ pub fn extends(
     left: usize,
     base: usize,
 ) -> bool
-    requires { ⌜ Prepared (k .0) (now pack) (now places) p (now work) (slotTable p (now work) slot) (slot + 961) × (c < p .characters) × (0 < k .0) × (k .0 ≤ 6) × Free slot (1 + left + k .0 * e .0) ⌝ }
+    requires { ⌜ Prepared (k .0) (now pack) (now places) p (now work) (slotTable p (now work) slot) (slot + slotRoom) × (c < p .characters) × (0 < k .0) × (k .0 ≤ 6) × Free slot (1 + left + k .0 * e .0) ⌝ }
     ensures { λ r. ⌜ Answers (k .0) (now (pack .entry)) (now (places .entry)) p slot (now (work .entry)) (now (work .exit)) r (λ th s. Above th (k .0) (e .0) c base (suc left) s) ⌝ }
 {
     let t = table_in(work, p, slot);
@@ -163,7 +164,7 @@ pub fn extends_by(
     left: usize,
     base: usize,
 ) -> bool
-    requires { ⌜ Prepared (k .0) (now pack) (now places) p (now work) (slotTable p (now work) slot) (slot + 961) × (c < p .characters) × (0 < k .0) × (k .0 ≤ 6) × Free slot (2 + left + k .0 * e .0) ⌝ }
+    requires { ⌜ Prepared (k .0) (now pack) (now places) p (now work) (slotTable p (now work) slot) (slot + slotRoom) × (c < p .characters) × (0 < k .0) × (k .0 ≤ 6) × Free slot (2 + left + k .0 * e .0) ⌝ }
     ensures { λ r. ⌜ Answers (k .0) (now (pack .entry)) (now (places .entry)) p slot (now (work .entry)) (now (work .exit)) r (λ th s. AboveBySome th (k .0) (e .0) c base (suc left) s) ⌝ }
 {
     let mut x = next_promising(pack, places, p, work, slot, 0, c + 1, left, base);
@@ -191,7 +192,7 @@ pub fn via(
     left: usize,
     base: usize,
 ) -> bool
-    requires { ⌜ Prepared (k .0) (now pack) (now places) p (now work) (slotTable p (now work) slot) (slot + 961) × (c < p .characters) × (x < p .actions) × (0 < k .0) × (k .0 ≤ 6) × Free slot (2 + left + k .0 * e .0) ⌝ }
+    requires { ⌜ Prepared (k .0) (now pack) (now places) p (now work) (slotTable p (now work) slot) (slot + slotRoom) × (c < p .characters) × (x < p .actions) × (0 < k .0) × (k .0 ≤ 6) × Free slot (2 + left + k .0 * e .0) ⌝ }
     ensures { λ r. ⌜ Answers (k .0) (now (pack .entry)) (now (places .entry)) p slot (now (work .entry)) (now (work .exit)) r (λ th s. AboveBy th (k .0) (e .0) c base (suc left) x s) ⌝ }
 {
     let agreed = allowed(pack, places, p, work, slot, c, x, k, e);
@@ -217,7 +218,7 @@ pub fn allowed(
     k: Foresight,
     e: Nesting,
 ) -> bool
-    requires { ⌜ Prepared (k .0) (now pack) (now places) p (now work) (slotTable p (now work) slot) (slot + 961) × (x < p .actions) × (0 < k .0) × (k .0 ≤ 6) × Free slot (1 + k .0 * e .0) ⌝ }
+    requires { ⌜ Prepared (k .0) (now pack) (now places) p (now work) (slotTable p (now work) slot) (slot + slotRoom) × (x < p .actions) × (0 < k .0) × (k .0 ≤ 6) × Free slot (1 + k .0 * e .0) ⌝ }
     ensures { λ r. ⌜ Answers (k .0) (now (pack .entry)) (now (places .entry)) p slot (now (work .entry)) (now (work .exit)) r (λ th s. Agreed th (k .0) (e .0) who x s) ⌝ }
 {
     let at = places[ACTION * x + CONSENTERS] as usize;
@@ -247,7 +248,7 @@ pub fn fine(
     k: Foresight,
     e: Nesting,
 ) -> bool
-    requires { ⌜ Prepared (k .0) (now pack) (now places) p (now work) (slotTable p (now work) slot) (slot + 961) × (d < p .characters) × (x < p .actions) × (0 < k .0) × (k .0 ≤ 6) × Free slot (1 + k .0 * e .0) ⌝ }
+    requires { ⌜ Prepared (k .0) (now pack) (now places) p (now work) (slotTable p (now work) slot) (slot + slotRoom) × (d < p .characters) × (x < p .actions) × (0 < k .0) × (k .0 ≤ 6) × Free slot (1 + k .0 * e .0) ⌝ }
     ensures { λ r. ⌜ Answers (k .0) (now (pack .entry)) (now (places .entry)) p slot (now (work .entry)) (now (work .exit)) r (λ th s. Other who d → Explained th (k .0) (e .0) d x s) ⌝ }
 {
     if d == who {

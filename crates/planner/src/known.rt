@@ -18,6 +18,7 @@ ghost use lib.ListN.{length, getD};
 ghost use Rattle.planner.specs.Inner.Lists.{slotTable};
 ghost use Rattle.planner.specs.Inner.Memory.{Before, Kept, Place, StepRead, StepPut, Noted, Slot, Again, LeftNoted};
 ghost use Rattle.planner.specs.Inner.Explain.{Steppable, Advances};
+ghost use Rattle.transition.specs.Contracts.Stage.{slotRoom};
 
 // The place of the entry for an action in a row of the table of a name.
 pub fn step_at(name: usize, root: usize, action: usize) -> usize
@@ -104,7 +105,7 @@ pub fn known_step(
     slot: usize,
     root: usize,
 ) -> u8
-    requires { ⌜ Steppable (now pack) (now places) p action (now work) (slotTable p (now work) slot) root (slot + 961) ⌝ }
+    requires { ⌜ Steppable (now pack) (now places) p action (now work) (slotTable p (now work) slot) root (slot + slotRoom) ⌝ }
     ensures { λ r. ⌜ Advances (now (pack .entry)) (now (places .entry)) p action slot root (now (work .entry)) (now (work .exit)) r ⌝ }
 {
     let t = table_in(work, p, slot);

@@ -44,6 +44,7 @@ ghost use Rattle.planner.specs.Inner.Memory.{Before};
 ghost use Rattle.planner.specs.Inner.Explain.{Staged, Free};
 ghost use Rattle.planner.specs.Inner.Search.{Underway, Finds, EndsHere, Outset, Repeated, OnPath, Laying, Layable, LaidStart, ShortestFrom, Seekable, SearchPutFrom};
 ghost use Rattle.planner.specs.Promises.{Searching};
+ghost use Rattle.transition.specs.Contracts.Stage.{slotRoom};
 
 // The list that was found: how many actions it has, and the author's utility at its end; no actions where there is none.
 pub struct Ended {
@@ -65,7 +66,7 @@ pub fn completes(
     left: usize,
     base: usize,
 ) -> usize
-    requires { ⌜ Underway (k .0) (e .0) base (now pack) (now places) p (now work) slot done left × (0 < k .0) × (k .0 ≤ 6) × Free slot (1 + left + k .0 * e .0) × (done + left ≤ length (now list)) × (slot ≡ done * 961) ⌝ }
+    requires { ⌜ Underway (k .0) (e .0) base (now pack) (now places) p (now work) slot done left × (0 < k .0) × (k .0 ≤ 6) × Free slot (1 + left + k .0 * e .0) × (done + left ≤ length (now list)) × (slot ≡ done * slotRoom) ⌝ }
     ensures { λ r. ⌜ Finds (k .0) (e .0) base (now (pack .entry)) (now (places .entry)) p slot done left (now (list .entry)) (now (list .exit)) (now (work .entry)) (now (work .exit)) r (λ th. Ends th (k .0) (e .0) base) ⌝ }
 {
     if left == 0 {
@@ -114,7 +115,7 @@ pub fn extent(work: &[u8], p: Shape, slot: usize) -> usize
 // Whether the state in a slot, the last of `done` + 1, is one of those in the slots before it. Written charts stand in
 // them, so equal bytes are the same state, and only they are.
 pub fn repeats(work: &[u8], p: Shape, slot: usize, done: usize) -> bool
-    requires { ⌜ Before p (now work) (slotTable p (now work) slot) × (slot ≡ done * 961) × OnPath p (now work) done ⌝ }
+    requires { ⌜ Before p (now work) (slotTable p (now work) slot) × (slot ≡ done * slotRoom) × OnPath p (now work) done ⌝ }
     ensures { λ r. ⌜ (r ≡ true → Repeated p (now (work .entry)) slot done) × (r ≡ false → ¬ Repeated p (now (work .entry)) slot done) ⌝ }
 {
     let n = extent(work, p, slot);
@@ -142,7 +143,7 @@ pub fn completes_after(
     left: usize,
     base: usize,
 ) -> usize
-    requires { ⌜ Underway (k .0) (e .0) base (now pack) (now places) p (now work) slot done (suc left) × (0 < k .0) × (k .0 ≤ 6) × Free slot (2 + left + k .0 * e .0) × (done + suc left ≤ length (now list)) × (slot ≡ done * 961) ⌝ }
+    requires { ⌜ Underway (k .0) (e .0) base (now pack) (now places) p (now work) slot done (suc left) × (0 < k .0) × (k .0 ≤ 6) × Free slot (2 + left + k .0 * e .0) × (done + suc left ≤ length (now list)) × (slot ≡ done * slotRoom) ⌝ }
     ensures { λ r. ⌜ Finds (k .0) (e .0) base (now (pack .entry)) (now (places .entry)) p slot done (suc left) (now (list .entry)) (now (list .exit)) (now (work .entry)) (now (work .exit)) r (λ th. Ends th (k .0) (e .0) base) ⌝ }
 {
     let actions = p.actions;
@@ -159,7 +160,7 @@ pub fn completes_after(
 
 // The author's utility in the state in a slot where it is above base, or 0.
 pub fn ends(pack: &[u8], places: &[u16], p: Shape, work: &[u8], slot: usize, base: usize) -> usize
-    requires { ⌜ Staged (now pack) (now places) p (now work) (slotTable p (now work) slot) (slot + 961) × Free slot 1 ⌝ }
+    requires { ⌜ Staged (now pack) (now places) p (now work) (slotTable p (now work) slot) (slot + slotRoom) × Free slot 1 ⌝ }
     ensures { λ r. ⌜ EndsHere base (now (pack .entry)) (now (places .entry)) p slot (now (work .entry)) r ⌝ }
 {
     let t = table_in(work, p, slot);
@@ -182,7 +183,7 @@ pub fn completes_by(
     left: usize,
     base: usize,
 ) -> usize
-    requires { ⌜ Underway (k .0) (e .0) base (now pack) (now places) p (now work) slot done (suc left) × (x < p .actions) × (0 < k .0) × (k .0 ≤ 6) × Free slot (2 + left + k .0 * e .0) × (done + suc left ≤ length (now list)) × (slot ≡ done * 961) ⌝ }
+    requires { ⌜ Underway (k .0) (e .0) base (now pack) (now places) p (now work) slot done (suc left) × (x < p .actions) × (0 < k .0) × (k .0 ≤ 6) × Free slot (2 + left + k .0 * e .0) × (done + suc left ≤ length (now list)) × (slot ≡ done * slotRoom) ⌝ }
     ensures { λ r. ⌜ Finds (k .0) (e .0) base (now (pack .entry)) (now (places .entry)) p slot done (suc left) (now (list .entry)) (now (list .exit)) (now (work .entry)) (now (work .exit)) r (λ th. EndsBy th (k .0) (e .0) base x) ⌝ }
 {
     let agreed = allowed(pack, places, p, work, slot, p.characters, x, k, e);

@@ -19,6 +19,7 @@ use Rattle.planner.specs.declared.memory.Shape.{Shape}
 use Rattle.planner.specs.Ending.{Explained}
 use Rattle.planner.specs.Inner.Lists.{slotTable}
 use Rattle.planner.specs.Inner.Memory.{InSlot, Memory}
+use Rattle.transition.specs.Contracts.Stage.{slotRoom, scratchAt}
 
 -- a theory, found in the pack, and a table before the first free slot
 pub record Stage (p : Theory) (T : List Node) (pack places : List ℕ) (h : Shape) (work : List ℕ) (t : Table) (slot : ℕ) : Type 0 where
@@ -29,7 +30,7 @@ pub record Stage (p : Theory) (T : List Node) (pack places : List ℕ) (h : Shap
   pub behind : t .rows + t .nodes * t .width ≤ slot
   pub room : workRoom ≤ length work
   pub slotted : InSlot work t slot
-  pub free : slot ≡ 961 * slotted .number + 961
+  pub free : slot ≡ slotRoom * slotted .number + slotRoom
 
 abbrev pub Staged : (pack places : List ℕ) (h : Shape) (work : List ℕ) (t : Table) (slot : ℕ) → Type 0
 Staged pack places h work t slot = (p : Theory) × ((T : List Node) × Stage p T pack places h work t slot)
@@ -40,7 +41,7 @@ Prepared foresight pack places h work t slot = (p : Theory) × ((T : List Node) 
 
 -- n slots from `slot` on lie before the scratch of a step
 abbrev pub Free : (slot n : ℕ) → Type 0
-Free slot n = slot + n * 961 ≤ 28832
+Free slot n = slot + n * slotRoom ≤ scratchAt
 
 -- the flag r says whether P holds; bytes before the free slots, and behind the memory, are as they were, and of what is in the memory M holds
 pub record Told (M : List ℕ → Type 0) (slot : ℕ) (was now : List ℕ) (r : Bool) (P : Type 0) : Type 0 where
@@ -53,8 +54,8 @@ pub record Told (M : List ℕ → Type 0) (slot : ℕ) (was now : List ℕ) (r :
 -- asked about the state in a slot, where what is known is true: the flag r says whether P holds of it
 abbrev pub Answers : (foresight : ℕ) (pack places : List ℕ) (h : Shape) (slot : ℕ) (work work′ : List ℕ) (r : Bool) (P : Theory → State → Type 0) → Type 0
 Answers foresight pack places h slot work work′ r P =
-    (th : Theory) (T : List Node) → Stage th T pack places h work (slotTable h work slot) (slot + 961) → Memory th foresight h (slot + 961) work
-    → Told (Memory th foresight h (slot + 961)) (slot + 961) work work′ r (P th (meaning (h .characters) T 0))
+    (th : Theory) (T : List Node) → Stage th T pack places h work (slotTable h work slot) (slot + slotRoom) → Memory th foresight h (slot + slotRoom) work
+    → Told (Memory th foresight h (slot + slotRoom)) (slot + slotRoom) work work′ r (P th (meaning (h .characters) T 0))
 
 -- an action and a row of the table
 abbrev pub Steppable : (pack places : List ℕ) (h : Shape) (a : ℕ) (work : List ℕ) (t : Table) (root slot : ℕ) → Type 0
@@ -67,13 +68,13 @@ pub record Advanced (p : Theory) (foresight : ℕ) (h : Shape) (z : State) (a : 
   pub low : table.Below was now slot
   pub high : table.Above was now workRoom
   pub memory : Memory p foresight h slot now
-  pub further : r ≡ 0 → Memory p foresight h (slot + 961) now
+  pub further : r ≡ 0 → Memory p foresight h (slot + slotRoom) now
 
 -- a step of what row `root` of the table in a slot means, into the slot behind it
 abbrev pub Advances : (pack places : List ℕ) (h : Shape) (a : ℕ) (slot root : ℕ) (work work′ : List ℕ) (r : ℕ) → Type 0
 Advances pack places h a slot root work work′ r =
-    (th : Theory) (T : List Node) (foresight : ℕ) → Stage th T pack places h work (slotTable h work slot) (slot + 961) → Memory th foresight h (slot + 961) work
-    → Advanced th foresight h (meaning (h .characters) T root) a (slotTable h work slot) work work′ (slot + 961) r
+    (th : Theory) (T : List Node) (foresight : ℕ) → Stage th T pack places h work (slotTable h work slot) (slot + slotRoom) → Memory th foresight h (slot + slotRoom) work
+    → Advanced th foresight h (meaning (h .characters) T root) a (slotTable h work slot) work work′ (slot + slotRoom) r
 
 -- an accepted pack and chart, and numbers of something there
 pub record Judging (th : Theory) (T : List Node) (pack places : List ℕ) (h : Shape) (chart : List ℕ) (nodes character action foresight nesting : ℕ) (work : List ℕ) : Type 0 where

@@ -19,6 +19,7 @@ use Rattle.transition.specs.Laws.Still.{writes, triggerWrites}
 use Rattle.transition.specs.Contracts.Play.{Theorized}
 use Rattle.planner.specs.declared.memory.Shape.{Shape}
 use Rattle.planner.specs.Inner.Lists.{slotTable}
+use Rattle.transition.specs.Contracts.Stage.{slotRoom, scratchAt}
 
 -- the fluents that action a or a trigger writes in the state itself
 abbrev pub movedBy : Theory → ℕ → ℕ → Bool
@@ -70,7 +71,7 @@ Hopeless pack places triggers a work t whose left base =
 
 -- every action may be tried in the state in a slot
 pub record Trying (pack places : List ℕ) (h : Shape) (work : List ℕ) (slot whose : ℕ) : Type 0 where
-  pub before : slot + 961 ≤ 28832
+  pub before : slot + slotRoom ≤ scratchAt
   pub room : workRoom ≤ length work
   pub narrow : h .fluents + h .characters ≤ 30
   pub each : (a : ℕ) → a < h .actions → Tryable pack places (h .triggers) a work (slotTable h work slot) whose

@@ -16,6 +16,7 @@ use Rattle.planner.specs.declared.memory.Shape.{Shape}
 use Rattle.planner.specs.declared.fact.Key.{Key}
 use Rattle.planner.specs.Ending.{Explained}
 use Rattle.planner.specs.Inner.Lists.{slotTable, Above, Ends}
+use Rattle.transition.specs.Contracts.Stage.{slotRoom, scratchAt}
 
 -- where it begins, with the name of the table in each slot; how many blocks of 12 bytes are taken; behind that are names found by a hash, of which nothing is asked; then steps, lists and tables
 abbrev pub memoryAt : ℕ
@@ -73,7 +74,7 @@ keyAt work a = record { who = getD work (a + 1) 0; nesting = getD work (a + 2) 0
 
 -- entries, each empty or true: the name of the table in slot i, a step at a, a fact at a with its name behind it
 abbrev pub SlotEntry : (h : Shape) (work : List ℕ) (i : ℕ) → Type 0
-SlotEntry h work i = 0 < getD work (memoryAt + i) 0 → Named h work (slotTable h work (961 * i)) (getD work (memoryAt + i) 0)
+SlotEntry h work i = 0 < getD work (memoryAt + i) 0 → Named h work (slotTable h work (slotRoom * i)) (getD work (memoryAt + i) 0)
 
 abbrev pub StepEntry : (p : Theory) (h : Shape) (work : List ℕ) (a : ℕ) → Type 0
 StepEntry p h work a = 0 < getD work a 0 → StepFact p h work (getD work a 0) (getD work (a + 1) 0) (getD work (a + 2) 0) (getD work (a + 3) 0)
@@ -84,7 +85,7 @@ FactEntry p foresight h work a = 0 < getD work (a + 6) 0 → Kept h work (getD w
 -- all are true; of slots, those before a place
 pub record Memory (p : Theory) (foresight : ℕ) (h : Shape) (limit : ℕ) (work : List ℕ) : Type 0 where
   pub narrow : h .fluents + h .characters ≤ 30
-  pub slots : (i : ℕ) → 961 * i + 961 ≤ limit → SlotEntry h work i
+  pub slots : (i : ℕ) → slotRoom * i + slotRoom ≤ limit → SlotEntry h work i
   pub steps : (i : ℕ) → i < 128 → StepEntry p h work (stepsAt + 4 * i)
   pub facts : (i : ℕ) → i < 256 → FactEntry p foresight h work (factsAt + 7 * i)
 
@@ -107,9 +108,9 @@ pub record Before (h : Shape) (work : List ℕ) (t : Table) : Type 0 where
 -- which is that of a slot before a place
 pub record InSlot (work : List ℕ) (t : Table) (limit : ℕ) : Type 0 where
   pub number : ℕ
-  pub rows : t .rows ≡ 961 * number + 1
-  pub counted : getD work (961 * number) 0 ≡ t .nodes
-  pub before : 961 * number + 961 ≤ limit
+  pub rows : t .rows ≡ slotRoom * number + 1
+  pub counted : getD work (slotRoom * number) 0 ≡ t .nodes
+  pub before : slotRoom * number + slotRoom ≤ limit
 
 -- only the memory changes
 pub record Only (was now : List ℕ) : Type 0 where
@@ -178,9 +179,9 @@ pub record Noted (h : Shape) (t : Table) (root action next : ℕ) (was now : Lis
 -- a slot, before the scratch of a step
 pub record Slot (h : Shape) (work : List ℕ) (slot : ℕ) : Type 0 where
   pub narrow : h .fluents + h .characters ≤ 30
-  pub before : slot + 961 ≤ 28832
+  pub before : slot + slotRoom ≤ scratchAt
   pub number : ℕ
-  pub is : slot ≡ 961 * number
+  pub is : slot ≡ slotRoom * number
   pub room : workRoom ≤ length work
 
 -- the table of a name stands in it, as after a step that plays
@@ -189,9 +190,9 @@ pub record Again (h : Shape) (next slot : ℕ) (was now : List ℕ) (r : ℕ) : 
   pub played : r ≡ 0 → (0 < next) × (table.tableOf (slotTable h now slot) now ≡ table.tableOf (keptTable h was next) was) × (getD now slot 0 ≤ 32)
   pub low : table.Below was now slot
   pub high : table.Above was now workRoom
-  pub memory : (p : Theory) (foresight : ℕ) → Memory p foresight h slot was → Memory p foresight h slot now × (r ≡ 0 → Memory p foresight h (slot + 961) now)
+  pub memory : (p : Theory) (foresight : ℕ) → Memory p foresight h slot was → Memory p foresight h slot now × (r ≡ 0 → Memory p foresight h (slot + slotRoom) now)
 
 -- what a step has left in it is known
 pub record LeftNoted (h : Shape) (t : Table) (root a slot : ℕ) (was now : List ℕ) : Type 0 where
   pub only : Only was now
-  pub memory : (p : Theory) (foresight : ℕ) → InSlot was t slot → Memory p foresight h slot was → ((s : State) × Plays p (table.stateOf t was root) a s × Starts (h .characters) s (table.tableOf (slotTable h was slot) was)) → Memory p foresight h (slot + 961) now
+  pub memory : (p : Theory) (foresight : ℕ) → InSlot was t slot → Memory p foresight h slot was → ((s : State) × Plays p (table.stateOf t was root) a s × Starts (h .characters) s (table.tableOf (slotTable h was slot) was)) → Memory p foresight h (slot + slotRoom) now

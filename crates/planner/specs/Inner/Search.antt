@@ -22,6 +22,7 @@ use Rattle.planner.specs.Inner.Lists.{slotTable, Ends}
 use Rattle.planner.specs.Inner.Memory.{memoryAt, tablesAt, Memory}
 use Rattle.planner.specs.Inner.Explain.{Stage}
 use Rattle.planner.specs.Ending.{authorUtility}
+use Rattle.transition.specs.Contracts.Stage.{slotRoom}
 
 -- a list put down from `done` on
 pub record Put (was now : List ℕ) (done : ℕ) (list : List ℕ) : Type 0 where
@@ -50,41 +51,41 @@ Dry Good n = (list : List ℕ) (v : ℕ) → length list < n → ¬ Good list v
 
 -- in the slots of the path, n before the last, stand written charts
 abbrev pub OnPath : (h : Shape) (work : List ℕ) (n : ℕ) → Type 0
-OnPath h work n = (i : ℕ) → i ≤ n → Written (h .characters) (tableOf (slotTable h work (i * 961)) work)
+OnPath h work n = (i : ℕ) → i ≤ n → Written (h .characters) (tableOf (slotTable h work (i * slotRoom)) work)
 
 -- the author's path: n states in the slots before s; from each of them, and from s, no list of fewer actions than are left to it is good;
 -- in each slot stands the written chart of its state, so that two are one exactly where no chain tells them apart
 pub record Trail (p : Theory) (foresight nesting base : ℕ) (h : Shape) (work : List ℕ) (n left : ℕ) (s : State) : Type 0 where
-  pub before : (i : ℕ) → i < n → Dry (Ends p foresight nesting base (stateOf (slotTable h work (i * 961)) work 0)) (left + (n - i))
+  pub before : (i : ℕ) → i < n → Dry (Ends p foresight nesting base (stateOf (slotTable h work (i * slotRoom)) work 0)) (left + (n - i))
   pub here : Dry (Ends p foresight nesting base s) left
   pub written : OnPath h work n
-  pub small : (i : ℕ) → i ≤ n → 1 + getD work (i * 961) 0 * (h .fluents + h .characters) ≤ 961
+  pub small : (i : ℕ) → i ≤ n → 1 + getD work (i * slotRoom) 0 * (h .fluents + h .characters) ≤ slotRoom
 
 -- a stage, a memory and a path
 abbrev pub Underway : (foresight nesting base : ℕ) (pack places : List ℕ) (h : Shape) (work : List ℕ) (slot n left : ℕ) → Type 0
 Underway K e base pack places h work slot n left =
-    (p : Theory) × ((T : List Node) × (Stage p T pack places h work (slotTable h work slot) (slot + 961) × Memory p K h (slot + 961) work × Trail p K e base h work n left (meaning (h .characters) T 0)))
+    (p : Theory) × ((T : List Node) × (Stage p T pack places h work (slotTable h work slot) (slot + slotRoom) × Memory p K h (slot + slotRoom) work × Trail p K e base h work n left (meaning (h .characters) T 0)))
 
 -- asked of the state in a slot, the last of the path, where what is known is true: r is the utility at the end of the earliest good list of `left` actions, which is put down
 abbrev pub Finds : (foresight nesting base : ℕ) (pack places : List ℕ) (h : Shape) (slot n left : ℕ) (was now work work′ : List ℕ) (r : ℕ) (Good : Theory → State → List ℕ → ℕ → Type 0) → Type 0
 Finds K e base pack places h slot n left was now work work′ r Good =
-    (th : Theory) (T : List Node) → Stage th T pack places h work (slotTable h work slot) (slot + 961) → Memory th K h (slot + 961) work
+    (th : Theory) (T : List Node) → Stage th T pack places h work (slotTable h work slot) (slot + slotRoom) → Memory th K h (slot + slotRoom) work
     → Trail th K e base h work n left (meaning (h .characters) T 0)
-    → Best (Memory th K h (slot + 961)) (Good th (meaning (h .characters) T 0)) left was now n (slot + 961) work work′ r
+    → Best (Memory th K h (slot + slotRoom)) (Good th (meaning (h .characters) T 0)) left was now n (slot + slotRoom) work work′ r
 
 -- the author's utility in the state in a slot where it is above base, or 0
 abbrev pub EndsHere : (base : ℕ) (pack places : List ℕ) (h : Shape) (slot : ℕ) (work : List ℕ) (r : ℕ) → Type 0
 EndsHere base pack places h slot work r =
-    (th : Theory) (T : List Node) → Stage th T pack places h work (slotTable h work slot) (slot + 961)
+    (th : Theory) (T : List Node) → Stage th T pack places h work (slotTable h work slot) (slot + slotRoom)
     → (base < authorUtility th (meaning (h .characters) T 0) → r ≡ authorUtility th (meaning (h .characters) T 0)) × (authorUtility th (meaning (h .characters) T 0) ≤ base → r ≡ 0)
 
 -- a stage with a written chart and a memory, and the author's utility there is at most base
 abbrev pub Outset : (foresight base : ℕ) (pack places : List ℕ) (h : Shape) (work : List ℕ) → Type 0
-Outset K base pack places h work = (p : Theory) × ((T : List Node) × (Stage p T pack places h work (slotTable h work 0) 961 × Memory p K h 961 work × Written (h .characters) T × (authorUtility p (meaning (h .characters) T 0) ≤ base)))
+Outset K base pack places h work = (p : Theory) × ((T : List Node) × (Stage p T pack places h work (slotTable h work 0) slotRoom × Memory p K h slotRoom work × Written (h .characters) T × (authorUtility p (meaning (h .characters) T 0) ≤ base)))
 
 -- the state in a slot is one of those before it
 abbrev pub Repeated : (h : Shape) (work : List ℕ) (slot n : ℕ) → Type 0
-Repeated h work slot n = (i : ℕ) × (i < n) × (stateOf (slotTable h work (i * 961)) work 0 ≡ stateOf (slotTable h work slot) work 0)
+Repeated h work slot n = (i : ℕ) × (i < n) × (stateOf (slotTable h work (i * slotRoom)) work 0 ≡ stateOf (slotTable h work slot) work 0)
 
 -- the shortest of the good lists of 1 to T actions, and of those the earliest, is put down; or its length is 0, there is none, and nothing is put down
 pub record Shortest (Good : List ℕ → ℕ → Type 0) (story : ℕ) (was now work work′ : List ℕ) (r : Ended) : Type 0 where
@@ -92,13 +93,13 @@ pub record Shortest (Good : List ℕ → ℕ → Type 0) (story : ℕ) (was now 
   pub some : 0 < r .count → (list : List ℕ) × Chosen Good (r .count) list (r .after) × Put was now 0 list
   pub within : r .count ≤ story
   pub shortest : (other : List ℕ) (v : ℕ) → 0 < length other → length other < r .count → ¬ Good other v
-  pub low : Below work work′ 961
+  pub low : Below work work′ slotRoom
   pub high : Above work work′ workRoom
 
 -- of the state in the first slot
 abbrev pub ShortestFrom : (story foresight nesting base : ℕ) (pack places : List ℕ) (h : Shape) (was now work work′ : List ℕ) (r : Ended) → Type 0
 ShortestFrom T K e base pack places h was now work work′ r =
-    (th : Theory) (table : List Node) → Stage th table pack places h work (slotTable h work 0) 961 → Memory th K h 961 work → Written (h .characters) table
+    (th : Theory) (table : List Node) → Stage th table pack places h work (slotTable h work 0) slotRoom → Memory th K h slotRoom work → Written (h .characters) table
     → authorUtility th (meaning (h .characters) table 0) ≤ base → Shortest (Ends th K e base (meaning (h .characters) table 0)) T was now work work′ r
 
 -- the nodes that are read from a place on, and room

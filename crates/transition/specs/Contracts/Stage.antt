@@ -12,16 +12,24 @@ use Rattle.pack.specs.State.{State}
 use Rattle.transition.specs.Happening.{change}
 use Rattle.transition.specs.Inner.Change.{Scene, at}
 
+-- where tables stand in the work buffer: in slots, each with room for the count of the largest table and its rows
+abbrev pub slotRoom : ℕ
+slotRoom = 961
+
+-- and behind the slots, while a stage is made
+abbrev pub scratchAt : ℕ
+scratchAt = 28832
+
 -- a table and a slot lie below the scratch
 pub record StageRoom (work : List ℕ) (t : Table) (slot : ℕ) : Type 0 where
-  pub source : t .rows + t .nodes * t .width ≤ 28832
-  pub slot-room : slot + 961 ≤ 28832
+  pub source : t .rows + t .nodes * t .width ≤ scratchAt
+  pub slot-room : slot + slotRoom ≤ scratchAt
   pub room : workRoom ≤ length work
 
 -- only the slot, and bytes from the scratch on, have changed
 pub record SlotOnly (was now : List ℕ) (slot : ℕ) : Type 0 where
   pub low : Below was now slot
-  pub mid : Between was now (slot + 961) 28832
+  pub mid : Between was now (slot + slotRoom) scratchAt
   pub high : Above was now 37680
 
 -- in the slot stands the written chart of z, r rows and their count; or z has more than 32 states

@@ -14,6 +14,7 @@ use Rattle.chart.specs.Chart.{Ordered}
 use Rattle.transition.specs.declared.change.Change.{Change}
 use Rattle.transition.specs.Contracts.Cause.{told, EffectsAt, Tabled}
 use Rattle.transition.specs.Inner.Change.{Scene, at}
+use Rattle.transition.specs.Contracts.Stage.{slotRoom, scratchAt}
 
 -- effects that are meant for nobody's beliefs
 abbrev pub Silent : List Effect → Type 0
@@ -46,7 +47,7 @@ pub record SlotTable (work : List ℕ) (t : Table) (slot : ℕ) : Type 0 where
   pub count : getD work slot 0 ≡ t .nodes
   pub rows : t .rows ≡ slot + 1
   pub ordered : Ordered (t .characters) (tableOf t work)
-  pub slot-room : slot + 961 ≤ 28832
+  pub slot-room : slot + slotRoom ≤ scratchAt
   pub room : workRoom ≤ length work
 
 -- everyone takes part in what happens in row 0
