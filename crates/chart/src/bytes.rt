@@ -1,4 +1,7 @@
 // Bytes of a lent buffer: cleared, and copied from one part to another.
+//
+// Start, Query, Compare and Search clear all of the work buffer (`clear`); Step and Explained write only the parts in
+// which a byte is not 0 (`sweep`). The buffer fills the nearest cache, and most of it is 0 since the call before.
 ghost use mathlib.Core.Path.{_≡_};
 ghost use mathlib.Core.Bool.{false};
 ghost use Prim.Native.Nat.{ℕ, _+_, _<_, _≤_};

@@ -1,8 +1,13 @@
 // The checks that the public calls share, in their order: pack, first chart, second chart, 8, 9. Each takes what the checks before it said; the first refusal stays.
+//
+// Each check takes what the checks before it said and passes a refusal on, so their order is the order of the lines.
+// One whose outcome no longer matters is still made; it reads only what is there.
 use pack::node::check_chart;
 use pack::number::Checked;
 use pack::number::Number;
 use pack::number::wide;
+use pack::refusal::RANGE;
+use pack::refusal::SHORT;
 ghost use mathlib.Core.Path.{_≡_};
 ghost use mathlib.Core.Bool.{_&&_};
 ghost use lib.ListN.{length};
@@ -57,10 +62,10 @@ pub fn check_lent(said: Number, enough: bool, in_range: bool) -> Number
                 if in_range {
                     Number::Is(v, n)
                 } else {
-                    Number::Refused(9, 0)
+                    Number::Refused(RANGE, 0)
                 }
             } else {
-                Number::Refused(8, 0)
+                Number::Refused(SHORT, 0)
             }
         }
     }

@@ -1,4 +1,7 @@
 // Pairs of rows met breadth first from one pair on, each once, until one is found whose rows have other values: the way back from there is the chain.
+//
+// Each pair is met once, with the entry that it was met from. The partition would not do here: it may need 62 levels
+// over 64 rows. That a chain has at most 62 characters is proved and not tested for.
 use crate::bytes::clear;
 use crate::values::first_other;
 use pack::number::wide;

@@ -1,4 +1,7 @@
 // The partition: rows that mean the same get one class. Classes of equal values come first (values.rt); here they are refined level by level.
+//
+// The old classes and the new ones are kept, a byte a row. Levels behind the first compare classes alone, from a row's
+// old class on.
 use crate::bytes::copy_part;
 use crate::values::value_level;
 use pack::number::wide;

@@ -1,4 +1,7 @@
 // Start: the chart of node 0. The nodes stand from the start of the work buffer on, count first.
+//
+// In the work buffer: the table from 0, the pass's numbers from 1,024, the rows reached from 1,100, classes from 2,100
+// to 2,400, merged rows to 3,360.
 use crate::Charted;
 use crate::bytes::clear;
 use crate::bytes::copy_part;

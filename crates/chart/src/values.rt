@@ -1,4 +1,7 @@
 // The first level of the partition: rows of equal values get one class, found by a mark of the values.
+//
+// A row is held against the classes of its mark only. There are 131 marks, since 2 is a primitive root of that prime,
+// so that no value is lost; nothing is proved of how they spread.
 use pack::number::wide;
 ghost use mathlib.Core.Path.{_≡_};
 ghost use Prim.Native.Nat.{_+_, _<_, _≤_};

@@ -52,4 +52,4 @@ printed (refuses number place) = refusal number place
 
 -- "reads a pack .., takes T 4, K 3, E 2": what Search replies to a pack where enough is lent (`Laws.Lent`)
 unfoldable pub endingReply : (pack : List ℕ) → Reply Plan
-endingReply pack = with (packOf pack) (λ p. answerReply (searchTable (p .theory) 3 4 2 (p .nodes)))
+endingReply pack = with (packOf pack) (λ p. answerReply (searchTable (p .theory) 4 3 2 (p .nodes)))

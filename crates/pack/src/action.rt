@@ -8,6 +8,7 @@ use crate::number::Checked;
 use crate::number::Number;
 use crate::number::read_between;
 use crate::places::ACTION;
+use crate::refusal::LIMIT;
 ghost use Prim.Native.Nat.{_+_, _≤_};
 ghost use lib.ListN.{length};
 ghost use Rattle.pack.specs.Contracts.Answer.{dims};
@@ -88,7 +89,7 @@ pub fn read_actions(
     requires { ⌜ (characters ≤ 6) × (327 ≤ length (now places)) × Within (now s) at ⌝ }
     ensures { λ r. ⌜ ActionsRead (dims characters (now (domains .entry))) (now (s .entry)) at (now (places .exit)) r ⌝ }
 {
-    match read_between(s, at, 0, 33, 3) {
+    match read_between(s, at, 0, 33, LIMIT) {
         Number::Refused(k, p) => Number::Refused(k, p),
         Number::Is(count, first) => {
             let mut i: usize = 0;

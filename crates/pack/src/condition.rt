@@ -5,6 +5,8 @@ use crate::number::read_between;
 use crate::number::read_kind;
 use crate::number::wide;
 use crate::plain::plain_test;
+use crate::refusal::ABSENT;
+use crate::refusal::LIMIT;
 ghost use mathlib.Core.Path.{_≡_};
 ghost use Rattle.pack.specs.Reading.{mapped, many};
 ghost use Rattle.pack.specs.Number.{item, counted};
@@ -19,7 +21,7 @@ pub fn check_chain(s: &[u8], at: usize, characters: usize, count: usize) -> Chec
     let mut n = at;
     let mut left = count;
     while 0 < left {
-        match read_between(s, n, 0, characters, 4) {
+        match read_between(s, n, 0, characters, ABSENT) {
             Number::Refused(k, p) => {
                 return Checked::Refused(k, p);
             }
@@ -36,9 +38,9 @@ pub fn check_chain(s: &[u8], at: usize, characters: usize, count: usize) -> Chec
 pub fn check_claim(s: &[u8], at: usize, domains: &[u8]) -> Checked
     ensures { λ r. ⌜ claimAt (now (domains .entry)) (now (s .entry)) at ≡ shown r ⌝ }
 {
-    match read_between(s, at, 0, domains.len(), 4) {
+    match read_between(s, at, 0, domains.len(), ABSENT) {
         Number::Refused(k, p) => Checked::Refused(k, p),
-        Number::Is(fluent, n) => match read_between(s, n, 0, wide(domains[fluent]), 4) {
+        Number::Is(fluent, n) => match read_between(s, n, 0, wide(domains[fluent]), ABSENT) {
             Number::Refused(k, p) => Checked::Refused(k, p),
             Number::Is(_, n) => Checked::Passed(n),
         },
@@ -49,7 +51,7 @@ pub fn check_claim(s: &[u8], at: usize, domains: &[u8]) -> Checked
 pub fn check_test(s: &[u8], at: usize, characters: usize, domains: &[u8]) -> Checked
     ensures { λ r. ⌜ mapped forget (testAt (dims characters (now (domains .entry))) (now (s .entry)) at) ≡ shown r ⌝ }
 {
-    match read_between(s, at, 0, 5, 3) {
+    match read_between(s, at, 0, 5, LIMIT) {
         Number::Refused(k, p) => Checked::Refused(k, p),
         Number::Is(count, n) => match check_chain(s, n, characters, count) {
             Checked::Refused(k, p) => Checked::Refused(k, p),
@@ -65,7 +67,7 @@ pub fn check_test(s: &[u8], at: usize, characters: usize, domains: &[u8]) -> Che
 pub fn check_alternative(s: &[u8], at: usize, characters: usize, domains: &[u8]) -> Checked
     ensures { λ r. ⌜ mapped forget (counted 0 9 (testAt (dims characters (now (domains .entry)))) (now (s .entry)) at) ≡ shown r ⌝ }
 {
-    match read_between(s, at, 0, 9, 3) {
+    match read_between(s, at, 0, 9, LIMIT) {
         Number::Refused(k, p) => Checked::Refused(k, p),
         Number::Is(count, first) => {
             let mut n = first;
@@ -96,7 +98,7 @@ pub fn check_alternative(s: &[u8], at: usize, characters: usize, domains: &[u8])
 pub fn check_condition(s: &[u8], at: usize, characters: usize, domains: &[u8]) -> Checked
     ensures { λ r. ⌜ mapped forget (conditionAt (dims characters (now (domains .entry))) (now (s .entry)) at) ≡ shown r ⌝ }
 {
-    match read_between(s, at, 0, 9, 3) {
+    match read_between(s, at, 0, 9, LIMIT) {
         Number::Refused(k, p) => Checked::Refused(k, p),
         Number::Is(count, first) => {
             let mut n = first;

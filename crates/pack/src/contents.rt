@@ -1,4 +1,7 @@
 // A whole pack: its head, its nodes, and what can happen and who wants what.
+//
+// Places are marked so that no condition is looked for by reading the pack again. Start, Query and Compare need none
+// and read by `read_contents`, of which nothing can see the places, so that the compiled code has none.
 use crate::head::Head;
 use crate::number::Checked;
 use crate::number::Number;
@@ -7,6 +10,8 @@ use crate::number::value_of;
 use crate::places::PLACES;
 use crate::reader;
 use crate::reader::Reader;
+use crate::refusal::AFTER;
+use crate::refusal::LIMIT;
 ghost use Prim.Native.Nat.{_≤_};
 ghost use lib.ListN.{length};
 ghost use mathlib.Core.Path.{_≡_};
@@ -98,7 +103,7 @@ pub fn read_parts(s: &[u8], places: &mut [u16]) -> Contents
     let r = reader::new(s, 0);
     let h = reader::head(r);
     let r = reader::after_head(r, h);
-    let count = reader::next(r, 1, 33, 3);
+    let count = reader::next(r, 1, 33, LIMIT);
     let r = reader::moved(r, count);
     let nodes = reader::rows(r, h, count);
     let r = reader::moved(r, nodes);
@@ -112,13 +117,13 @@ pub fn read_pack(s: &[u8], places: &mut [u16]) -> Contents
     ensures { λ r. ⌜ PackRead (now (s .entry)) (now (places .exit)) r ⌝ }
 {
     if 8192 < s.len() {
-        return refusal(3, 0);
+        return refusal(LIMIT, 0);
     }
     let r = read_parts(s, places);
     let answer = r.answer;
     match answer {
         Checked::Refused(_, _) => r,
-        Checked::Passed(n) => { if n == s.len() { r } else { refusal(7, n) } }
+        Checked::Passed(n) => { if n == s.len() { r } else { refusal(AFTER, n) } }
     }
 }
 

@@ -4,6 +4,8 @@ use crate::number::Checked;
 use crate::number::Number;
 use crate::number::read_between;
 use crate::number::read_rising;
+use crate::refusal::ABSENT;
+use crate::refusal::LIMIT;
 ghost use mathlib.Core.Path.{_≡_};
 ghost use Prim.Native.Nat.{_+_, _≤_};
 ghost use Rattle.pack.specs.Reading.{mapped};
@@ -16,7 +18,7 @@ pub fn check_effect(s: &[u8], at: usize, characters: usize, domains: &[u8]) -> C
     requires { ⌜ characters ≤ 6 ⌝ }
     ensures { λ r. ⌜ mapped forget (effectAt (dims characters (now (domains .entry))) (now (s .entry)) at) ≡ shown r ⌝ }
 {
-    match read_between(s, at, 0, characters + 1, 4) {
+    match read_between(s, at, 0, characters + 1, ABSENT) {
         Number::Refused(k, p) => Checked::Refused(k, p),
         Number::Is(_, n) => check_claim(s, n, domains),
     }
@@ -27,7 +29,7 @@ pub fn check_effects(s: &[u8], at: usize, characters: usize, domains: &[u8]) -> 
     requires { ⌜ characters ≤ 6 ⌝ }
     ensures { λ r. ⌜ mapped forget (effectsAt (dims characters (now (domains .entry))) (now (s .entry)) at) ≡ shown r ⌝ }
 {
-    match read_between(s, at, 0, 17, 3) {
+    match read_between(s, at, 0, 17, LIMIT) {
         Number::Refused(k, p) => Checked::Refused(k, p),
         Number::Is(count, first) => {
             let mut n = first;
@@ -52,7 +54,7 @@ pub fn check_effects(s: &[u8], at: usize, characters: usize, domains: &[u8]) -> 
 pub fn check_consenters(s: &[u8], at: usize, characters: usize, domains: &[u8]) -> Checked
     ensures { λ r. ⌜ mapped forget (consentersAt (dims characters (now (domains .entry))) (now (s .entry)) at) ≡ shown r ⌝ }
 {
-    match read_between(s, at, 0, 7, 3) {
+    match read_between(s, at, 0, 7, LIMIT) {
         Number::Refused(k, p) => Checked::Refused(k, p),
         Number::Is(count, first) => {
             let mut least: usize = 0;

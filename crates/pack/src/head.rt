@@ -2,6 +2,7 @@
 use crate::number::Checked;
 use crate::number::Number;
 use crate::number::read_between;
+use crate::refusal::LIMIT;
 ghost use mathlib.Core.Path.{_≡_};
 ghost use Prim.Native.Nat.{_≤_};
 ghost use Rattle.pack.specs.Contracts.Said.{answered};
@@ -29,11 +30,11 @@ pub fn unopened(k: u8, p: usize) -> Opening
 pub fn read_opening(s: &[u8], at: usize) -> Opening
     ensures { λ r. ⌜ openingAt (now (s .entry)) at ≡ answered (r .answer) (r .characters, r .fluents) ⌝ }
 {
-    match read_between(s, at, 1, 2, 3) {
+    match read_between(s, at, 1, 2, LIMIT) {
         Number::Refused(k, p) => unopened(k, p),
-        Number::Is(_, n) => match read_between(s, n, 1, 7, 3) {
+        Number::Is(_, n) => match read_between(s, n, 1, 7, LIMIT) {
             Number::Refused(k, p) => unopened(k, p),
-            Number::Is(characters, n) => match read_between(s, n, 1, 25, 3) {
+            Number::Is(characters, n) => match read_between(s, n, 1, 25, LIMIT) {
                 Number::Refused(k, p) => unopened(k, p),
                 Number::Is(fluents, n) => Opening {
                     answer: Checked::Passed(n),
@@ -61,7 +62,7 @@ pub fn read_domains(s: &[u8], at: usize, fluents: usize) -> Domains
     let mut n = at;
     let mut left = fluents;
     while 0 < left {
-        match read_between(s, n, 1, 129, 3) {
+        match read_between(s, n, 1, 129, LIMIT) {
             Number::Refused(k, p) => {
                 return Domains {
                     answer: Checked::Refused(k, p),

@@ -1,4 +1,7 @@
 // Conditions judged in place, over a state in a table. Every number of an accepted pack's conditions is one byte.
+//
+// Where the last alternative or rule fails, nothing is left to read, so the place after it is not looked for: most
+// conditions have one alternative, and most utilities one or two rules.
 use crate::number::Number;
 use crate::number::read_number;
 use crate::number::wide;

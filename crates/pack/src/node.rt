@@ -5,6 +5,10 @@ use crate::number::Number;
 use crate::number::read_belief;
 use crate::number::read_between;
 use crate::number::wide;
+use crate::refusal::ABSENT;
+use crate::refusal::CHART_AFTER;
+use crate::refusal::IN_CHART;
+use crate::refusal::LIMIT;
 ghost use mathlib.Core.Path.{_≡_};
 ghost use lib.ListN.{length};
 ghost use Prim.Native.Nat.{_+_, _≤_};
@@ -23,7 +27,7 @@ pub fn check_values(s: &[u8], at: usize, domains: &[u8]) -> Checked
     let mut n = at;
     let mut left = domains.len();
     while 0 < left {
-        match read_between(s, n, 0, wide(domains[f]), 4) {
+        match read_between(s, n, 0, wide(domains[f]), ABSENT) {
             Number::Refused(k, p) => {
                 return Checked::Refused(k, p);
             }
@@ -115,7 +119,7 @@ pub fn rows_after(s: &[u8], at: usize, h: Head, count: Number) -> Number
 pub fn check_nodes(s: &[u8], at: usize, characters: usize, domains: &[u8]) -> Number
     ensures { λ r. ⌜ mapped length (nodesAt (dims characters (now (domains .entry))) (now (s .entry)) at) ≡ said r ⌝ }
 {
-    match read_between(s, at, 1, 33, 3) {
+    match read_between(s, at, 1, 33, LIMIT) {
         Number::Refused(k, p) => Number::Refused(k, p),
         Number::Is(nodes, n) => match check_rows(s, n, characters, domains, nodes) {
             Checked::Refused(k, p) => Number::Refused(k, p),
@@ -129,12 +133,12 @@ pub fn check_chart(s: &[u8], characters: usize, domains: &[u8]) -> Number
     ensures { λ r. ⌜ told length (inChart (whole (nodesAt (dims characters (now (domains .entry)))) (now (s .entry)))) ≡ repliedCount r ⌝ }
 {
     match check_nodes(s, 0, characters, domains) {
-        Number::Refused(k, p) => Number::Refused(k + 20, p),
+        Number::Refused(k, p) => Number::Refused(k + IN_CHART, p),
         Number::Is(nodes, n) => {
             if n == s.len() {
                 Number::Is(nodes, n)
             } else {
-                Number::Refused(27, n)
+                Number::Refused(CHART_AFTER, n)
             }
         }
     }

@@ -1,4 +1,9 @@
 // Numbers, and numbers with their limits.
+use crate::refusal::ABSENT;
+use crate::refusal::BLANK;
+use crate::refusal::ENDS;
+use crate::refusal::FORM;
+use crate::refusal::ORDER;
 ghost use mathlib.Core.Path.{_≡_};
 ghost use Rattle.pack.specs.Number.{numberAt, between, item, beliefAt, risingAt};
 ghost use Rattle.pack.specs.Contracts.Said.{said, behind, valueOf};
@@ -27,31 +32,31 @@ pub fn read_number(s: &[u8], at: usize) -> Number
     ensures { λ r. ⌜ numberAt (now (s .entry)) at ≡ said r ⌝ }
 {
     if s.len() <= at {
-        return Number::Refused(1, s.len());
+        return Number::Refused(ENDS, s.len());
     }
     let a = s[at];
     if a < 128 {
         return Number::Is((a % 128) as usize, at + 1);
     }
     if s.len() <= at + 1 {
-        return Number::Refused(1, s.len());
+        return Number::Refused(ENDS, s.len());
     }
     let b = s[at + 1];
     if b == 0 {
-        return Number::Refused(2, at);
+        return Number::Refused(FORM, at);
     }
     if b < 128 {
         return Number::Is((a % 128) as usize + 128 * ((b % 128) as usize), at + 2);
     }
     if s.len() <= at + 2 {
-        return Number::Refused(1, s.len());
+        return Number::Refused(ENDS, s.len());
     }
     let d = s[at + 2];
     if d == 0 {
-        return Number::Refused(2, at);
+        return Number::Refused(FORM, at);
     }
     if 3 < d {
-        return Number::Refused(2, at);
+        return Number::Refused(FORM, at);
     }
     Number::Is(
         (a % 128) as usize + 128 * ((b % 128) as usize) + 16384 * ((d % 128) as usize),
@@ -106,7 +111,7 @@ pub fn read_kind(s: &[u8], at: usize) -> Number
         Number::Refused(k, p) => Number::Refused(k, p),
         Number::Is(v, n) => match v {
             0 | 1 | 2 => Number::Is(v, n),
-            3.. => Number::Refused(4, at),
+            3.. => Number::Refused(ABSENT, at),
         },
     }
 }
@@ -119,11 +124,11 @@ pub fn read_belief(s: &[u8], at: usize, nodes: usize) -> Number
         Number::Refused(k, p) => Number::Refused(k, p),
         Number::Is(v, n) => {
             if v == 0 {
-                Number::Refused(5, at)
+                Number::Refused(BLANK, at)
             } else if v <= nodes {
                 Number::Is(v - 1, n)
             } else {
-                Number::Refused(4, at)
+                Number::Refused(ABSENT, at)
             }
         }
     }
@@ -137,10 +142,10 @@ pub fn read_rising(s: &[u8], at: usize, characters: usize, least: usize) -> Numb
         Number::Refused(k, p) => Number::Refused(k, p),
         Number::Is(v, n) => {
             if characters <= v {
-                return Number::Refused(4, at);
+                return Number::Refused(ABSENT, at);
             }
             if v < least {
-                return Number::Refused(6, at);
+                return Number::Refused(ORDER, at);
             }
             Number::Is(v, n)
         }

@@ -7,6 +7,7 @@ use crate::number::Number;
 use crate::number::read_between;
 use crate::places::TRIGGER;
 use crate::places::TRIGGERS;
+use crate::refusal::LIMIT;
 ghost use Prim.Native.Nat.{_+_, _≤_};
 ghost use lib.ListN.{length};
 ghost use Rattle.pack.specs.Contracts.Answer.{dims};
@@ -45,7 +46,7 @@ pub fn read_triggers(
     requires { ⌜ (characters ≤ 6) × (327 ≤ length (now places)) × Within (now s) at ⌝ }
     ensures { λ r. ⌜ TriggersRead (dims characters (now (domains .entry))) (now (s .entry)) at (now (places .entry)) (now (places .exit)) r ⌝ }
 {
-    match read_between(s, at, 0, 17, 3) {
+    match read_between(s, at, 0, 17, LIMIT) {
         Number::Refused(k, p) => Number::Refused(k, p),
         Number::Is(count, first) => {
             let mut i: usize = 0;

@@ -6,6 +6,7 @@ use crate::number::Number;
 use crate::number::read_between;
 use crate::number::read_number;
 use crate::places::UTILITIES;
+use crate::refusal::LIMIT;
 ghost use Prim.Native.Nat.{_≤_};
 ghost use mathlib.Core.Path.{_≡_};
 ghost use lib.ListN.{length};
@@ -32,7 +33,7 @@ pub fn check_rule(s: &[u8], at: usize, characters: usize, domains: &[u8]) -> Che
 pub fn check_rules(s: &[u8], at: usize, characters: usize, domains: &[u8]) -> Checked
     ensures { λ r. ⌜ mapped forget (rulesAt (dims characters (now (domains .entry))) (now (s .entry)) at) ≡ shown r ⌝ }
 {
-    match read_between(s, at, 0, 9, 3) {
+    match read_between(s, at, 0, 9, LIMIT) {
         Number::Refused(k, p) => Checked::Refused(k, p),
         Number::Is(count, first) => {
             let mut n = first;

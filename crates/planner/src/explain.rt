@@ -1,4 +1,8 @@
 // Explanations: whether a character has a reason of their own for an action. A state is row 0 of the table in a slot of the work buffer; the slots behind it are free.
+//
+// In the slots stand the state asked about, one for each action of the author's list, and one for each action of each
+// explanation within it, at most 8 + 6 x 3 more. A belief is a row of the table that it is believed in and needs no
+// slot.
 use crate::fact::Key;
 use crate::fact::recall;
 use crate::fact::remember;

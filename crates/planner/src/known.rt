@@ -8,6 +8,7 @@ use crate::regions::NAMES;
 use crate::regions::STEPS;
 use chart::bytes::copy_part;
 use pack::number::wide;
+use pack::refusal::CONDITION;
 use pack::table::Table;
 use transition::regions::SLOT;
 use transition::step::step_slot;
@@ -74,7 +75,7 @@ pub fn again(work: &mut [u8], p: Shape, next: usize, slot: usize) -> u8
     ensures { λ r. ⌜ Again p next slot (now (work .entry)) (now (work .exit)) r ⌝ }
 {
     if next == 0 {
-        return 10;
+        return CONDITION;
     }
     let from = KEPT + 12 * next;
     let nodes = wide(work[from]);

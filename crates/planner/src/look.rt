@@ -1,4 +1,8 @@
 // A look before an action is tried: no step is made for one whose condition fails, nor for a last one after which no rule above some utility could hold. What effects may write, and what is believed, is left open.
+//
+// Pruning: a test about the state itself, on a fluent that neither the action nor any trigger writes there, keeps its
+// outcome through the step; any other is left open. Where no rule above the old utility could hold, nobody is asked
+// and no step is made. Only a "no" is promised anything.
 use crate::memory::Shape;
 use crate::memory::table_in;
 use pack::effects::Wanted;

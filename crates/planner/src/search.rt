@@ -1,4 +1,10 @@
 // Search: the list search of the author, shortest lists first, and the public call. A state is row 0 of the table in a slot of the work buffer; the slots behind it are free.
+//
+// A depth-limited search, deepened one action at a time. The memory is emptied in two parts, one before the nodes are
+// laid out and one after: each is below 2,048 bytes, up to which C's `memset` writes by plain stores. The list is
+// written on the way back from its end, so nothing is put down where there is none; `none` is a utility of 0, since
+// one above another is at least 1. Everybody is asked: the character left out is the number of characters, which no
+// consenter has.
 use crate::Found;
 use crate::explain::allowed;
 use crate::fact::Key;
@@ -32,6 +38,7 @@ use pack::number::Number;
 use pack::number::wide;
 use pack::places::PLACES;
 use pack::places::UTILITIES;
+use pack::refusal::NO_ENDING;
 use transition::regions::SLOT;
 ghost use mathlib.Core.Path.{_≡_};
 ghost use mathlib.Core.Bool.{true, false, _&&_};
@@ -276,7 +283,7 @@ pub fn search_nodes(
     let found = shortest(pack, places, p, work, list, s, k, e, base);
     clear(work, 0, WORK_ROOM);
     if found.count == 0 {
-        return Found::Refused(13, 0);
+        return Found::Refused(NO_ENDING, 0);
     }
     Found::Ending(found.count, base, found.after)
 }

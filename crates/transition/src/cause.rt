@@ -1,4 +1,6 @@
 // What takes effect where: effects at a place of the pack, none at a place behind its end, and who takes part.
+//
+// A place behind the pack's end (8,192) stands for no effects: every place that is marked lies before it.
 use pack::effects::Wanted;
 use pack::effects::some_effect;
 use pack::judge::holds;

@@ -1,5 +1,12 @@
 // The pass that makes a table of what happens in another. A row of the new table stands for one of three: a row that took part; what a character believes in a row that took
 // part and told it something; a row as it was. Each has a slot, seven a row of the old table, by which it is numbered when it is met.
+//
+// Seven slots for each row: one for each character that it tells something, one for having taken part, one as it was.
+// So 7 x 32 + 1 are enough and a number is one byte. The last slot is the root's where every character is told
+// something; else the root is numbered as any row that took part (`first_slot`).
+//
+// What a row is made of is told first (`made_of`), so that one call writes rows of all three kinds, and what is told
+// besides is one test.
 use crate::cause::takes;
 use crate::cause::tells;
 use crate::cause::write_told;

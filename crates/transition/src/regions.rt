@@ -1,4 +1,7 @@
 // Where tables stand in the work buffer: in slots from its start on, and behind them, while a stage of Step is made.
+//
+// A stage reads a table below its scratch, writes upwards, and copies the merged rows down into a slot. Nothing below
+// the slot and nothing between it and the scratch changes, so a search keeps its stack in the slots.
 
 // A slot has room for the count of the largest table and its rows.
 pub const SLOT: usize = 961;

@@ -3,6 +3,8 @@ use crate::change::Change;
 use crate::fire::fire_all;
 use crate::round::round;
 use pack::places::PLACES;
+use pack::refusal::ROUNDS;
+use pack::refusal::STATES;
 use pack::table::Table;
 ghost use Rattle.transition.specs.Contracts.Play.{Settleable, SettlesIn};
 
@@ -37,7 +39,7 @@ pub fn settle(
             return 0;
         }
         if rounds == 16 {
-            return 11;
+            return ROUNDS;
         }
         let everyone = Change {
             acted: 6,
@@ -47,7 +49,7 @@ pub fn settle(
         };
         nodes = round(pack, places, &effects, everyone, work, now, slot);
         if 32 < nodes {
-            return 12;
+            return STATES;
         }
         rounds += 1;
     }

@@ -1,8 +1,13 @@
 // An action, and the triggers after it, from slot to slot.
+//
+// The state that a step is given is not merged first: part 1 is made from any table, and what it leaves is merged
+// anyway.
 use crate::act::act;
 use crate::settle::settle;
 use pack::judge::holds;
 use pack::places::ACTION;
+use pack::refusal::CONDITION;
+use pack::refusal::STATES;
 use pack::table::Table;
 ghost use Rattle.transition.specs.Contracts.Play.{Playable, PlaysIn};
 
@@ -22,11 +27,11 @@ pub fn step_slot(
 {
     let may = holds(pack, places[ACTION * action] as usize, work, t, root);
     if !may {
-        return 10;
+        return CONDITION;
     }
     let nodes = act(pack, places, action, work, t, root, slot);
     if 32 < nodes {
-        return 12;
+        return STATES;
     }
     let left = Table {
         rows: slot + 1,

@@ -12,4 +12,4 @@ use Rattle.ending.specs.Text.{endingReply}
 pub enough-lent : (pack list work : List ℕ) → fits listRoom list ≡ true → fits workRoom work ≡ true → searchReply pack 4 3 2 list work ≡ endingReply pack
 unfolding searchReply call chartsOf endingReply
 enough-lent pack list work l w =
-    ap (λ (b : Bool). call pack [] b (λ p. true) (λ (p : Pack) (tables : List (List Node)). answerReply (searchTable (p .theory) 3 4 2 (p .nodes)))) (ap (λ (b : Bool). b && fits workRoom work) l ∙ w)
+    ap (λ (b : Bool). call pack [] b (λ p. true) (λ (p : Pack) (tables : List (List Node)). answerReply (searchTable (p .theory) 4 3 2 (p .nodes)))) (ap (λ (b : Bool). b && fits workRoom work) l ∙ w)
