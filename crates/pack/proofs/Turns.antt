@@ -3,10 +3,10 @@ use Prim.Native.Nat.{ℕ, _<_, _≤_}
 use mathlib.Core.Path.{_≡_, refl, sym, ap, _∙_, subst}
 use mathlib.Core.List.{List}
 use lib.ListN.{length}
-use Rattle.pack.specs.Syntax.{Pack, Theory}
+use Rattle.pack.specs.Syntax.{Pack}
 use Rattle.pack.specs.Reading.{Reading, done, refused, bind, mapped, many}
-use Rattle.pack.specs.Number.{between, counted}
-use Rattle.pack.specs.Grammar.{Dimensions, headAt, nodeAt, actionAt, triggerAt, rulesAt, theoryAt, packAt}
+use Rattle.pack.specs.Number.{between}
+use Rattle.pack.specs.Grammar.{Dimensions, headAt, nodeAt, theoryAt, packAt}
 use Rattle.pack.specs.Contracts.Said.{said, behind, valueOf, shown, answered, placeOf, forget, after}
 use Rattle.pack.specs.Contracts.Answer.{dims, dimsOf, behindHead, rowsAfter, DomainsAfter, HeadRead}
 use Rattle.pack.specs.Contracts.Places.{Within, Ready, Ends, ActionsRead, TriggersRead, UtilitiesRead}
@@ -17,7 +17,7 @@ use Rattle.pack.specs.declared.number.Checked.{Checked}
 use Rattle.pack.specs.declared.number.Checked.the-variants as checked
 use Rattle.pack.specs.declared.head.Head.{Head}
 use Rattle.pack.specs.declared.contents.Counts.{Counts}
-use Rattle.pack.specs.Laws.Reading.{mapped-mapped, never, unmapped}
+use Rattle.pack.specs.Laws.Reading.{mapped-mapped, never}
 use Rattle.pack.specs.Laws.Number.{between-within}
 use Rattle.pack.specs.Laws.Runs.{theory-forget}
 use Rattle.pack.specs.Laws.PartsFound.{no-value, theory-marked, body-forget, body-found, parts-forget, parts-body}

@@ -1,6 +1,6 @@
-// The pack reader: the bytes that were lent and a position in them. It hands out number after number and part after part,
-// and is moved behind each. Its functions are thin: each takes the reader apart, and one on the slice and the position
-// does the work.
+// The pack reader: the bytes that were lent and a position in them. It hands out number after number and part after
+// part, and is moved behind each. Its functions are thin: each takes the reader apart, and one on the slice and the
+// position does the work.
 use crate::action::actions_after;
 use crate::head::Head;
 use crate::head::domains_after;
@@ -50,7 +50,7 @@ pub fn moved<'a>(r: Reader<'a>, n: Number) -> Reader<'a>
     }
 }
 
-// The domain sizes, and with them the head. Each part from here on is told what came before it, and a refusal is handed on.
+// The domain sizes, and with them the head. Each part is told what came before it, and hands a refusal on.
 pub fn domains<'a>(r: Reader<'a>, version: Number, characters: Number, fluents: Number) -> Head
     requires { ⌜ (valueOf characters ≤ 6) × (valueOf fluents ≤ 24) ⌝ }
     ensures { λ h. ⌜ DomainsAfter (now (r .entry .src)) (r .entry .at) version characters fluents h ⌝ }
