@@ -1,14 +1,14 @@
 -- The parts of a pack in turn: where a reader stands behind each, and what all of them say together. Assumes nothing.
-use Prim.Native.Nat.{ℕ, _≤_}
+use Prim.Native.Nat.{ℕ, _<_, _≤_}
 use mathlib.Core.Path.{_≡_, refl, sym, ap, _∙_, subst}
 use mathlib.Core.List.{List}
 use lib.ListN.{length}
-use Rattle.pack.specs.Syntax.{Pack, Theory}
+use Rattle.pack.specs.Syntax.{Pack}
 use Rattle.pack.specs.Reading.{Reading, done, refused, bind, mapped, many}
-use Rattle.pack.specs.Number.{between, counted}
-use Rattle.pack.specs.Grammar.{Dimensions, headAt, nodeAt, actionAt, triggerAt, rulesAt, theoryAt, packAt}
-use Rattle.pack.specs.Contracts.Said.{said, behind, shown, answered, placeOf, forget, after}
-use Rattle.pack.specs.Contracts.Answer.{dimsOf, behindHead, rowsAfter, HeadRead}
+use Rattle.pack.specs.Number.{between}
+use Rattle.pack.specs.Grammar.{Dimensions, headAt, nodeAt, theoryAt, packAt}
+use Rattle.pack.specs.Contracts.Said.{said, behind, valueOf, shown, answered, placeOf, forget, after}
+use Rattle.pack.specs.Contracts.Answer.{dims, dimsOf, behindHead, rowsAfter, DomainsAfter, HeadRead}
 use Rattle.pack.specs.Contracts.Places.{Within, Ready, Ends, ActionsRead, TriggersRead, UtilitiesRead}
 use Rattle.pack.specs.Contracts.Contents.{countsOf, contentsOf, bodyAt, TheoryRead, PackFound, PartsRead}
 use Rattle.pack.specs.declared.number.Number.{Number}
@@ -17,7 +17,8 @@ use Rattle.pack.specs.declared.number.Checked.{Checked}
 use Rattle.pack.specs.declared.number.Checked.the-variants as checked
 use Rattle.pack.specs.declared.head.Head.{Head}
 use Rattle.pack.specs.declared.contents.Counts.{Counts}
-use Rattle.pack.specs.Laws.Reading.{mapped-mapped, never, unmapped}
+use Rattle.pack.specs.Laws.Reading.{mapped-mapped, never}
+use Rattle.pack.specs.Laws.Number.{between-within}
 use Rattle.pack.specs.Laws.Runs.{theory-forget}
 use Rattle.pack.specs.Laws.PartsFound.{no-value, theory-marked, body-forget, body-found, parts-forget, parts-body}
 use Rattle.pack.specs.Laws.Bounded.{count-within, head-within, rows-within, actions-within, triggers-within}
@@ -37,6 +38,25 @@ module _ (d : Dimensions) (s : List ℕ) (at : ℕ) (v n : ℕ) where
   rows-end (checked.Passed m) (Is k p) e = (k, rows-ends k (many (nodeAt d k) k s at) (done v n) e)
   rows-end (checked.Passed m) (Refused k p) e = never e
   rows-end (checked.Refused k p) count e = never e
+
+-- a number within its limit, or a refusal
+pub limited : (low limit : ℕ) (s : List ℕ) (at : ℕ) (n : Number) → 0 < limit → between low limit 3 s at ≡ said n → valueOf n < limit
+limited low limit s at (Is v n) some e = between-within low limit 3 s at v n e .1
+limited low limit s at (Refused k p) some e = some
+
+-- version, characters and fluents, each behind the one before it, and the domain sizes behind these
+head-reads : (s : List ℕ) (at : ℕ) (v c f : Number) (r : Reading Dimensions) → between 1 2 3 s at ≡ said v → between 1 7 3 s (behind v at) ≡ said c → between 1 25 3 s (behind c (behind v at)) ≡ said f
+    → bind (said v) (λ x n. bind (said c) (λ y n. bind (said f) (λ z n. mapped (dims y) (many (between 1 129 3) z s (behind f (behind c (behind v at))))))) ≡ r → headAt s at ≡ r
+unfolding headAt
+head-reads s at (Is v n) (Is c m) (Is f o) r ev ec ef e = rw (ev, ec, ef) e
+head-reads s at (Is v n) (Is c m) (Refused k p) r ev ec ef e = rw (ev, ec, ef) e
+head-reads s at (Is v n) (Refused k p) f r ev ec ef e = rw (ev, ec) e
+head-reads s at (Refused k p) c f r ev ec ef e = rw ev e
+
+pub head-turns : (s : List ℕ) (at : ℕ) (v c f : Number) (h : Head) → between 1 2 3 s at ≡ said v → between 1 7 3 s (behind v at) ≡ said c → between 1 25 3 s (behind c (behind v at)) ≡ said f
+    → DomainsAfter s (behind f (behind c (behind v at))) v c f h → HeadRead s at h
+head-turns s at v c f h ev ec ef e =
+    record { reads = head-reads s at v c f (answered (h .answer) (dimsOf h)) ev ec ef (e .reads); few = e .few; long = e .long; small = e .small }
 
 -- a reader that stands within the bytes stands within them behind what it hands out
 module _ (s : List ℕ) (at : ℕ) (w : Within s at) where

@@ -1,4 +1,5 @@
-// A whole pack: its head, its nodes, and what can happen and who wants what.
+// A whole pack: its head, its nodes, and what can happen and who wants what. One reader is moved from part to part; no
+// function that holds it branches: what came before is told to each part, and a refusal is handed on.
 //
 // Places are marked so that no condition is looked for by reading the pack again. Start, Query and Compare need none
 // and read by `read_contents`, of which nothing can see the places, so that the compiled code has none.
@@ -15,9 +16,23 @@ use crate::refusal::LIMIT;
 ghost use Prim.Native.Nat.{_≤_};
 ghost use lib.ListN.{length};
 ghost use mathlib.Core.Path.{_≡_};
+ghost use Rattle.pack.specs.Contracts.Answer.{HeadRead};
 ghost use Rattle.pack.specs.Contracts.Places.{Ready};
 ghost use Rattle.pack.specs.Contracts.Contents.{countsOf, TheoryAfter, contentsOf, PartsRead};
 ghost use Rattle.pack.specs.Contracts.Contents.{PackRead, ContentsRead, Refusal};
+
+// The head: version, characters and fluents, number after number, and then the domain sizes.
+pub fn read_head<'a>(r: Reader<'a>) -> Head
+    ensures { λ h. ⌜ HeadRead (now (r .entry .src)) (r .entry .at) h ⌝ }
+{
+    let version = reader::next(r, 1, 2, LIMIT);
+    let r = reader::moved(r, version);
+    let characters = reader::next(r, 1, 7, LIMIT);
+    let r = reader::moved(r, characters);
+    let fluents = reader::next(r, 1, 25, LIMIT);
+    let r = reader::moved(r, fluents);
+    reader::domains(r, version, characters, fluents)
+}
 
 // How many actions and triggers there are.
 pub struct Counts {
@@ -101,7 +116,7 @@ pub fn read_parts(s: &[u8], places: &mut [u16]) -> Contents
     ensures { λ r. ⌜ PartsRead (now (s .entry)) (now (places .exit)) r ⌝ }
 {
     let r = reader::new(s, 0);
-    let h = reader::head(r);
+    let h = read_head(r);
     let r = reader::after_head(r, h);
     let count = reader::next(r, 1, 33, LIMIT);
     let r = reader::moved(r, count);

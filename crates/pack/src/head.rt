@@ -5,46 +5,8 @@ use crate::number::read_between;
 use crate::refusal::LIMIT;
 ghost use mathlib.Core.Path.{_≡_};
 ghost use Prim.Native.Nat.{_≤_};
-ghost use Rattle.pack.specs.Contracts.Said.{answered};
-ghost use Rattle.pack.specs.Contracts.Answer.{openingAt, DomainsRead, HeadRead, behindHead};
-ghost use Rattle.pack.specs.declared.number.Checked.the-variants.{Refused};
-
-// What a head begins with: how many characters and fluents there are.
-pub struct Opening {
-    pub answer: Checked,
-    pub characters: usize,
-    pub fluents: usize,
-}
-
-pub fn unopened(k: u8, p: usize) -> Opening
-    ensures { λ r. ⌜ r .answer ≡ Refused k p ⌝ }
-{
-    Opening {
-        answer: Checked::Refused(k, p),
-        characters: 0,
-        fluents: 0,
-    }
-}
-
-// The version, and how many characters and fluents there are.
-pub fn read_opening(s: &[u8], at: usize) -> Opening
-    ensures { λ r. ⌜ openingAt (now (s .entry)) at ≡ answered (r .answer) (r .characters, r .fluents) ⌝ }
-{
-    match read_between(s, at, 1, 2, LIMIT) {
-        Number::Refused(k, p) => unopened(k, p),
-        Number::Is(_, n) => match read_between(s, n, 1, 7, LIMIT) {
-            Number::Refused(k, p) => unopened(k, p),
-            Number::Is(characters, n) => match read_between(s, n, 1, 25, LIMIT) {
-                Number::Refused(k, p) => unopened(k, p),
-                Number::Is(fluents, n) => Opening {
-                    answer: Checked::Passed(n),
-                    characters,
-                    fluents,
-                },
-            },
-        },
-    }
-}
+ghost use Rattle.pack.specs.Contracts.Said.{valueOf};
+ghost use Rattle.pack.specs.Contracts.Answer.{DomainsRead, NoHead, DomainsAfter, behindHead};
 
 // The domain sizes: as many of these as there are fluents.
 pub struct Domains {
@@ -90,30 +52,48 @@ pub struct Head {
     pub sizes: [u8; 24],
 }
 
-// The version, how many characters there are, and the domains.
-pub fn read_head(s: &[u8], at: usize) -> Head
-    ensures { λ r. ⌜ HeadRead (now (s .entry)) at r ⌝ }
+pub fn no_head(k: u8, p: usize) -> Head
+    ensures { λ h. ⌜ NoHead k p h ⌝ }
 {
-    let o = read_opening(s, at);
-    let answer = o.answer;
-    match answer {
-        Checked::Refused(k, p) => Head {
-            answer: Checked::Refused(k, p),
-            characters: 0,
-            fluents: 0,
-            sizes: [0u8; 24],
+    Head {
+        answer: Checked::Refused(k, p),
+        characters: 0,
+        fluents: 0,
+        sizes: [0u8; 24],
+    }
+}
+
+// The domain sizes, and with them the head, behind version, characters and fluents; the first refusal of these is handed
+// on.
+pub fn domains_after(
+    s: &[u8],
+    at: usize,
+    version: Number,
+    characters: Number,
+    fluents: Number,
+) -> Head
+    requires { ⌜ (valueOf characters ≤ 6) × (valueOf fluents ≤ 24) ⌝ }
+    ensures { λ h. ⌜ DomainsAfter (now (s .entry)) at version characters fluents h ⌝ }
+{
+    match version {
+        Number::Refused(k, p) => no_head(k, p),
+        Number::Is(_, _) => match characters {
+            Number::Refused(k, p) => no_head(k, p),
+            Number::Is(characters, _) => match fluents {
+                Number::Refused(k, p) => no_head(k, p),
+                Number::Is(fluents, _) => {
+                    let d = read_domains(s, at, fluents);
+                    let answer = d.answer;
+                    let sizes = d.sizes;
+                    Head {
+                        answer,
+                        characters,
+                        fluents,
+                        sizes,
+                    }
+                }
+            },
         },
-        Checked::Passed(n) => {
-            let d = read_domains(s, n, o.fluents);
-            let answer = d.answer;
-            let sizes = d.sizes;
-            Head {
-                answer,
-                characters: o.characters,
-                fluents: o.fluents,
-                sizes,
-            }
-        }
     }
 }
 

@@ -19,7 +19,7 @@ ghost use Rattle.pack.specs.Condition.{compares, allPass};
 ghost use Rattle.pack.specs.Contracts.Table.{stateOf};
 ghost use Rattle.pack.specs.Contracts.Judge.{alternativeAt, Small, Over, Readable, Judged};
 
-// A test's kind: 0 is, 1 is not, 2 at least. An accepted pack has no other; a test of a kind that isn't there never holds.
+// A test's kind: 0 is, 1 is not, 2 at least. An accepted pack has no other, and a test of another would never hold.
 pub fn compare(kind: u8, x: u8, value: u8) -> bool
     ensures { λ r. ⌜ (kind < 3 → r ≡ compares (kindOf kind) x value) × (3 ≤ kind → r ≡ false) ⌝ }
 {

@@ -1,10 +1,10 @@
-// The pack reader: the bytes that were lent and a position in them. It hands out number after number and part after part,
-// and is moved behind each. Its functions are thin: each takes the reader apart, and one on the slice and the position
-// does the work.
+// The pack reader: the bytes that were lent and a position in them. It hands out number after number and part after
+// part, and is moved behind each. Its functions are thin: each takes the reader apart, and one on the slice and the
+// position does the work.
 use crate::action::actions_after;
 use crate::head::Head;
+use crate::head::domains_after;
 use crate::head::head_end;
-use crate::head::read_head;
 use crate::node::rows_after;
 use crate::number::Checked;
 use crate::number::Number;
@@ -16,8 +16,8 @@ ghost use Prim.Native.Nat.{_≤_};
 ghost use lib.ListN.{length};
 ghost use mathlib.Core.Path.{_≡_};
 ghost use Rattle.pack.specs.Number.{between};
-ghost use Rattle.pack.specs.Contracts.Said.{said, behind};
-ghost use Rattle.pack.specs.Contracts.Answer.{HeadRead, behindHead, rowsAfter};
+ghost use Rattle.pack.specs.Contracts.Said.{said, behind, valueOf};
+ghost use Rattle.pack.specs.Contracts.Answer.{DomainsAfter, behindHead, rowsAfter};
 ghost use Rattle.pack.specs.Contracts.Places.{Ready, ActionsAfter, TriggersAfter, UtilitiesAfter};
 
 // The bytes, and the place of what comes next.
@@ -50,11 +50,12 @@ pub fn moved<'a>(r: Reader<'a>, n: Number) -> Reader<'a>
     }
 }
 
-// The head: version, characters, fluents and their domains.
-pub fn head<'a>(r: Reader<'a>) -> Head
-    ensures { λ h. ⌜ HeadRead (now (r .entry .src)) (r .entry .at) h ⌝ }
+// The domain sizes, and with them the head. Each part is told what came before it, and hands a refusal on.
+pub fn domains<'a>(r: Reader<'a>, version: Number, characters: Number, fluents: Number) -> Head
+    requires { ⌜ (valueOf characters ≤ 6) × (valueOf fluents ≤ 24) ⌝ }
+    ensures { λ h. ⌜ DomainsAfter (now (r .entry .src)) (r .entry .at) version characters fluents h ⌝ }
 {
-    read_head(r.src, r.at)
+    domains_after(r.src, r.at, version, characters, fluents)
 }
 
 // The reader behind the head.
@@ -67,7 +68,7 @@ pub fn after_head<'a>(r: Reader<'a>, h: Head) -> Reader<'a>
     }
 }
 
-// The nodes: how many there are. Each part from here on is told what came before it, and a refusal is handed on.
+// The nodes: how many there are.
 pub fn rows<'a>(r: Reader<'a>, h: Head, count: Number) -> Number
     requires { ⌜ (h .fluents ≤ 24) × (length (h .sizes) ≡ 24) ⌝ }
     ensures { λ n. ⌜ rowsAfter h (said count) (now (r .entry .src)) (r .entry .at) ≡ said n ⌝ }

@@ -18,7 +18,8 @@ use Rattle.pack.specs.declared.head.Head.{Head}
 abbrev pub Within : List ℕ → ℕ → Type 0
 Within s at = (at ≤ length s) × (length s ≤ 8192)
 
--- what the readers of actions, triggers and utilities ask: a head within its limits, room for places, a place in the bytes
+-- what the readers of actions, triggers and utilities ask: a head within its limits, room for places, and a place in
+-- the bytes
 abbrev pub Ready : List ℕ → ℕ → Head → (places : List ℕ) → Type 0
 Ready s at h places =
     (h .characters ≤ 6) × (h .fluents ≤ 24) × (length (h .sizes) ≡ 24) × (327 ≤ length places) × Within s at

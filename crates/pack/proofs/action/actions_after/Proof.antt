@@ -1,7 +1,7 @@
 -- The domains are the first of the sizes, and what came before is looked at first. Assumes nothing.
 use borrow.Author.Needs.{needs}
 use native.Mathlib.Omega.{arith}
-use mathlib.Core.Path.{sym, subst}
+use mathlib.Core.Path.{sym}
 use lib.Seq.{length-take-le}
 use Rattle.pack.proofs.action.actions_after.Statement.{statement}
 use Rattle.pack.proofs.action.actions_after.Tie as tie

@@ -29,7 +29,7 @@ use denote.Laws.{Is, shows}
 use denote.Plain.{uint-makes}
 use denote.Builtin.{u8, u16, usize}
 use denote.Ref.{RefT, NamedLft, now}
-use denote.Signature.{plain, namedLft}
+use denote.Signature.{plain}
 use denote.Slice.{sliceVal, ShrSlice, MutSlice, Room, finally, slice-vals, shr-slice-tells, mut-slice-tells, shr-slice-lawful, shr-slice-copy}
 use denote.Steps.{owned, peeks, facts, heard, nothing}
 use denote.Enum.Laws as EL
@@ -68,10 +68,10 @@ use Rattle.pack.proofs.reader.new as new
 use Rattle.pack.proofs.reader.new.Symbol as new-def
 use Rattle.pack.proofs.reader.new.Symbol.{name as #pack·reader·new}
 use Rattle.pack.proofs.reader.new.Met as new-thm
-use Rattle.pack.proofs.reader.head as begin
-use Rattle.pack.proofs.reader.head.Symbol as begin-def
-use Rattle.pack.proofs.reader.head.Symbol.{name as #pack·reader·head}
-use Rattle.pack.proofs.reader.head.Met as begin-thm
+use Rattle.pack.proofs.contents.read_head as begin
+use Rattle.pack.proofs.contents.read_head.Symbol as begin-def
+use Rattle.pack.proofs.contents.read_head.Symbol.{name as #pack·contents·read-head}
+use Rattle.pack.proofs.contents.read_head.Met as begin-thm
 use Rattle.pack.proofs.reader.after_head as aft
 use Rattle.pack.proofs.reader.after_head.Symbol as aft-def
 use Rattle.pack.proofs.reader.after_head.Symbol.{name as #pack·reader·after-head}
@@ -309,7 +309,7 @@ module _ {M : Type 1} (𝓤 : URA M) (H : Heap 𝓤) (A : Atoms 𝓤) (W : Given
       suffices ! _ (ends-at 𝓤 H A parts.ended stayed (parts.clauses 𝓤 H A mem run) W ((κs, (q, (q′, tt)), tt, a, at), tt) u r (tt, (zs, tt)) (tt, (l, tt))) $ says ! e $
       move ! (1 ∷ []) $ frame ! $ nothing ! $ move ! (3 ∷ 0 ∷ []) $ fjoin ! $ move ! (2 ∷ 0 ∷ []) $ fjoin ! $ frame ! $ done !
 
-  module _ (C : Calls 𝓤 H) (Λ : Loops 𝓤 H) (fm : FmC 𝓤 H (W .laws) C) (known-new : Triple 𝓤 (C #pack·reader·new) (New 𝓤 H A mem run)) (known-head : Triple 𝓤 (C #pack·reader·head) (Begin 𝓤 H A mem run)) (known-after : Triple 𝓤 (C #pack·reader·after-head) (After 𝓤 H A mem run)) (known-next : Triple 𝓤 (C #pack·reader·next) (Next 𝓤 H A mem run)) (known-moved : Triple 𝓤 (C #pack·reader·moved) (Moved 𝓤 H A mem run)) (known-rows : Triple 𝓤 (C #pack·reader·rows) (Rows 𝓤 H A mem run)) (known-theory : Triple 𝓤 (C #pack·contents·read-theory) (Theory 𝓤 H A mem run)) (known-together : Triple 𝓤 (C #pack·contents·together) (Together 𝓤 H A mem run)) where
+  module _ (C : Calls 𝓤 H) (Λ : Loops 𝓤 H) (fm : FmC 𝓤 H (W .laws) C) (known-new : Triple 𝓤 (C #pack·reader·new) (New 𝓤 H A mem run)) (known-head : Triple 𝓤 (C #pack·contents·read-head) (Begin 𝓤 H A mem run)) (known-after : Triple 𝓤 (C #pack·reader·after-head) (After 𝓤 H A mem run)) (known-next : Triple 𝓤 (C #pack·reader·next) (Next 𝓤 H A mem run)) (known-moved : Triple 𝓤 (C #pack·reader·moved) (Moved 𝓤 H A mem run)) (known-rows : Triple 𝓤 (C #pack·reader·rows) (Rows 𝓤 H A mem run)) (known-theory : Triple 𝓤 (C #pack·contents·read-theory) (Theory 𝓤 H A mem run)) (known-together : Triple 𝓤 (C #pack·contents·together) (Together 𝓤 H A mem run)) where
     walk : Is (ShrSlice (named 0) κ u8) s (m-s ∷ []) → Room u16 (length ys) → (327 ≤ length ys) × (length (now s) ≤ 8192)
         → ent 𝓤 (onEntry 𝓤 H A parts.signature κs (q, (q′, tt)) a at) (WpFn 𝓤 H C Λ code.function (m-s ∷ m-x ∷ []) Post)
     walk ok-s room asked =
@@ -327,7 +327,7 @@ module _ {M : Type 1} (𝓤 : URA M) (H : Heap 𝓤) (A : Atoms 𝓤) (W : Given
         rewrite ! 1 (λ (r : Reader). ‵ (Held r u₁)) (λ i. record { src = b₁ .0 i; at = b₁ .1 i }) refl $ move ! (1 ∷ []) $
         peeks ! B (Is B) (shows 𝓤 H A B) (rd 0) (u₁ ∷ []) (λ is₁.
         land ! (from ! (stop !)) (init ! 37 refl (kept (rd 0) u₁ is₁)) $
-        -- `head`: [what the reader owns; the bytes' token; what s owns; the places' token; what the places own; the locals]
+        -- `read_head`: [what the reader owns; the bytes' token; what s owns; the places' token; what the places own; the locals]
         assigns ! (of-opd ! (load ! (from ! (stop !)) (look ! 37 refl))) (from ! (stop !)) (init ! 21 refl (kept (rd 0) u₁ is₁)) $
         use1 W (‵ (Held (rd 0) u₁) ⊛ ‵ (Held (rd 0) u₁)) (twice (rd 0) u₁) $ split ! $ move ! (0 ∷ 2 ∷ []) $ use2 W (raw (Begin 𝓤 H A mem run .pre (to-head u₁))) (goes-head u₁) $
         calls-at ! fm (Begin 𝓤 H A mem run) known-head (to-head u₁) (and-then ! (load ! (from ! (stop !)) (look ! 21 refl)) (no-more !)) (λ w₁.
@@ -344,7 +344,7 @@ module _ {M : Type 1} (𝓤 : URA M) (H : Heap 𝓤) (A : Atoms 𝓤) (W : Given
         rewrite ! 1 (λ (r : Reader). ‵ (Held r u₂)) (λ i. record { src = b₂ .0 i; at = b₂ .1 i }) refl $ move ! (1 ∷ []) $
         peeks ! B (Is B) (shows 𝓤 H A B) (rd (behindHead h 0)) (u₂ ∷ []) (λ is₂.
         land ! (from ! (stop !)) (init ! 33 refl (kept (rd (behindHead h 0)) u₂ is₂)) $
-        -- `next`: as at `head`
+        -- `next`: as at `read_head`
         assigns ! (of-opd ! (load ! (from ! (stop !)) (look ! 33 refl))) (from ! (stop !)) (init ! 17 refl (kept (rd (behindHead h 0)) u₂ is₂)) $
         use1 W (‵ (Held (rd (behindHead h 0)) u₂) ⊛ ‵ (Held (rd (behindHead h 0)) u₂)) (twice (rd (behindHead h 0)) u₂) $ split ! $ move ! (0 ∷ 2 ∷ []) $ use2 W (raw (Next 𝓤 H A mem run .pre (to-next (behindHead h 0) u₂))) (goes-next (behindHead h 0) u₂) $
         calls-at ! fm (Next 𝓤 H A mem run) known-next (to-next (behindHead h 0) u₂) (and-then ! (load ! (from ! (stop !)) (look ! 17 refl)) (and-then ! (lit ! tt) (and-then ! (lit ! tt) (and-then ! (lit ! tt) (no-more !))))) (λ w₂.
@@ -361,7 +361,7 @@ module _ {M : Type 1} (𝓤 : URA M) (H : Heap 𝓤) (A : Atoms 𝓤) (W : Given
         rewrite ! 1 (λ (r : Reader). ‵ (Held r u₃)) (λ i. record { src = b₃ .0 i; at = b₃ .1 i }) refl $ move ! (1 ∷ []) $
         peeks ! B (Is B) (shows 𝓤 H A B) (rd (behind count (behindHead h 0))) (u₃ ∷ []) (λ is₃.
         land ! (from ! (stop !)) (init ! 29 refl (kept (rd (behind count (behindHead h 0))) u₃ is₃)) $
-        -- `rows`: as at `head`
+        -- `rows`: as at `read_head`
         assigns ! (of-opd ! (load ! (from ! (stop !)) (look ! 29 refl))) (from ! (stop !)) (init ! 13 refl (kept (rd (behind count (behindHead h 0))) u₃ is₃)) $
         use1 W (‵ (Held (rd (behind count (behindHead h 0))) u₃) ⊛ ‵ (Held (rd (behind count (behindHead h 0))) u₃)) (twice (rd (behind count (behindHead h 0))) u₃) $ split ! $ move ! (0 ∷ 2 ∷ []) $ use2 W (raw (Rows 𝓤 H A mem run .pre (to-rows (behind count (behindHead h 0)) u₃ h w₁ count w₂))) (goes-rows (behind count (behindHead h 0)) u₃ h w₁ count w₂ is-h is-count e₁) $
         calls-at ! fm (Rows 𝓤 H A mem run) known-rows (to-rows (behind count (behindHead h 0)) u₃ h w₁ count w₂) (and-then ! (load ! (from ! (stop !)) (look ! 13 refl)) (and-then ! (load ! (from ! (stop !)) (look ! 35 refl)) (and-then ! (load ! (from ! (stop !)) (look ! 31 refl)) (no-more !)))) (λ w₃.
@@ -404,7 +404,7 @@ module _ {M : Type 1} (𝓤 : URA M) (H : Heap 𝓤) (A : Atoms 𝓤) (W : Given
         keep ! (0 ∷ 1 ∷ 3 ∷ 2 ∷ []) $ by ! (exits r w (ws .1 .1 .1 .0) (found h count nodes c (ws .1 .1 .1 .0) r e₁ e₂ e₃ e₄ e) len)))))))))))))))))))))))))))))))))))))))))))))))))))))))))))
 
 module _ {M : Type 1} (𝓤 : URA M) (H : Heap 𝓤) (A : Atoms 𝓤) (W : Given 𝓤 H A) (mem : Memory → SProp 𝓤) (run : Routine → Fun 𝓤) where
-  parts-walks : (C : Calls 𝓤 H) (Λ : Loops 𝓤 H) → FmC 𝓤 H (W .laws) C → Triple 𝓤 (C #pack·reader·new) (New 𝓤 H A mem run) → Triple 𝓤 (C #pack·reader·head) (Begin 𝓤 H A mem run) → Triple 𝓤 (C #pack·reader·after-head) (After 𝓤 H A mem run) → Triple 𝓤 (C #pack·reader·next) (Next 𝓤 H A mem run) → Triple 𝓤 (C #pack·reader·moved) (Moved 𝓤 H A mem run) → Triple 𝓤 (C #pack·reader·rows) (Rows 𝓤 H A mem run) → Triple 𝓤 (C #pack·contents·read-theory) (Theory 𝓤 H A mem run) → Triple 𝓤 (C #pack·contents·together) (Together 𝓤 H A mem run)
+  parts-walks : (C : Calls 𝓤 H) (Λ : Loops 𝓤 H) → FmC 𝓤 H (W .laws) C → Triple 𝓤 (C #pack·reader·new) (New 𝓤 H A mem run) → Triple 𝓤 (C #pack·contents·read-head) (Begin 𝓤 H A mem run) → Triple 𝓤 (C #pack·reader·after-head) (After 𝓤 H A mem run) → Triple 𝓤 (C #pack·reader·next) (Next 𝓤 H A mem run) → Triple 𝓤 (C #pack·reader·moved) (Moved 𝓤 H A mem run) → Triple 𝓤 (C #pack·reader·rows) (Rows 𝓤 H A mem run) → Triple 𝓤 (C #pack·contents·read-theory) (Theory 𝓤 H A mem run) → Triple 𝓤 (C #pack·contents·together) (Together 𝓤 H A mem run)
       → Walks 𝓤 H A parts.ended stayed (WpFn 𝓤 H C Λ code.function) (parts.clauses 𝓤 H A mem run)
   parts-walks C Λ fm known-new known-head known-after known-next known-moved known-rows known-theory known-together = walked 𝓤 H A parts.ended stayed (parts.clauses 𝓤 H A mem run) (WpFn 𝓤 H C Λ code.function)
       (λ κs. (slice-vals, (slice-vals, tt))) (λ κs. (shr-slice-tells (named 0) (κs .0) u8, (mut-slice-tells (named 1) (κs .1 .0) u16, tt)))
@@ -413,7 +413,7 @@ module _ {M : Type 1} (𝓤 : URA M) (H : Heap 𝓤) (A : Atoms 𝓤) (W : Given
       walk 𝓤 H A W mem run (κs .0) (κs .1 .0) (qs .0) (qs .1 .0) (a .0) (places .ptr .0) (places .ptr .1) (places .name) (places .now) C Λ fm known-new known-head known-after known-next known-moved known-rows known-theory known-together (are .0) (are .1 .0 .0 .1) asked))
 
 parts-meets : {M : Type 1} (𝓤 : URA M) (H : Heap 𝓤) (A : Atoms 𝓤) (W : Given 𝓤 H A) (mem : Memory → SProp 𝓤) (run : Routine → Fun 𝓤) (𝓣 : Tables 𝓤 H)
-    → Triple 𝓤 (𝓣 .C #pack·reader·new) (New 𝓤 H A mem run) → Triple 𝓤 (𝓣 .C #pack·reader·head) (Begin 𝓤 H A mem run) → Triple 𝓤 (𝓣 .C #pack·reader·after-head) (After 𝓤 H A mem run) → Triple 𝓤 (𝓣 .C #pack·reader·next) (Next 𝓤 H A mem run) → Triple 𝓤 (𝓣 .C #pack·reader·moved) (Moved 𝓤 H A mem run) → Triple 𝓤 (𝓣 .C #pack·reader·rows) (Rows 𝓤 H A mem run) → Triple 𝓤 (𝓣 .C #pack·contents·read-theory) (Theory 𝓤 H A mem run) → Triple 𝓤 (𝓣 .C #pack·contents·together) (Together 𝓤 H A mem run)
+    → Triple 𝓤 (𝓣 .C #pack·reader·new) (New 𝓤 H A mem run) → Triple 𝓤 (𝓣 .C #pack·contents·read-head) (Begin 𝓤 H A mem run) → Triple 𝓤 (𝓣 .C #pack·reader·after-head) (After 𝓤 H A mem run) → Triple 𝓤 (𝓣 .C #pack·reader·next) (Next 𝓤 H A mem run) → Triple 𝓤 (𝓣 .C #pack·reader·moved) (Moved 𝓤 H A mem run) → Triple 𝓤 (𝓣 .C #pack·reader·rows) (Rows 𝓤 H A mem run) → Triple 𝓤 (𝓣 .C #pack·contents·read-theory) (Theory 𝓤 H A mem run) → Triple 𝓤 (𝓣 .C #pack·contents·together) (Together 𝓤 H A mem run)
     → Meets 𝓤 H A parts.signature (WpFn 𝓤 H (𝓣 .C) (𝓣 .Λ) code.function) (parts.spec 𝓤 H A mem run)
 parts-meets 𝓤 H A W mem run 𝓣 known-new known-head known-after known-next known-moved known-rows known-theory known-together =
     walk-meets 𝓤 H A parts.ended stayed W (goes-none-slice 𝓤 H A W 2 (0 ∷ []) tt (plain (λ _. u8)) yes, (goes-gave-slice 𝓤 H A W 2 1 tt (plain (λ _. u16)), tt))
@@ -427,7 +427,7 @@ read-parts-spec 𝓤 H 𝓜 𝓖 𝓡 =
     (tables 𝓤 H 𝓜 𝓡 code.env .C) (tables 𝓤 H 𝓜 𝓡 code.env .Λ) #pack·contents·read-parts code.function (code.unfolded 𝓤 H 𝓜 𝓡)
     (parts-meets 𝓤 H (𝓖 .A) (givenOf 𝓤 H 𝓜 𝓖) (𝓜 .mem) (𝓡 .run) (tablesOf 𝓤 H 𝓜 (tables 𝓤 H 𝓜 𝓡 code.env))
     (cited 𝓤 H (New 𝓤 H (𝓖 .A) (𝓜 .mem) (𝓡 .run)) 𝓜 𝓡 code.env #pack·reader·new new-def.routine code.calls-pack·reader·new (new-thm.met 𝓤 H 𝓜 𝓖 𝓡))
-    (cited 𝓤 H (Begin 𝓤 H (𝓖 .A) (𝓜 .mem) (𝓡 .run)) 𝓜 𝓡 code.env #pack·reader·head begin-def.routine code.calls-pack·reader·head (begin-thm.met 𝓤 H 𝓜 𝓖 𝓡))
+    (cited 𝓤 H (Begin 𝓤 H (𝓖 .A) (𝓜 .mem) (𝓡 .run)) 𝓜 𝓡 code.env #pack·contents·read-head begin-def.routine code.calls-pack·contents·read-head (begin-thm.met 𝓤 H 𝓜 𝓖 𝓡))
     (cited 𝓤 H (After 𝓤 H (𝓖 .A) (𝓜 .mem) (𝓡 .run)) 𝓜 𝓡 code.env #pack·reader·after-head aft-def.routine code.calls-pack·reader·after-head (aft-thm.met 𝓤 H 𝓜 𝓖 𝓡))
     (cited 𝓤 H (Next 𝓤 H (𝓖 .A) (𝓜 .mem) (𝓡 .run)) 𝓜 𝓡 code.env #pack·reader·next next-def.routine code.calls-pack·reader·next (next-thm.met 𝓤 H 𝓜 𝓖 𝓡))
     (cited 𝓤 H (Moved 𝓤 H (𝓖 .A) (𝓜 .mem) (𝓡 .run)) 𝓜 𝓡 code.env #pack·reader·moved mov-def.routine code.calls-pack·reader·moved (mov-thm.met 𝓤 H 𝓜 𝓖 𝓡))
