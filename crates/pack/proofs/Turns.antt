@@ -9,8 +9,8 @@ use Rattle.pack.specs.Number.{between}
 use Rattle.pack.specs.Grammar.{Dimensions, headAt, nodeAt, theoryAt, packAt}
 use Rattle.pack.specs.Contracts.Said.{said, behind, valueOf, shown, answered, placeOf, forget, after}
 use Rattle.pack.specs.Contracts.Answer.{dims, dimsOf, behindHead, rowsAfter, DomainsAfter, HeadRead}
-use Rattle.pack.specs.Contracts.Places.{Within, Ready, Ends, ActionsRead, TriggersRead, UtilitiesRead}
-use Rattle.pack.specs.Contracts.Contents.{countsOf, contentsOf, bodyAt, TheoryRead, PackFound, PartsRead}
+use Rattle.pack.specs.Contracts.Places.{Within, Ready, Ends, ActionsRead, ActionsAfter, TriggersAfter, UtilitiesAfter}
+use Rattle.pack.specs.Contracts.Contents.{countsOf, contentsOf, bodyAt, TheoryRead, TheoryAfter, PackFound, PartsRead}
 use Rattle.pack.specs.declared.number.Number.{Number}
 use Rattle.pack.specs.declared.number.Number.the-variants.{Is, Refused}
 use Rattle.pack.specs.declared.number.Checked.{Checked}
@@ -75,35 +75,37 @@ module _ (s : List ℕ) (at : ℕ) (w : Within s at) where
   behind-rows h count (Is v n) e = let (k, ends) = rows-end (dimsOf h) s at v n (h .answer) count e in rows-within s at w n (dimsOf h) k ends
   behind-rows h count (Refused k p) e = w
 
-  pub behind-actions : (d : Dimensions) (places : List ℕ) (before n : Number) → after before Refused n (ActionsRead d s at places n) → Within s (behind n at)
-  behind-actions d places (Is v m) (Is k n) e = actions-within s at w n d k (e .answer)
-  behind-actions d places (Is v m) (Refused k p) e = w
-  behind-actions d places (Refused k p) n e = subst (λ (n : Number). Within s (behind n at)) (sym e) w
+  pub behind-actions : (h : Head) (places : List ℕ) (before n : Number) → ActionsAfter h before s at places n → Within s (behind n at)
+  behind-actions h places (Is v m) (Is k n) e = actions-within s at w n (dimsOf h) k (e .answer)
+  behind-actions h places (Is v m) (Refused k p) e = w
+  behind-actions h places (Refused k p) n e = subst (λ (n : Number). Within s (behind n at)) (sym e) w
 
-  pub behind-triggers : (d : Dimensions) (was places : List ℕ) (before n : Number) → after before Refused n (TriggersRead d s at was places n) → Within s (behind n at)
-  behind-triggers d was places (Is v m) (Is k n) e = triggers-within s at w n d k (e .answer)
-  behind-triggers d was places (Is v m) (Refused k p) e = w
-  behind-triggers d was places (Refused k p) n e = subst (λ (n : Number). Within s (behind n at)) (sym e) w
+  pub behind-triggers : (h : Head) (was places : List ℕ) (before n : Number) → TriggersAfter h before s at was places n → Within s (behind n at)
+  behind-triggers h was places (Is v m) (Is k n) e = triggers-within s at w n (dimsOf h) k (e .answer)
+  behind-triggers h was places (Is v m) (Refused k p) e = w
+  behind-triggers h was places (Refused k p) n e = subst (λ (n : Number). Within s (behind n at)) (sym e) w
 
 -- what a part asks holds behind the part before it too: that one keeps how many places there are
 pub ready-behind : (s : List ℕ) (at behind : ℕ) (h : Head) (was places : List ℕ) → Ready s at h was → length places ≡ length was → Within s behind → Ready s behind h places
 ready-behind s at behind h was places r l w = (r .0, r .1, r .2, subst (λ (n : ℕ). 327 ≤ n) (sym l) (r .3), w)
 
 -- the actions, the triggers and the utilities, each behind the one before it
-module _ (d : Dimensions) (few : d .characters ≤ 6) (s : List ℕ) (at : ℕ) (p1 p2 p3 : List ℕ) (u : Checked) where
+module _ (h : Head) (few : h .characters ≤ 6) (s : List ℕ) (at : ℕ) (p1 p2 p3 : List ℕ) (u : Checked) where
+  abbrev d : Dimensions
+  d = dimsOf h
+
   theory-refused : (a t : Number) (k p : ℕ) → mapped forget (theoryAt d s at) ≡ refused k p → u ≡ checked.Refused k p → TheoryRead d s at p3 (countsOf a t u)
   theory-refused a t k p e last = record { answer = e ∙ ap shown (sym last); found = λ x n f. no-value (theoryAt d s at) k p x n e f }
 
-  theory-read : (a t : Number) → ActionsRead d s at p1 a → after a Refused t (TriggersRead d s (behind a at) p1 p2 t)
-      → after t checked.Refused u (UtilitiesRead d s (behind t (behind a at)) p2 p3 u) → TheoryRead d s at p3 (countsOf a t u)
+  theory-read : (a t : Number) → ActionsRead d s at p1 a → TriggersAfter h a s (behind a at) p1 p2 t → UtilitiesAfter h t s (behind t (behind a at)) p2 p3 u → TheoryRead d s at p3 (countsOf a t u)
   theory-read (Is ka na) (Is kt nt) ea et eu =
       let whole : mapped forget (theoryAt d s at) ≡ shown u = rw (theory-forget, ea .answer, et .answer, eu .answer) in
       record { answer = whole; found = theory-marked d s at p1 p2 p3 ka na kt nt (Is ka na) (Is kt nt) u few ea refl et refl eu whole }
   theory-read (Is ka na) (Refused k p) ea et eu = theory-refused (Is ka na) (Refused k p) k p (rw (theory-forget, ea .answer, et .answer)) eu
   theory-read (Refused k p) t ea et eu = theory-refused (Refused k p) t k p (rw (theory-forget, ea .answer)) (handed t k p checked.Refused u _ et eu)
 
-  pub theory-turns : (before a t : Number) → after before Refused a (ActionsRead d s at p1 a) → after a Refused t (TriggersRead d s (behind a at) p1 p2 t)
-      → after t checked.Refused u (UtilitiesRead d s (behind t (behind a at)) p2 p3 u) → after before checked.Refused u (TheoryRead d s at p3 (countsOf a t u))
+  pub theory-turns : (before a t : Number) → ActionsAfter h before s at p1 a → TriggersAfter h a s (behind a at) p1 p2 t → UtilitiesAfter h t s (behind t (behind a at)) p2 p3 u
+      → TheoryAfter h before s at p3 (countsOf a t u)
   theory-turns (Is v n) a t ea et eu = theory-read a t ea et eu
   theory-turns (Refused k p) a t ea et eu = handed t k p checked.Refused u _ (handed a k p Refused t _ ea et) eu
 
@@ -117,7 +119,7 @@ module _ (s places : List ℕ) (h : Head) (few : h .fluents ≤ 24) (long : leng
 
   parts-read : (a : Checked) (count n : Number) → headAt s 0 ≡ answered a (dimsOf h) → between 1 33 3 s (placeOf a 0) ≡ said count
       → bind (shown a) (λ read m. bind (said count) (λ k m. mapped (λ nodes. k) (many (nodeAt (dimsOf h) k) k s (behind count (placeOf a 0))))) ≡ said n
-      → after n checked.Refused (c .answer) (TheoryRead (dimsOf h) s (behind n (behind count (placeOf a 0))) places c) → Parts count
+      → TheoryAfter h n s (behind n (behind count (placeOf a 0))) places c → Parts count
   parts-read (checked.Passed m) (Is k first) (Is v n) eh ec er et =
       let rows = rows-ends k (many (nodeAt (dimsOf h) k) k s first) (done v n) er in (
         rw (parts-forget, eh, body-forget, ec, rows, et .answer),
@@ -138,7 +140,7 @@ module _ (s places : List ℕ) (h : Head) (few : h .fluents ≤ 24) (long : leng
 
 pub parts-turns : (s places : List ℕ) (h : Head) (count n : Number) (c : Counts) → HeadRead s 0 h → between 1 33 3 s (behindHead h 0) ≡ said count
     → rowsAfter h (said count) s (behind count (behindHead h 0)) ≡ said n
-    → after n checked.Refused (c .answer) (TheoryRead (dimsOf h) s (behind n (behind count (behindHead h 0))) places c) → PartsRead s places (contentsOf h count c)
+    → TheoryAfter h n s (behind n (behind count (behindHead h 0))) places c → PartsRead s places (contentsOf h count c)
 parts-turns s places h count n c eh ec er et =
     let both = parts-read s places h (eh .few) (eh .long) c (h .answer) count n (eh .reads) ec er et in
     record { answer = both .0; found = both .1; few = eh .few; long = eh .long }

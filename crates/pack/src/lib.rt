@@ -12,7 +12,7 @@ pub mod node; // nodes, as a pack or a chart has them, and a whole chart
 pub mod number; // numbers, and numbers with their limits
 pub mod places; // where the places of its parts stand among those that are marked
 pub mod plain; // tests with one byte a number, passed over at once
-pub mod reader; // a reader that holds the bytes and a position, and hands out number after number
+pub mod reader; // a reader that holds the bytes and a position, and hands out numbers and parts
 pub mod refusal; // the numbers of refusals
 pub mod table; // a table of states in a buffer, and where a chain leads
 pub mod test; // a test taken apart where it stands

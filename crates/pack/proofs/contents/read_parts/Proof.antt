@@ -43,14 +43,13 @@ use denote.Triple.Walked.{says, needs, Stays, stay-none-slice, gave-slice, walkO
 use denote.Exit.{yes}
 use denote.Triple.Clauses.{ensured, lasts}
 use Rattle.pack.specs.Number.{between}
-use Rattle.pack.specs.Contracts.Said.{said, behind, after}
-use Rattle.pack.specs.Contracts.Answer.{dimsOf, behindHead, rowsAfter, HeadRead}
+use Rattle.pack.specs.Contracts.Said.{said, behind}
+use Rattle.pack.specs.Contracts.Answer.{behindHead, rowsAfter, HeadRead}
 use Rattle.pack.specs.Contracts.Places.{Ready}
-use Rattle.pack.specs.Contracts.Contents.{contentsOf, TheoryRead, PartsRead}
+use Rattle.pack.specs.Contracts.Contents.{contentsOf, TheoryAfter, PartsRead}
 use Rattle.pack.specs.declared.reader.Reader.{Reader}
 use Rattle.pack.specs.declared.head.Head.{Head}
 use Rattle.pack.specs.declared.number.Number.{Number}
-use Rattle.pack.specs.declared.number.Checked.the-variants.{Refused}
 use Rattle.pack.specs.declared.contents.Counts.{Counts}
 use Rattle.pack.specs.declared.contents.Contents.{Contents}
 use Rattle.pack.proofs.Turns.{behind-head, behind-number, behind-rows, parts-turns}
@@ -193,7 +192,7 @@ module _ {M : Type 1} (𝓤 : URA M) (H : Heap 𝓤) (A : Atoms 𝓤) (W : Given
   Rowed p h count t = rowsAfter h (said count) (now s) p ≡ said t
 
   abbrev Rest : ℕ → Head → Number → List ℕ → Counts → Type 0
-  Rest p h nodes zs c = after nodes Refused (c .answer) (TheoryRead (dimsOf h) (now s) p zs c)
+  Rest p h nodes zs c = TheoryAfter h nodes (now s) p zs c
 
   -- what `read_theory` asks
   ready : (327 ≤ length ys) × (length (now s) ≤ 8192) → (h : Head) (count nodes : Number) → HeadRead (now s) 0 h → Hands (behindHead h 0) count → Rowed (behind count (behindHead h 0)) h count nodes

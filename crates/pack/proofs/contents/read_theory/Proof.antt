@@ -42,16 +42,13 @@ use denote.Triple.Table.{entered, cited}
 use denote.Triple.Walked.{says, needs, Stays, stay-none, gave-slice, walkOf, goes-none, goes-gave-slice, Walks, ends-at, walked, walk-meets}
 use denote.Exit.{yes}
 use denote.Triple.Clauses.{ensured, lasts}
-use Rattle.pack.specs.Contracts.Said.{behind, after}
-use Rattle.pack.specs.Contracts.Answer.{dimsOf}
-use Rattle.pack.specs.Contracts.Places.{Ready, ActionsRead, TriggersRead, UtilitiesRead}
-use Rattle.pack.specs.Contracts.Contents.{countsOf, TheoryRead}
+use Rattle.pack.specs.Contracts.Said.{behind}
+use Rattle.pack.specs.Contracts.Places.{Ready, ActionsAfter, TriggersAfter, UtilitiesAfter}
+use Rattle.pack.specs.Contracts.Contents.{countsOf, TheoryAfter}
 use Rattle.pack.specs.declared.reader.Reader.{Reader}
 use Rattle.pack.specs.declared.head.Head.{Head}
 use Rattle.pack.specs.declared.number.Number.{Number}
-use Rattle.pack.specs.declared.number.Number.the-variants.{Refused}
 use Rattle.pack.specs.declared.number.Checked.{Checked}
-use Rattle.pack.specs.declared.number.Checked.the-variants as checked
 use Rattle.pack.specs.declared.contents.Counts.{Counts}
 use Rattle.pack.proofs.Again.{LentAgain, lends-on, comes-on}
 use Rattle.pack.proofs.Turns.{ready-behind, behind-actions, behind-triggers, theory-turns}
@@ -173,32 +170,32 @@ module _ {M : Type 1} (𝓤 : URA M) (H : Heap 𝓤) (A : Atoms 𝓤) (W : Given
 
   -- what the answers tell, each with the places at its end
   abbrev ActionsFound : Reader → Number → List ℕ → Number → Type 0
-  ActionsFound r t zs k = after t Refused k (ActionsRead (dimsOf h) (now (r .src)) (r .at) zs k)
+  ActionsFound r t zs k = ActionsAfter h t (now (r .src)) (r .at) zs k
 
   abbrev TriggersFound : Reader → Number → List ℕ → List ℕ → Number → Type 0
-  TriggersFound r t was zs l = after t Refused l (TriggersRead (dimsOf h) (now (r .src)) (r .at) was zs l)
+  TriggersFound r t was zs l = TriggersAfter h t (now (r .src)) (r .at) was zs l
 
   abbrev UtilitiesFound : Reader → Number → List ℕ → List ℕ → Checked → Type 0
-  UtilitiesFound r t was zs u = after t checked.Refused u (UtilitiesRead (dimsOf h) (now (r .src)) (r .at) was zs u)
+  UtilitiesFound r t was zs u = UtilitiesAfter h t (now (r .src)) (r .at) was zs u
 
   abbrev Found : Counts → List ℕ → Type 0
-  Found c zs = after n checked.Refused (c .answer) (TheoryRead (dimsOf h) (now (d .src)) (d .at) zs c)
+  Found c zs = TheoryAfter h n (now (d .src)) (d .at) zs c
 
   -- what `triggers` and `utilities` ask
   ready-k : Ready (now (d .src)) (d .at) h ys → (k : Number) (zs : List ℕ) → length zs ≡ length ys → ActionsFound d n zs k → Ready (now (d .src)) (on k d .at) h zs
-  ready-k ready k zs len e = ready-behind (now (d .src)) (d .at) (on k d .at) h ys zs ready len (behind-actions (now (d .src)) (d .at) (ready .4) (dimsOf h) zs n k e)
+  ready-k ready k zs len e = ready-behind (now (d .src)) (d .at) (on k d .at) h ys zs ready len (behind-actions (now (d .src)) (d .at) (ready .4) h zs n k e)
 
   ready-l : Ready (now (d .src)) (d .at) h ys → (k l : Number) (was zs : List ℕ) → length was ≡ length ys → ActionsFound d n was k → length zs ≡ length was → TriggersFound (on k d) k was zs l
       → Ready (now (d .src)) (on l (on k d) .at) h zs
   ready-l ready k l was zs len e len′ e′ =
       let before = ready-k ready k was len e in
-      ready-behind (now (d .src)) (on k d .at) (on l (on k d) .at) h was zs before len′ (behind-triggers (now (d .src)) (on k d .at) (before .4) (dimsOf h) was zs k l e′)
+      ready-behind (now (d .src)) (on k d .at) (on l (on k d) .at) h was zs before len′ (behind-triggers (now (d .src)) (on k d .at) (before .4) h was zs k l e′)
 
   -- the three in turn
   found : Ready (now (d .src)) (d .at) h ys → (k l : Number) (u : Checked) (p₁ p₂ p₃ : List ℕ) (c : Counts)
       → ActionsFound d n p₁ k → TriggersFound (on k d) k p₁ p₂ l → UtilitiesFound (on l (on k d)) l p₂ p₃ u → c ≡ countsOf k l u → Found c p₃
   found ready k l u p₁ p₂ p₃ c e₁ e₂ e₃ e =
-      subst (λ (c : Counts). Found c p₃) (sym e) (theory-turns (dimsOf h) (ready .0) (now (d .src)) (d .at) p₁ p₂ p₃ u n k l e₁ e₂ e₃)
+      subst (λ (c : Counts). Found c p₃) (sym e) (theory-turns h (ready .0) (now (d .src)) (d .at) p₁ p₂ p₃ u n k l e₁ e₂ e₃)
 
   abbrev Post : Val → SProp 𝓤
   Post = walkOf 𝓤 H A theory.ended stayed (theory.clauses 𝓤 H A mem run) .post ((κs, (q, (q′, tt)), tt, a, at), tt)

@@ -43,10 +43,7 @@ use denote.Triple.Table.{entered, cited}
 use denote.Triple.Walked.{says, needs, Stays, stay-none, gave-slice, walkOf, goes-none, goes-gave-slice, Walks, ends-at, walked, walk-meets}
 use denote.Exit.{yes}
 use denote.Triple.Clauses.{ensured, lasts}
-use Rattle.pack.specs.Contracts.Said.{after}
-use Rattle.pack.specs.Contracts.Answer.{dimsOf}
-use Rattle.pack.specs.Contracts.Places.{Ready, TriggersRead}
-use Rattle.pack.specs.declared.number.Number.the-variants.{Refused}
+use Rattle.pack.specs.Contracts.Places.{Ready, TriggersAfter}
 use Rattle.pack.specs.declared.reader.Reader.{Reader}
 use Rattle.pack.specs.declared.head.Head.{Head}
 use Rattle.pack.specs.declared.number.Number.{Number}
@@ -103,7 +100,7 @@ module _ {M : Type 1} (𝓤 : URA M) (H : Heap 𝓤) (A : Atoms 𝓤) (W : Given
 
   -- what is known of the answer, where the places are zs at the end
   abbrev Found : Number → List ℕ → Type 0
-  Found r zs = after n Refused r (TriggersRead (dimsOf h) (now (d .src)) (d .at) ys zs r)
+  Found r zs = TriggersAfter h n (now (d .src)) (d .at) ys zs r
 
   abbrev Arg : Type 0
   Arg = Reader × (Head × (Number × (RefT (List ℕ) × Unit {0})))
