@@ -1,10 +1,12 @@
 // The merged table: a row for each class of rows that mean the same.
 use crate::bytes::copy_part;
 use pack::number::wide;
+use pack::table::Table;
 ghost use Prim.Native.Nat.{ℕ, _+_, _<_, _≤_};
 ghost use lib.ListN.{length, getD};
 ghost use Rattle.chart.specs.Contracts.Numbers.{Sound};
 ghost use Rattle.chart.specs.Contracts.Classed.{Mapped, RowPut, ClassPut, Room, Classed, WrittenOut};
+ghost use Rattle.chart.specs.Contracts.OfTable.{ofTable, ofRows};
 
 // Writes the classes of the c rows that stand from `from` on, from `to` on.
 pub fn map_part(work: &mut [u8], from: usize, to: usize, k: usize, n: usize, c: usize)
@@ -30,47 +32,38 @@ pub fn put_row(work: &mut [u8], from: usize, to: usize, k: usize, n: usize, f: u
     map_part(work, from + f, to + f, k, n, c)
 }
 
-// Writes row i if its class is new, where `count` classes have been; how many have been then.
-pub fn write_class(
-    work: &mut [u8],
-    n: usize,
-    w: usize,
-    f: usize,
-    c: usize,
-    t: usize,
-    k: usize,
-    u: usize,
-    i: usize,
-    count: usize,
-) -> usize
-    requires { ⌜ Room (now work) n w f c t k u × Sound (now work) n w f c t × (i < n) × (count < n) ⌝ }
-    ensures { λ r. ⌜ ClassPut (now (work .entry)) (now (work .exit)) w f c t k u i count r ⌝ }
+// Writes row i of a table if its class is new, where `count` classes have been; how many have been then.
+pub fn write_class(work: &mut [u8], t: Table, k: usize, u: usize, i: usize, count: usize) -> usize
+    requires { ⌜ ofTable (Room (now work)) t k u ⌝ }
+    requires { ⌜ ofTable (Sound (now work)) t ⌝ }
+    requires { ⌜ (i < t .nodes) × (count < t .nodes) ⌝ }
+    ensures { λ r. ⌜ ofRows (ClassPut (now (work .entry)) (now (work .exit))) t k u i count r ⌝ }
 {
     if wide(work[k + i]) < count {
         return count;
     }
-    put_row(work, t + i * w, u + count * w, k, n, f, c);
+    put_row(
+        work,
+        t.rows + i * t.width,
+        u + count * t.width,
+        k,
+        t.nodes,
+        t.fluents,
+        t.characters,
+    );
     count + 1
 }
 
-// Writes the merged table of the n rows from t on, whose classes stand from k on, from u on; how many rows that is.
-pub fn write_merged(
-    work: &mut [u8],
-    n: usize,
-    w: usize,
-    f: usize,
-    c: usize,
-    t: usize,
-    k: usize,
-    u: usize,
-) -> usize
-    requires { ⌜ Room (now work) n w f c t k u × Classed (now work) n w f c t k ⌝ }
-    ensures { λ r. ⌜ WrittenOut (now (work .entry)) (now (work .exit)) n w f c t u r ⌝ }
+// Writes the merged table of a table, the classes of whose rows stand from k on, from u on; how many rows that is.
+pub fn write_merged(work: &mut [u8], t: Table, k: usize, u: usize) -> usize
+    requires { ⌜ ofTable (Room (now work)) t k u ⌝ }
+    requires { ⌜ ofTable (Classed (now work)) t k ⌝ }
+    ensures { λ r. ⌜ ofTable (WrittenOut (now (work .entry)) (now (work .exit))) t u r ⌝ }
 {
     let mut count = 0;
     let mut i = 0;
-    while i < n {
-        count = write_class(work, n, w, f, c, t, k, u, i, count);
+    while i < t.nodes {
+        count = write_class(work, t, k, u, i, count);
         i += 1;
     }
     count

@@ -5,55 +5,35 @@ use crate::numbering::more;
 use crate::numbering::name_beliefs;
 use crate::numbering::number_of;
 use pack::number::wide;
-ghost use Prim.Native.Nat.{_+_, _*_, _<_};
-ghost use lib.ListN.{getD};
-ghost use Rattle.pack.specs.Contracts.Table.{cells};
-ghost use Rattle.chart.specs.Contracts.Numbers.{Numbering, RowFilled, Laid, Sound, Copied, keyAt};
+use pack::table::Table;
+ghost use Prim.Native.Nat.{_<_};
+ghost use Rattle.chart.specs.Contracts.Numbers.{Numbering, RowCopied, Laid, Sound, Copied};
+ghost use Rattle.chart.specs.Contracts.OfTable.{ofTable};
 
-// Fills row i: the values and the beliefs of the source row that number i was given to.
-pub fn fill_row(
-    work: &mut [u8],
-    n: usize,
-    w: usize,
-    f: usize,
-    c: usize,
-    s: usize,
-    m: usize,
-    t: usize,
-    i: usize,
-    count: usize,
-) -> usize
-    requires { ⌜ Laid (now work) n w f c s m t × Sound (now work) n w f c s ⌝ }
-    requires { ⌜ Numbering (now work) m n count × (i < count) ⌝ }
-    ensures { λ r. ⌜ RowFilled (now (work .entry)) (now (work .exit)) m n count r (t + i * w) w f c (cells (now (work .entry)) (s + keyAt (now (work .entry)) m n i * w) f) (λ d. getD (now (work .entry)) (s + keyAt (now (work .entry)) m n i * w + f + d) 0) ⌝ }
+// Fills row i, of the rows from t on: the values and the beliefs of the row of the table s that number i was given to.
+pub fn fill_row(work: &mut [u8], s: Table, m: usize, t: usize, i: usize, count: usize) -> usize
+    requires { ⌜ ofTable (Laid (now work)) s m t × ofTable (Sound (now work)) s ⌝ }
+    requires { ⌜ Numbering (now work) m (s .nodes) count × (i < count) ⌝ }
+    ensures { λ r. ⌜ ofTable (RowCopied (now (work .entry)) (now (work .exit))) s m t i count r ⌝ }
 {
-    let x = wide(work[m + n + i]);
-    let from = s + x * w;
-    let to = t + i * w;
-    copy_part(work, from, to, f + c);
-    name_beliefs(work, m, n, to + f, c, count)
+    let x = wide(work[m + s.nodes + i]);
+    let from = s.rows + x * s.width;
+    let to = t + i * s.width;
+    copy_part(work, from, to, s.fluents + s.characters);
+    name_beliefs(work, m, s.nodes, to + s.fluents, s.characters, count)
 }
 
-// Copies what can be reached from row 0 of the n rows from s on to t, in the order met breadth first; how many rows that is.
-pub fn copy_reachable(
-    work: &mut [u8],
-    n: usize,
-    w: usize,
-    f: usize,
-    c: usize,
-    s: usize,
-    m: usize,
-    t: usize,
-) -> usize
-    requires { ⌜ Laid (now work) n w f c s m t × Sound (now work) n w f c s × (0 < n) ⌝ }
-    ensures { λ r. ⌜ Copied (now (work .entry)) (now (work .exit)) n w f c s m t r ⌝ }
+// Copies what can be reached from row 0 of the table s to t, in the order met breadth first; how many rows that is.
+pub fn copy_reachable(work: &mut [u8], s: Table, m: usize, t: usize) -> usize
+    requires { ⌜ ofTable (Laid (now work)) s m t × ofTable (Sound (now work)) s × (0 < s .nodes) ⌝ }
+    ensures { λ r. ⌜ ofTable (Copied (now (work .entry)) (now (work .exit))) s m t r ⌝ }
 {
-    clear(work, m, n);
-    let root = number_of(work, m, n, 0, 0);
+    clear(work, m, s.nodes);
+    let root = number_of(work, m, s.nodes, 0, 0);
     let mut count = more(0, root);
     let mut i = 0;
     while i < count {
-        count = fill_row(work, n, w, f, c, s, m, t, i, count);
+        count = fill_row(work, s, m, t, i, count);
         i += 1;
     }
     count

@@ -13,9 +13,11 @@ use crate::call::unless_refused;
 use crate::merge::write_merged;
 use crate::out::write_chart;
 use crate::partition::partition;
+use crate::values::Regions;
 use pack::contents::read_contents;
 use pack::copy::copy_table;
 use pack::number::Number;
+use pack::table::Table;
 ghost use Rattle.chart.specs.Promises.{Started};
 ghost use Rattle.chart.specs.Contracts.Start.{Mergeable, Merged, Startable, StartPut};
 
@@ -34,18 +36,38 @@ const FIRSTS: usize = 2300;
 // The rows, one of each class.
 pub const MERGED: usize = 2400;
 
-// Writes the written chart of what row 0 means of the n rows from 1 on, as a table from `MERGED` on; how many rows that is.
+// Writes the written chart of what row 0 means of the n rows from 1 on, as a table from `MERGED` on; how many rows that
+// is.
 pub fn merge_table(work: &mut [u8], n: usize, w: usize, f: usize, c: usize) -> usize
     requires { ⌜ Mergeable (now work) n w f c ⌝ }
     ensures { λ r. ⌜ Merged (now (work .entry)) (now (work .exit)) n w f c r ⌝ }
 {
-    let reached = crate::pass::copy_reachable(work, n, w, f, c, 1, NUMBERS, REACHED);
-    let classes = partition(work, reached, w, f, c, REACHED, LEVEL, CLASSES, FIRSTS, 32);
+    let s = Table {
+        rows: 1,
+        nodes: n,
+        fluents: f,
+        characters: c,
+        width: w,
+    };
+    let reached = crate::pass::copy_reachable(work, s, NUMBERS, REACHED);
+    let t = Table {
+        rows: REACHED,
+        nodes: reached,
+        fluents: f,
+        characters: c,
+        width: w,
+    };
+    let regions = Regions {
+        level: LEVEL,
+        classes: CLASSES,
+        firsts: FIRSTS,
+    };
+    let classes = partition(work, t, regions, 32);
     if reached <= classes {
         copy_part(work, REACHED, MERGED, reached * w);
         return reached;
     }
-    write_merged(work, reached, w, f, c, REACHED, CLASSES, MERGED)
+    write_merged(work, t, CLASSES, MERGED)
 }
 
 // Writes the chart of what node 0 means of the nodes that are read from `first` on; its length. The work buffer is cleared.

@@ -9,6 +9,7 @@ use crate::stage::put_down;
 use crate::stage::stage;
 use chart::merge::write_merged;
 use chart::partition::partition;
+use chart::values::Regions;
 use pack::effects::Wanted;
 use pack::effects::some_effect;
 use pack::table::Table;
@@ -76,31 +77,16 @@ pub fn merge_slot(work: &mut [u8], t: Table, slot: usize) -> usize
     requires { ⌜ SlotTable (now work) t slot ⌝ }
     ensures { λ r. ⌜ Acted (stateOf t (now (work .entry)) 0) t (now (work .entry)) (now (work .exit)) slot r ⌝ }
 {
-    let classes = partition(
-        work,
-        t.nodes,
-        t.width,
-        t.fluents,
-        t.characters,
-        t.rows,
-        LEVEL,
-        CLASSES,
-        FIRSTS,
-        32,
-    );
+    let regions = Regions {
+        level: LEVEL,
+        classes: CLASSES,
+        firsts: FIRSTS,
+    };
+    let classes = partition(work, t, regions, 32);
     if t.nodes <= classes {
         return t.nodes;
     }
-    let count = write_merged(
-        work,
-        t.nodes,
-        t.width,
-        t.fluents,
-        t.characters,
-        t.rows,
-        CLASSES,
-        MERGED,
-    );
+    let count = write_merged(work, t, CLASSES, MERGED);
     put_down(work, MERGED, count, t.width, slot);
     count
 }

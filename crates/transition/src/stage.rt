@@ -10,6 +10,7 @@ use crate::regions::NUMBERS;
 use chart::bytes::copy_part;
 use chart::merge::write_merged;
 use chart::partition::partition;
+use chart::values::Regions;
 use pack::table::Table;
 ghost use Prim.Native.Nat.{_+_, _*_, _≤_};
 ghost use lib.ListN.{length, set};
@@ -44,18 +45,19 @@ pub fn stage(
         put_down(work, MADE, 1, t.width, slot);
         return 1;
     }
-    let classes = partition(
-        work,
-        rows,
-        t.width,
-        t.fluents,
-        t.characters,
-        MADE,
-        LEVEL,
-        CLASSES,
-        FIRSTS,
-        32,
-    );
+    let made = Table {
+        rows: MADE,
+        nodes: rows,
+        fluents: t.fluents,
+        characters: t.characters,
+        width: t.width,
+    };
+    let regions = Regions {
+        level: LEVEL,
+        classes: CLASSES,
+        firsts: FIRSTS,
+    };
+    let classes = partition(work, made, regions, 32);
     if 32 < classes {
         return classes;
     }
@@ -63,16 +65,7 @@ pub fn stage(
         put_down(work, MADE, rows, t.width, slot);
         return rows;
     }
-    let count = write_merged(
-        work,
-        rows,
-        t.width,
-        t.fluents,
-        t.characters,
-        MADE,
-        CLASSES,
-        MERGED,
-    );
+    let count = write_merged(work, made, CLASSES, MERGED);
     put_down(work, MERGED, count, t.width, slot);
     count
 }

@@ -54,6 +54,12 @@ pub record RowFilled (was now : List ℕ) (m size count more to w f c : ℕ) (va
   pub mid : Between was now (m + size + size) to
   pub high : Above was now (to + w)
 
+-- what `fill_row` leaves: row i of those from t on is the row from s on that number i was given to
+abbrev pub RowCopied : (was now : List ℕ) → (n w f c s m t i count r : ℕ) → Type 0
+RowCopied was now n w f c s m t i count r =
+    let from = s + keyAt was m n i * w in
+    RowFilled was now m n count r (t + i * w) w f c (cells was from f) (λ d. getD was (from + f + d) 0)
+
 -- where things lie: n rows from s on, then the numbers and the keys from m on, then room for n rows from t on
 pub record Laid (bytes : List ℕ) (n w f c s m t : ℕ) : Type 0 where
   pub few : n < 256

@@ -10,16 +10,20 @@ returns c = decided-no (λ p. c .if1 .taken (c .before .before .before .before .
 
 first-apart-requires : tie.Need-first-apart-requires
 first-apart-requires c κs =
-    let p = c .before .before .before .before .pre .0 in
+    let same = c .before .before .before .before .before .before in
+    let p = same .before .before .before .before .pre .0 in
     ((omega (arith, p), omega (arith, p)), λ d h. (p .1 .beliefs d h, p .2 .beliefs d h))
 
 returns-2 : tie.Need-returns-2
 returns-2 c =
-    let s = c .before .before .before .before .before .pre in
-    decides-as (λ x. record { values = s .1 .1 (c .before .if1 .left); beliefs = x }) (λ a. a .beliefs) (agrees-decides (c .first-apart .ensures))
+    let same = c .before .before .before .before .before .before .before .before in
+    let values = same .before .before .before .before .pre .1 .1 (same .if1 .left) in
+    decides-as (λ x. record { values = values; beliefs = x }) (λ a. a .beliefs)
+    (agrees-decides (c .before .first-apart .ensures))
 
 pub alike-spec : {M : Type 1} → statement M
 alike-spec =
     tie.close
-    (tie.spec (λ c. search needs) (λ c. search needs) (λ c. search needs) (λ c. search needs) returns (λ c. search needs) (λ c. search needs) (λ c. search needs) (λ c. search needs)
-    (λ c. search needs) (λ c. search needs) first-apart-requires returns-2)
+    (tie.spec (λ c. search needs) (λ c. search needs) (λ c. search needs) (λ c. search needs) returns (λ c. search needs)
+    (λ c. search needs) (λ c. search needs) (λ c. search needs) (λ c. search needs) (λ c. search needs)
+    first-apart-requires returns-2)

@@ -9,26 +9,35 @@ use Rattle.chart.proofs.partition.class_of.Statement.{statement}
 use Rattle.chart.proofs.partition.class_of.Tie as tie
 
 abbrev Inv-loop : tie.InvT-loop
-Inv-loop work w f c t k r count i q₀ q = NoneBelow work w f c t k r count i q
+Inv-loop work t g i count q₀ q =
+    NoneBelow work (t .width) (t .fluents) (t .characters) (t .rows) (g .classes) (g .firsts) count i q
 
 abbrev μ-loop : tie.MeasureT-loop
-μ-loop work w f c t k r count i q₀ q = count - q
+μ-loop work t g i count q₀ q = count - q
 
 loop-holds : tie.Need-loop-holds Inv-loop μ-loop
-loop-holds c = none-since (c .before .before .before .pre) _ (sym (c .wide .ensures))
+loop-holds c = none-since (c .before .before .before .before .pre) _ (sym (c .wide .ensures))
 
 alike-requires : tie.Need-alike-requires Inv-loop μ-loop
 alike-requires c κs =
-    let a = c .before .before .before .before .before .before .before .pre in
-    let h = c .before .before .loop-test .taken in
+    let turn = c .before .before .before in
+    let a = turn .before .before .before .before .before .before .pre in
+    let h = turn .loop-test .taken in
     let e = sym (c .wide2 .ensures) in
     (against-row a _ h _ e, (against-finer a _ h _ e, against-values a _ h _ e))
 
 returns : tie.Need-returns Inv-loop μ-loop
-returns c = class-found _ (c .before .before .before .before .loop-test .taken) _ (sym (c .before .before .wide2 .ensures)) (c .before .alike .ensures .yes (c .if1 .taken)) (c .before .before .before .before .before .loop .inv)
+returns c =
+    let lead = c .before .before in
+    let turn = lead .before .before .before in
+    let same = c .before .alike .ensures .yes (c .if1 .taken) in
+    class-found _ (turn .loop-test .taken) _ (sym (lead .wide2 .ensures)) same (turn .before .loop .inv)
 
 loop-again : tie.Need-loop-again Inv-loop μ-loop
-loop-again c = none-more _ _ (sym (c .before .before .wide2 .ensures)) (refuted (c .before .alike .ensures) (c .if1 .left)) (c .before .before .before .before .before .loop .inv)
+loop-again c =
+    let lead = c .before .before in
+    let turn = lead .before .before .before in
+    none-more _ _ (sym (lead .wide2 .ensures)) (refuted (c .before .alike .ensures) (c .if1 .left)) (turn .before .loop .inv)
 
 returns-2 : tie.Need-returns-2 Inv-loop μ-loop
 returns-2 c = class-none _ (c .loop-test .left) (c .before .loop .inv)
@@ -36,5 +45,10 @@ returns-2 c = class-none _ (c .loop-test .left) (c .before .loop .inv)
 pub class-of-spec : {M : Type 1} → statement M
 class-of-spec =
     tie.close
-    (tie.spec Inv-loop μ-loop (λ c. omega (arith, c .before .pre .row)) (λ c. omega (arith, c .before .before .pre .row)) (λ c κs. search needs) loop-holds (λ c. omega (arith, c .before .before .before .before .before .pre .room)) (λ c. omega (arith, c .before .before .before .before .before .before .pre .room)) (λ c κs. search needs) alike-requires
-    returns (λ c. search needs) (λ c. search needs) loop-again returns-2)
+    (tie.spec Inv-loop μ-loop
+    (λ c. omega (arith, c .before .before .pre .row))
+    (λ c. omega (arith, c .before .before .before .pre .row))
+    (λ c κs. search needs) loop-holds
+    (λ c. let turn = c .before in omega (arith, turn .before .before .before .before .before .before .pre .room))
+    (λ c. let turn = c .before .before in omega (arith, turn .before .before .before .before .before .before .pre .room))
+    (λ c κs. search needs) alike-requires returns (λ c. search needs) (λ c. search needs) loop-again returns-2)

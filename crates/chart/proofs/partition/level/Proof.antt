@@ -9,34 +9,46 @@ use Rattle.chart.proofs.partition.level.Statement.{statement}
 use Rattle.chart.proofs.partition.level.Tie as tie
 
 abbrev Inv-loop : tie.InvT-loop
-Inv-loop work₀ n w f c t a k r count₀ i₀ work count i = (length work ≡ length work₀) × Leveling work₀ work n w f c t a k r i count
+Inv-loop work₀ t g count₀ i₀ work count i =
+    (length work ≡ length work₀) ×
+    Leveling work₀ work (t .nodes) (t .width) (t .fluents) (t .characters) (t .rows) (g .level) (g .classes) (g .firsts)
+    i count
 
 abbrev μ-loop : tie.MeasureT-loop
-μ-loop work₀ n w f c t a k r count₀ i₀ work count i = n - i
+μ-loop work₀ t g count₀ i₀ work count i = t .nodes - i
 
 loop-holds : tie.Need-loop-holds Inv-loop μ-loop
 loop-holds c = (refl, leveling-none _ _ _ _ _ _ _ _ _)
 
 class-row-requires : tie.Need-class-row-requires Inv-loop μ-loop
 class-row-requires c κs =
-    let p = c .before .before .before .before .pre in
-    let (long, g) = c .before .before .loop .inv in
-    let h = c .before .loop-test .taken in
-    let l = p .0 .0 in
-    ((omega (arith, l), omega (arith, l, g .fewer), omega (arith, l), omega (arith, l, g .fewer)), leveling-against l (p .0 .1) (p .1) long g h)
+    let test = c .before in
+    let turn = test .before .before in
+    let ((l, sound), finer) = turn .before .before .pre in
+    let (long, g) = turn .loop .inv in (
+      (omega (arith, l), omega (arith, l, g .fewer), omega (arith, l), omega (arith, l, g .fewer)),
+      leveling-against l sound finer long g (test .if1 .taken),
+    )
 
 loop-again : tie.Need-loop-again Inv-loop μ-loop
 loop-again c =
-    let p = c .before .before .before .before .before .before .before .pre in
-    let (long, g) = c .before .before .before .before .before .loop .inv in
-    let r = c .before .before .class-row in
-    (r .kept .0 ∙ long, leveling-row (p .0 .0) (p .0 .1) (p .1) long g (c .before .before .before .before .loop-test .taken) (r .ensures))
+    let row = c .before .before in
+    let test = row .before .before in
+    let turn = test .before .before in
+    let ((l, sound), finer) = turn .before .before .pre in
+    let (long, g) = turn .loop .inv in
+    let r = row .class-row in
+    (r .kept .0 ∙ long, leveling-row l sound finer long g (test .if1 .taken) (r .ensures))
 
 returns : tie.Need-returns Inv-loop μ-loop
 returns c =
-    let p = c .before .before .before .pre in
-    let (long, g) = c .before .loop .inv in
-    leveling-end (p .0 .0) (p .0 .1) (p .1) long g (c .loop-test .left)
+    let end = c .before .before in
+    let ((l, sound), finer) = end .before .before .pre in
+    let (long, g) = end .loop .inv in
+    leveling-end l sound finer long g (c .if1 .left)
 
 pub level-spec : {M : Type 1} → statement M
-level-spec = tie.close (tie.spec Inv-loop μ-loop loop-holds class-row-requires (λ c. search needs) (λ c. search needs) loop-again (λ c. search needs) returns)
+level-spec =
+    tie.close
+    (tie.spec Inv-loop μ-loop loop-holds class-row-requires (λ c. search needs) (λ c. search needs) loop-again
+    (λ c. search needs) returns)

@@ -11,63 +11,101 @@ use Rattle.chart.proofs.partition.partition.Statement.{statement}
 use Rattle.chart.proofs.partition.partition.Tie as tie
 
 abbrev Inv-loop : tie.InvT-loop
-Inv-loop work₀ n w f c t a k r limit count₀ work count =
-    (length work ≡ length work₀) × Levels work₀ n w f c t a k r × Ordered c (rowsAt work₀ w f c t n) × Parting work₀ n w f c t work a k r limit count
+Inv-loop work₀ t g limit count₀ work count =
+    (length work ≡ length work₀) ×
+    Levels work₀ (t .nodes) (t .width) (t .fluents) (t .characters) (t .rows) (g .level) (g .classes) (g .firsts) ×
+    Ordered (t .characters) (rowsAt work₀ (t .width) (t .fluents) (t .characters) (t .rows) (t .nodes)) ×
+    Parting work₀ (t .nodes) (t .width) (t .fluents) (t .characters) (t .rows) work (g .level) (g .classes) (g .firsts)
+    limit count
 
 abbrev μ-loop : tie.MeasureT-loop
-μ-loop work₀ n w f c t a k r limit count₀ work count = limit - count
+μ-loop work₀ t g limit count₀ work count = limit - count
 
 returns : tie.Need-returns Inv-loop μ-loop
-returns c = let p = c .before .before .before .before .before .before .pre in valued-many (p .0 .0) (p .1) (c .before .before .before .value-level .ensures) (c .if1 .taken)
+returns c =
+    let valued = c .before .before .before in
+    let p = valued .before .before .before .pre in
+    valued-many (p .0 .0) (p .1) (valued .value-level .ensures) (c .if1 .taken)
 
 loop-holds : tie.Need-loop-holds Inv-loop μ-loop
 loop-holds c =
-    let p = c .before .before .before .before .before .before .pre in
-    let v = c .before .before .before .value-level in
-    (refl, levels-same (p .0 .0) (v .kept .0), ordered-valued (p .0 .0) (p .1) (v .ensures), parting-start (p .0 .0) (p .1) (v .ensures) (c .if1 .left))
+    let valued = c .before .before .before in
+    let p = valued .before .before .before .pre in
+    let v = valued .value-level in
+    let start = parting-start (p .0 .0) (p .1) (v .ensures) (c .if1 .left) in
+    (refl, levels-same (p .0 .0) (v .kept .0), ordered-valued (p .0 .0) (p .1) (v .ensures), start)
 
 level-requires : tie.Need-level-requires Inv-loop μ-loop
-level-requires c κs = let (long, l, o, g) = c .before .before .loop .inv in ((levels-same l long, parting-sound l o g), parting-finer l o g)
+level-requires c κs =
+    let (long, l, o, g) = c .before .before .before .loop .inv in
+    ((levels-same l long, parting-sound l o g), parting-finer l o g)
+
+same-length-2 : tie.Need-same-length-2 Inv-loop μ-loop
+same-length-2 c =
+    let leveled = c .before .before .before in
+    let turn = leveled .before .before .before .before in
+    leveled .level .kept .0 ∙ turn .loop .inv .0 ∙ turn .before .before .before .before .value-level .kept .0
 
 returns-2 : tie.Need-returns-2 Inv-loop μ-loop
 returns-2 c =
-    let p = c .before .before .before .before .before .before .before .before .before .before .before .before .before .pre in
-    let (long, l, o, g) = c .before .before .before .before .before .before .loop .inv in
-    parted-since (p .0 .0) (p .1) (c .before .before .before .before .before .before .before .before .before .before .value-level .ensures) (parting-many l o g (c .before .before .before .level .ensures) (c .if2 .taken))
+    let leveled = c .before .before .before in
+    let turn = leveled .before .before .before .before in
+    let valued = turn .before .before .before .before in
+    let p = valued .before .before .before .pre in
+    let (long, l, o, g) = turn .loop .inv in
+    let many = parting-many l o g (leveled .level .ensures) (c .if3 .taken) in
+    parted-since (p .0 .0) (p .1) (valued .value-level .ensures) many
+
+same-length-3 : tie.Need-same-length-3 Inv-loop μ-loop
+same-length-3 c =
+    let leveled = c .before .before .before .before in
+    let turn = leveled .before .before .before .before in
+    leveled .level .kept .0 ∙ turn .loop .inv .0 ∙ turn .before .before .before .before .value-level .kept .0
 
 returns-3 : tie.Need-returns-3 Inv-loop μ-loop
 returns-3 c =
-    let p = c .before .before .before .before .before .before .before .before .before .before .before .before .before .before .pre in
-    let (long, l, o, g) = c .before .before .before .before .before .before .before .loop .inv in
-    parted-since (p .0 .0) (p .1) (c .before .before .before .before .before .before .before .before .before .before .before .value-level .ensures) (parting-done l o g (c .before .before .before .before .level .ensures) (c .if3 .taken))
+    let leveled = c .before .before .before .before in
+    let turn = leveled .before .before .before .before in
+    let valued = turn .before .before .before .before in
+    let p = valued .before .before .before .pre in
+    let (long, l, o, g) = turn .loop .inv in
+    let done = parting-done l o g (leveled .level .ensures) (c .if4 .taken) in
+    parted-since (p .0 .0) (p .1) (valued .value-level .ensures) done
 
 copy-part-requires : tie.Need-copy-part-requires Inv-loop μ-loop
-copy-part-requires c κs = let (long, l, o, g) = c .before .before .before .before .before .before .before .before .loop .inv in (omega (arith, l), omega (arith, l, long, c .before .before .before .before .before .level .kept .0), omega (arith, l, long, c .before .before .before .before .before .level .kept .0))
+copy-part-requires c κs =
+    let leveled = c .before .before .before .before .before in
+    let (long, l, o, g) = leveled .before .before .before .before .loop .inv in
+    let same = leveled .level .kept .0 in
+    (omega (arith, l), omega (arith, l, long, same), omega (arith, l, long, same))
 
 loop-less : tie.Need-loop-less Inv-loop μ-loop
-loop-less c = omega (arith, c .before .before .before .before .before .if2 .left, c .before .before .before .before .if3 .left)
+loop-less c = let more = c .before .before .before .before in omega (arith, more .before .if3 .left, more .if4 .left)
 
 loop-again : tie.Need-loop-again Inv-loop μ-loop
 loop-again c =
-    let (long, l, o, g) = c .before .before .before .before .before .before .before .before .before .before .before .loop .inv in
-    let v = c .before .before .before .before .before .before .before .before .level in
-    (c .before .before .copy-part .kept .0 ∙ v .kept .0 ∙ long, l, o, parting-more l o g (v .ensures) (omega (arith, c .before .before .before .before .before .if2 .left)) (c .before .before .copy-part .ensures))
+    let copied = c .before .before in
+    let few = copied .before .before .before in
+    let leveled = few .before .before .before in
+    let (long, l, o, g) = leveled .before .before .before .before .loop .inv in
+    let v = leveled .level in
+    let more = parting-more l o g (v .ensures) (omega (arith, few .if3 .left)) (copied .copy-part .ensures) in
+    (copied .copy-part .kept .0 ∙ v .kept .0 ∙ long, l, o, more)
 
 returns-4 : tie.Need-returns-4 Inv-loop μ-loop
 returns-4 c =
-    let p = c .before .before .before .before .before .before .before .before .pre in
-    let (long, l, o, g) = c .before .loop .inv in
-    parted-since (p .0 .0) (p .1) (c .before .before .before .before .before .value-level .ensures) (parting-apart l o g (c .loop-test .left))
+    let end = c .before .before in
+    let valued = end .before .before .before .before in
+    let p = valued .before .before .before .pre in
+    let (long, l, o, g) = end .loop .inv in
+    parted-since (p .0 .0) (p .1) (valued .value-level .ensures) (parting-apart l o g (c .if2 .left))
 
 pub partition-spec : {M : Type 1} → statement M
 partition-spec =
     tie.close
-    (tie.spec Inv-loop μ-loop (λ c κs. c .before .before .pre .0 .0)
+    (tie.spec Inv-loop μ-loop
+    (λ c κs. c .before .before .pre .0 .0)
     (λ c. c .before .before .before .value-level .kept .0)
-    returns loop-holds level-requires
-    (λ c. c .before .before .before .level .kept .0 ∙ c .before .before .before .before .before .before .loop .inv .0 ∙ c .before .before .before .before .before .before .before .before .before .before .value-level .kept .0)
-    returns-2
-    (λ c. c .before .before .before .before .level .kept .0 ∙ c .before .before .before .before .before .before .before .loop .inv .0 ∙ c .before .before .before .before .before .before .before .before .before .before .before .value-level .kept .0)
-    returns-3 copy-part-requires loop-less loop-again
-    (λ c. c .before .loop .inv .0 ∙ c .before .before .before .before .before .value-level .kept .0)
+    returns loop-holds level-requires same-length-2 returns-2 same-length-3 returns-3 copy-part-requires loop-less loop-again
+    (λ c. let end = c .before .before in end .loop .inv .0 ∙ end .before .before .before .before .value-level .kept .0)
     returns-4)

@@ -8,39 +8,46 @@ use Rattle.chart.proofs.values.value_level.Statement.{statement}
 use Rattle.chart.proofs.values.value_level.Tie as tie
 
 abbrev Inv-loop : tie.InvT-loop
-Inv-loop work₀ n w f c t a k r heads₀ count₀ i₀ work heads count i = (length work ≡ length work₀) × Valuing work₀ work heads n w f t a k r i count
+Inv-loop work₀ t g heads₀ count₀ i₀ work heads count i =
+    (length work ≡ length work₀) ×
+    Valuing work₀ work heads (t .nodes) (t .width) (t .fluents) (t .rows) (g .level) (g .classes) (g .firsts) i count
 
 abbrev μ-loop : tie.MeasureT-loop
-μ-loop work₀ n w f c t a k r heads₀ count₀ i₀ work heads count i = n - i
+μ-loop work₀ t g heads₀ count₀ i₀ work heads count i = t .nodes - i
 
 loop-holds : tie.Need-loop-holds Inv-loop μ-loop
 loop-holds c = (refl, valuing-none _ _ _ _ _ _ _ _ _ refl (λ b h. getD-replicate {A = ℕ} 131 b 0 0 h))
 
 slice-aggregate-value-row : tie.Need-slice-aggregate-value-row Inv-loop μ-loop
-slice-aggregate-value-row c = sym (c .before .before .before .loop .inv .1 .chained .marks)
+slice-aggregate-value-row c = sym (c .before .before .before .before .loop .inv .1 .chained .marks)
 
 value-row-requires : tie.Need-value-row-requires Inv-loop μ-loop
 value-row-requires c κs =
-    let l = c .before .before .before .before .before .pre in
-    let (long, g) = c .before .before .before .loop .inv in
-    (valuing-next l long g (c .before .before .loop-test .taken), g .chained)
+    let test = c .before .before in
+    let turn = test .before .before in
+    let (long, v) = turn .loop .inv in
+    (valuing-next (turn .before .before .pre) long v (test .if1 .taken), v .chained)
 
 loop-again : tie.Need-loop-again Inv-loop μ-loop
 loop-again c =
-    let l = c .before .before .before .before .before .before .before .before .before .pre in
-    let (long, g) = c .before .before .before .before .before .before .before .loop .inv in
-    let r = c .before .before .before .value-row in
-    (r .kept .0 ∙ long, valuing-row l long g (c .before .before .before .before .before .before .loop-test .taken) (r .ensures))
+    let row = c .before .before .before in
+    let test = row .before .before .before in
+    let turn = test .before .before in
+    let (long, v) = turn .loop .inv in
+    let r = row .value-row in
+    (r .kept .0 ∙ long, valuing-row (turn .before .before .pre) long v (test .if1 .taken) (r .ensures))
 
 same-length : tie.Need-same-length Inv-loop μ-loop
-same-length c = c .before .loop .inv .0
+same-length c = c .before .before .loop .inv .0
 
 returns : tie.Need-returns Inv-loop μ-loop
 returns c =
-    let (long, g) = c .before .loop .inv in
-    valuing-end (c .before .before .before .pre) long g (c .loop-test .left)
+    let end = c .before .before in
+    let (long, v) = end .loop .inv in
+    valuing-end (end .before .before .pre) long v (c .if1 .left)
 
 pub value-level-spec : {M : Type 1} → statement M
 value-level-spec =
     tie.close
-    (tie.spec Inv-loop μ-loop loop-holds slice-aggregate-value-row value-row-requires (λ c. search needs) (λ c. search needs) loop-again same-length returns)
+    (tie.spec Inv-loop μ-loop loop-holds slice-aggregate-value-row value-row-requires (λ c. search needs) (λ c. search needs)
+    loop-again same-length returns)
