@@ -1,4 +1,5 @@
--- What all six public calls share: the order of checks, and what lent buffers hold afterwards. Document 01, "Numbers handed back", its last paragraph.
+-- What all six public calls share: the order of checks, and what lent buffers hold afterwards. Document 01, "Numbers
+-- handed back", its last paragraph.
 use Prim.Native.Nat.{ℕ}
 use mathlib.Core.Bool.{Bool, _||_}
 use mathlib.Core.List.{List, [], _∷_, _++_}
@@ -33,9 +34,12 @@ unfoldable pub chartsOf : Theory → List (List ℕ) → Reply (List (List Node)
 chartsOf p [] = gives []
 chartsOf p (bytes ∷ rest) = with (chartOf p bytes) (λ t. with (chartsOf p rest) (λ ts. gives (t ∷ ts)))
 
--- "Order: pack, first chart, second chart, 8, 9, the rest." `enough` says that the lent buffers are, `inRange` that each number handed in is that of something there.
--- "Place is .. for 8 to 19 .. 0."
-unfoldable pub call : {A : Type 0} → (pack : List ℕ) (charts : List (List ℕ)) (enough : Bool) (inRange : Theory → Bool) (rest : Pack → List (List Node) → Reply A) → Reply A
+-- "Order: pack, first chart, second chart, 8, 9, the rest." `enough` says that the lent buffers are, `inRange` that
+-- each number handed in is that of something there. "Place is .. for 8 to 19 .. 0."
+unfoldable pub call : {A : Type 0}
+    → (pack : List ℕ) (charts : List (List ℕ)) (enough : Bool) (inRange : Theory → Bool)
+    (rest : Pack → List (List Node) → Reply A)
+    → Reply A
 call pack charts enough inRange rest =
     with (packOf pack) (λ p.
     with (chartsOf (p .theory) charts) (λ tables.

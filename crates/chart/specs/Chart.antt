@@ -1,5 +1,5 @@
--- What a written chart is. Document 01, "Charts": "A written chart holds each different state reachable by beliefs once, numbered in the order met breadth
--- first, characters in rising order."
+-- What a written chart is. Document 01, "Charts": "A written chart holds each different state reachable by beliefs
+-- once, numbered in the order met breadth first, characters in rising order."
 use Prim.Native.Nat.{ℕ, zero, suc, _<_, _≤_, max}
 use mathlib.Core.Path.{_≡_}
 use mathlib.Core.List.{List, [], _∷_}

@@ -1,5 +1,5 @@
--- What Compare says of two states. Document 01, "Charts": "Compare takes two charts: same, or the shortest chain that leads to a difference, the earliest by
--- character numbers among those, and the lowest differing fluent there."
+-- What Compare says of two states. Document 01, "Charts": "Compare takes two charts: same, or the shortest chain that
+-- leads to a difference, the earliest by character numbers among those, and the lowest differing fluent there."
 use Prim.Native.Nat.{ℕ, _<_}
 use mathlib.Core.Path.{_≡_}
 use mathlib.Core.Logic.{_≢_}
@@ -8,7 +8,8 @@ use lib.ListN.{getD}
 use Rattle.pack.specs.State.{State, Valid}
 use Rattle.chart.specs.Earliest.{Earliest}
 
--- where s and t differ: "the shortest chain that leads to a difference, the earliest by character numbers among those, and the lowest differing fluent there"
+-- where s and t differ: "the shortest chain that leads to a difference, the earliest by character numbers among those,
+-- and the lowest differing fluent there"
 pub record Differ (characters : ℕ) (s t : State) (chain : List ℕ) (fluent : ℕ) : Type 0 where
   pub first : Earliest (λ ch. Valid characters ch × (s ch ≢ t ch)) chain
   pub here : getD (s chain) fluent 0 ≢ getD (t chain) fluent 0

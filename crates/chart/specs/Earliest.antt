@@ -11,7 +11,8 @@ Before list [] = ⊥
 Before [] (d ∷ list) = ⊥
 Before (c ∷ chain) (d ∷ list) = (c < d) ⊎ ((c ≡ d) × Before chain list)
 
--- "the shortest, then the earliest by action numbers"; "the shortest chain .., the earliest by character numbers among those"
+-- "the shortest, then the earliest by action numbers"; "the shortest chain .., the earliest by character numbers among
+-- those"
 pub record Earliest (Good : List ℕ → Type 0) (list : List ℕ) : Type 0 where
   pub good : Good list
   pub shortest : (other : List ℕ) → Good other → length list ≤ length other

@@ -1,5 +1,6 @@
--- What Start, Query and Compare promise of every call: the answer, and every lent buffer at its end, as equations with the reply. A buffer's name with ′ is what it holds
--- at exit. Each promise determines answer and buffers, on every input; `Theorems` of the planner layer says what the replies mean over chains.
+-- What Start, Query and Compare promise of every call: the answer, and every lent buffer at its end, as equations with
+-- the reply. A buffer's name with ′ is what it holds at exit. Each promise determines answer and buffers, on every
+-- input; `Theorems` of the planner layer says what the replies mean over chains.
 use Prim.Native.Nat.{ℕ}
 use mathlib.Core.Path.{_≡_}
 use mathlib.Core.List.{List}

@@ -31,10 +31,12 @@ unfoldable pub allBelow : ℕ → List ℕ → Bool
 allBelow C [] = true
 allBelow C (c ∷ chain) = ltb c C && allBelow C chain
 
--- "Query takes a chart, a lent chain of any length, one byte a character, and a fluent, and gives its value where the chain leads."
+-- "Query takes a chart, a lent chain of any length, one byte a character, and a fluent, and gives its value where the
+-- chain leads."
 unfoldable pub queryReply : (pack chart chain : List ℕ) (fluent : ℕ) (work : List ℕ) → Reply ℕ
 queryReply pack chart chain fluent work =
-    call pack (chart ∷ []) (fits workRoom work) (λ p. allBelow (p .characters) chain && ltb fluent (fluents p)) (λ p tables.
+    call pack (chart ∷ []) (fits workRoom work) (λ p. allBelow (p .characters) chain && ltb fluent (fluents p))
+    (λ p tables.
     gives (getD (meaning (p .theory .characters) (firstOf tables) 0 chain) fluent 0))
 
 -- "Compare takes two charts: same, or the shortest chain that leads to a difference .."

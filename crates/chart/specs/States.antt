@@ -5,7 +5,8 @@ use mathlib.Core.List.{List, List·Memᴰ}
 use lib.ListN.{length}
 use Rattle.pack.specs.State.{State, after, Valid}
 
--- Document 01, "Happenings": "the chains must lead to at most 32 different states". A list of at most n chains such that every chain leads where one of them leads
+-- Document 01, "Happenings": "the chains must lead to at most 32 different states". A list of at most n chains such
+-- that every chain leads where one of them leads
 unfoldable pub AtMost : ℕ → ℕ → State → Type 0
 AtMost n C s =
     (reached : List (List ℕ)) × (length reached ≤ n)

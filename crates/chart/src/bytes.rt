@@ -44,7 +44,8 @@ pub fn sweep_part(work: &mut [u8], a: usize, k: usize)
     }
 }
 
-// As `clear`, part by part: of a work buffer that a call has left most bytes are 0 already, and looking at them is quicker than writing them where they are not in the cache nearest by.
+// As `clear`, part by part: of a work buffer that a call has left most bytes are 0 already, and looking at them is
+// quicker than writing them where they are not in the cache nearest by.
 pub fn sweep(work: &mut [u8], a: usize, k: usize)
     requires { ⌜ a + k ≤ length (now work) ⌝ }
     ensures { λ _. ⌜ Cleared (now (work .entry)) (now (work .exit)) a k ⌝ }

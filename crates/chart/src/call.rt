@@ -1,4 +1,5 @@
-// The checks that the public calls share, in their order: pack, first chart, second chart, 8, 9. Each takes what the checks before it said; the first refusal stays.
+// The checks that the public calls share, in their order: pack, first chart, second chart, 8, 9. Each takes what the
+// checks before it said; the first refusal stays.
 //
 // Each check takes what the checks before it said and passes a refusal on, so their order is the order of the lines.
 // One whose outcome no longer matters is still made; it reads only what is there.
@@ -26,7 +27,8 @@ pub const CHART_ROOM: usize = 961;
 
 // How many nodes a chart has, where nothing was refused before it.
 pub fn check_under(said: Checked, characters: usize, domains: &[u8], chart: &[u8]) -> Number
-    ensures { λ r. ⌜ repliedCount r ≡ with (replied said) (λ u. told length (inChart (whole (nodesAt (dims characters (now (domains .entry)))) (now (chart .entry))))) ⌝ }
+    ensures { λ r. ⌜ repliedCount r ≡ with (replied said)
+        (λ u. told length (inChart (whole (nodesAt (dims characters (now (domains .entry)))) (now (chart .entry))))) ⌝ }
 {
     match said {
         Checked::Refused(k, p) => Number::Refused(k, p),
@@ -53,7 +55,8 @@ pub fn both_at_most(a: usize, x: usize, b: usize, y: usize) -> bool
 
 // 8 where a lent buffer is too short, else 9 where a number handed in is that of nothing there.
 pub fn check_lent(said: Number, enough: bool, in_range: bool) -> Number
-    ensures { λ r. ⌜ repliedCount r ≡ with (repliedCount said) (λ v. pick enough (pick in_range (gives v) (refuses 9 0)) (refuses 8 0)) ⌝ }
+    ensures { λ r. ⌜ repliedCount r
+        ≡ with (repliedCount said) (λ v. pick enough (pick in_range (gives v) (refuses 9 0)) (refuses 8 0)) ⌝ }
 {
     match said {
         Number::Refused(k, p) => Number::Refused(k, p),

@@ -1,5 +1,6 @@
-// Compare: whether two charts mean the same, or the chain to where they differ. In the work buffer stand, from place 1 on, the first chart's rows and behind them the second's,
-// its beliefs counted on from there; then a mark for each pair of rows, and the pairs that were met.
+// Compare: whether two charts mean the same, or the chain to where they differ. In the work buffer stand, from place 1
+// on, the first chart's rows and behind them the second's, its beliefs counted on from there; then a mark for each pair
+// of rows, and the pairs that were met.
 //
 // In the work buffer: the rows of both charts from 1, the second's beliefs counted on, a mark for each pair of 64 rows
 // from 2,048, the pairs met from 6,144, five bytes each.
@@ -26,7 +27,8 @@ ghost use Rattle.chart.specs.Inner.Match.{Joinable, Joined, Matchable, R
 // Loads two charts, of n and m nodes, as one table.
 pub fn join(first: &[u8], n: usize, second: &[u8], m: usize, f: usize, c: usize, work: &mut [u8])
     requires { ⌜ Joinable (now first) n (now second) m f c (now work) ⌝ }
-    ensures { λ _. ⌜ Joined (now (first .entry)) n (now (second .entry)) m f c (now (work .entry)) (now (work .exit)) ⌝ }
+    ensures { λ _. ⌜ Joined (now (first .entry)) n (now (second .entry)) m f c (now (work .entry))
+        (now (work .exit)) ⌝ }
 {
     let w = f + c;
     put_rows(first, 1, n, w, f, c, work, 1, 0, 1);
@@ -48,7 +50,8 @@ pub fn match_rows(
     chain: &mut [u8],
 ) -> Matched
     requires { ⌜ Matchable (now work) n m f c (now chain) ⌝ }
-    ensures { λ r. ⌜ RowsMatched (now (work .entry)) (now (work .exit)) n m f c (now (chain .entry)) (now (chain .exit)) r ⌝ }
+    ensures { λ r. ⌜ RowsMatched (now (work .entry)) (now (work .exit)) n m f c (now (chain .entry))
+        (now (chain .exit)) r ⌝ }
 {
     let w = f + c;
     meet_first(work, MARKS, MET, 0, n);
@@ -73,7 +76,8 @@ pub fn match_charts(
     work: &mut [u8],
 ) -> Matched
     requires { ⌜ Joinable (now first) n (now second) m f c (now work) × (chainRoom ≤ length (now chain)) ⌝ }
-    ensures { λ r. ⌜ ChartsMatched (now (first .entry)) n (now (second .entry)) m f c (now (chain .entry)) (now (chain .exit)) (now (work .entry)) (now (work .exit)) r ⌝ }
+    ensures { λ r. ⌜ ChartsMatched (now (first .entry)) n (now (second .entry)) m f c (now (chain .entry))
+        (now (chain .exit)) (now (work .entry)) (now (work .exit)) r ⌝ }
 {
     join(first, n, second, m, f, c, work);
     let found = match_rows(work, n, m, f, c, chain);
@@ -81,7 +85,8 @@ pub fn match_charts(
     found
 }
 
-// Compare(pack, first, second, chain out, work): that both mean the same, or the chain's length and the fluent, the chain written; or a refusal's number and place.
+// Compare(pack, first, second, chain out, work): that both mean the same, or the chain's length and the fluent, the
+// chain written; or a refusal's number and place.
 pub fn compare(
     pack: &[u8],
     first: &[u8],
@@ -89,7 +94,8 @@ pub fn compare(
     chain: &mut [u8],
     work: &mut [u8],
 ) -> Matched
-    ensures { λ r. ⌜ Comparison (now (pack .entry)) (now (first .entry)) (now (second .entry)) (now (chain .entry)) (now (work .entry)) (now (chain .exit)) (now (work .exit)) r ⌝ }
+    ensures { λ r. ⌜ Comparison (now (pack .entry)) (now (first .entry)) (now (second .entry)) (now (chain .entry))
+        (now (work .entry)) (now (chain .exit)) (now (work .exit)) r ⌝ }
 {
     let p = read_contents(pack);
     let sizes = p.sizes;

@@ -1,4 +1,5 @@
-// The chart layer: states of nested belief, written as charts. What its public calls promise stands in specs/; here are the answers that they hand back.
+// The chart layer: states of nested belief, written as charts. What its public calls promise stands in specs/; here are
+// the answers that they hand back.
 pub mod bytes;
 pub mod call;
 pub mod compare;
@@ -24,7 +25,8 @@ pub enum Queried {
     Refused(u8, usize),
 }
 
-// What Compare hands back: that the states are the same, or the length of the chain to the difference and the fluent that differs there.
+// What Compare hands back: that the states are the same, or the length of the chain to the difference and the fluent
+// that differs there.
 pub enum Matched {
     Same,
     Differ(usize, usize),

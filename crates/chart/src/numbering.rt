@@ -43,7 +43,8 @@ pub fn name_beliefs(
     requires { ⌜ (m + size + size ≤ to) × (to + c ≤ length (now work)) × (size < 256) ⌝ }
     requires { ⌜ Numbering (now work) m size count ⌝ }
     requires { ⌜ ((d : ℕ) → d < c → getD (now work) (to + d) 0 < size) ⌝ }
-    ensures { λ r. ⌜ Named (now (work .entry)) (now (work .exit)) m size count r to c (λ d. getD (now (work .entry)) (to + d) 0) ⌝ }
+    ensures { λ r. ⌜ Named (now (work .entry)) (now (work .exit)) m size count r to c
+        (λ d. getD (now (work .entry)) (to + d) 0) ⌝ }
 {
     let mut met = count;
     let mut k = 0;

@@ -1,4 +1,5 @@
-// Rows put from one buffer into another, a number added to each belief and one taken away: so a table is written out as a chart's bytes, where a belief is a row's number plus 1.
+// Rows put from one buffer into another, a number added to each belief and one taken away: so a table is written out as
+// a chart's bytes, where a belief is a row's number plus 1.
 ghost use mathlib.Core.Path.{_≡_};
 ghost use Prim.Native.Nat.{ℕ, _+_, _*_, _<_, _≤_};
 ghost use lib.ListN.{length, set};
@@ -83,9 +84,11 @@ pub fn write_chart(
     u: usize,
     out: &mut [u8],
 ) -> usize
-    requires { ⌜ (n < 256) × (f + c ≤ w) × (w ≤ f + c) × (u + n * w ≤ length (now work)) × (1 + n * w ≤ length (now out)) ⌝ }
+    requires { ⌜ (n < 256) × (f + c ≤ w) × (w ≤ f + c) × (u + n * w ≤ length (now work))
+        × (1 + n * w ≤ length (now out)) ⌝ }
     requires { ⌜ Sound (now work) n w f c u ⌝ }
-    ensures { λ r. ⌜ (r ≡ 1 + n * w) × RowsPut (now (work .entry)) (set (now (out .entry)) 0 n) (now (out .exit)) w f c u 1 1 0 n ⌝ }
+    ensures { λ r. ⌜ (r ≡ 1 + n * w)
+        × RowsPut (now (work .entry)) (set (now (out .entry)) 0 n) (now (out .exit)) w f c u 1 1 0 n ⌝ }
 {
     out[0] = n as u8;
     put_rows(work, u, n, w, f, c, out, 1, 1, 0);

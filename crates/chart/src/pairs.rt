@@ -1,4 +1,5 @@
-// Pairs of rows met breadth first from one pair on, each once, until one is found whose rows have other values: the way back from there is the chain.
+// Pairs of rows met breadth first from one pair on, each once, until one is found whose rows have other values: the way
+// back from there is the chain.
 //
 // Each pair is met once, with the entry that it was met from. The partition would not do here: it may need 62 levels
 // over 64 rows. That a chain has at most 62 characters is proved and not tested for.
@@ -10,9 +11,11 @@ ghost use Prim.Native.Nat.{_+_, _*_, _<_, _≤_};
 ghost use lib.ListN.{length, getD};
 ghost use Rattle.chart.specs.Contracts.Numbers.{Sound};
 ghost use Rattle.chart.specs.Contracts.Level.{Agrees, SameByte};
-ghost use Rattle.chart.specs.Inner.Pairs.{markAt, Paired, PairsIn, PairMet, FirstMet, Followed, Sought, Ways, Writable, LongWay, WayWritten};
+ghost use Rattle.chart.specs.Inner.Pairs.{markAt, Paired, PairsIn, PairMet, FirstMet, Followed};
+ghost use Rattle.chart.specs.Inner.Pairs.{Sought, Ways, Writable, LongWay, WayWritten};
 
-// Meets the pair of rows x and y, from entry `from` by character d, where `count` have been met: if it is new, it is marked, and an entry more. How many are met then.
+// Meets the pair of rows x and y, from entry `from` by character d, where `count` have been met: if it is new, it is
+// marked, and an entry more. How many are met then.
 pub fn meet(
     work: &mut [u8],
     m: usize,
@@ -65,7 +68,8 @@ pub fn meet_first(work: &mut [u8], m: usize, q: usize, x: usize, y: usize)
     meet(work, m, q, 0, x, y, 0, 0);
 }
 
-// Meets the pairs that the characters lead to from that of entry `done`, where `count` have been met; how many are met then.
+// Meets the pairs that the characters lead to from that of entry `done`, where `count` have been met; how many are met
+// then.
 pub fn meet_beliefs(
     work: &mut [u8],
     n: usize,
@@ -98,15 +102,18 @@ pub fn meet_beliefs(
 
 // The first of the f values that is another in the two rows of the entry from e on; f where all are the same.
 pub fn other_value(work: &[u8], w: usize, f: usize, t: usize, e: usize) -> usize
-    requires { ⌜ (e + 2 ≤ length (now work)) × (t + getD (now work) e 0 * w + f ≤ length (now work)) × (t + getD (now work) (e + 1) 0 * w + f ≤ length (now work)) ⌝ }
-    ensures { λ r. ⌜ Agrees (SameByte (now (work .entry)) (t + getD (now (work .entry)) e 0 * w) (t + getD (now (work .entry)) (e + 1) 0 * w)) f r ⌝ }
+    requires { ⌜ (e + 2 ≤ length (now work)) × (t + getD (now work) e 0 * w + f ≤ length (now work))
+        × (t + getD (now work) (e + 1) 0 * w + f ≤ length (now work)) ⌝ }
+    ensures { λ r. ⌜ Agrees (SameByte (now (work .entry)) (t + getD (now (work .entry)) e 0 * w)
+        (t + getD (now (work .entry)) (e + 1) 0 * w)) f r ⌝ }
 {
     let x = wide(work[e]);
     let y = wide(work[e + 1]);
     first_other(work, t + x * w, t + y * w, f)
 }
 
-// Goes through the pairs in the order met, and meets those that they lead to, up to the first whose rows have other values: its entry, or 4096 where there is none.
+// Goes through the pairs in the order met, and meets those that they lead to, up to the first whose rows have other
+// values: its entry, or 4096 where there is none.
 pub fn seek(
     work: &mut [u8],
     n: usize,
@@ -165,7 +172,8 @@ pub fn write_way(work: &[u8], q: usize, e: usize, k: usize, chain: &mut [u8])
 // Writes the chain that leads to entry e; its length.
 pub fn write_chain(work: &[u8], q: usize, e: usize, chain: &mut [u8]) -> usize
     requires { ⌜ Writable (now work) (now chain) q e ⌝ }
-    ensures { λ k. ⌜ LongWay (now (work .entry)) q e k × WayWritten (now (work .entry)) (now (chain .entry)) (now (chain .exit)) q e k ⌝ }
+    ensures { λ k. ⌜ LongWay (now (work .entry)) q e k
+        × WayWritten (now (work .entry)) (now (chain .entry)) (now (chain .exit)) q e k ⌝ }
 {
     let k = way_length(work, q, e);
     write_way(work, q, e, k, chain);

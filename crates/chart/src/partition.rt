@@ -14,13 +14,16 @@ ghost use lib.ListN.{length, getD};
 ghost use Rattle.chart.specs.Chart.{Ordered};
 ghost use Rattle.pack.specs.Contracts.Table.{tableOf};
 ghost use Rattle.chart.specs.Contracts.Numbers.{Sound};
-ghost use Rattle.chart.specs.Contracts.Level.{Decides, Agrees, Placed, SameValues, SameClass, Alike, RowOk, Against, Levels, Finer, RowClassed, Leveled, Parted};
+ghost use Rattle.chart.specs.Contracts.Level.{Decides, Agrees, Placed, SameValues, SameClass, Alike};
+ghost use Rattle.chart.specs.Contracts.Level.{RowOk, Against, Levels, Finer, RowClassed, Leveled, Parted};
 ghost use Rattle.chart.specs.Contracts.OfTable.{ofTable, ofRows, ofValues, inRegions, firstOf};
 
-// The first of the c characters whose beliefs, from a on and from b on, are of different classes, which stand from k on; c where there is none.
+// The first of the c characters whose beliefs, from a on and from b on, are of different classes, which stand from k
+// on; c where there is none.
 pub fn first_apart(work: &[u8], a: usize, b: usize, c: usize, k: usize) -> usize
     requires { ⌜ (a + c ≤ length (now work)) × (b + c ≤ length (now work)) ⌝ }
-    requires { ⌜ ((d : ℕ) → d < c → (k + getD (now work) (a + d) 0 < length (now work)) × (k + getD (now work) (b + d) 0 < length (now work))) ⌝ }
+    requires { ⌜ ((d : ℕ) → d < c
+        → (k + getD (now work) (a + d) 0 < length (now work)) × (k + getD (now work) (b + d) 0 < length (now work))) ⌝ }
     ensures { λ r. ⌜ Agrees (SameClass (now (work .entry)) a b k) c r ⌝ }
 {
     let mut d = 0;

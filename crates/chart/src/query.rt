@@ -25,7 +25,8 @@ pub fn look(
     work: &mut [u8],
 ) -> u8
     requires { ⌜ Lookable (now chart) nodes fluents characters (now chain) fluent (now work) ⌝ }
-    ensures { λ r. ⌜ Looked (now (chart .entry)) nodes fluents characters (now (chain .entry)) fluent (now (work .entry)) (now (work .exit)) r ⌝ }
+    ensures { λ r. ⌜ Looked (now (chart .entry)) nodes fluents characters (now (chain .entry)) fluent
+        (now (work .entry)) (now (work .exit)) r ⌝ }
 {
     copy_table(chart, 1, nodes, work, 0, fluents, characters);
     let t = Table {
@@ -43,7 +44,8 @@ pub fn look(
 
 // Query(pack, chart, chain, fluent, work): the fluent's value where the chain leads, or a refusal's number and place.
 pub fn query(pack: &[u8], chart: &[u8], chain: &[u8], fluent: usize, work: &mut [u8]) -> Queried
-    ensures { λ r. ⌜ Asked (now (pack .entry)) (now (chart .entry)) (now (chain .entry)) fluent (now (work .entry)) (now (work .exit)) r ⌝ }
+    ensures { λ r. ⌜ Asked (now (pack .entry)) (now (chart .entry)) (now (chain .entry)) fluent (now (work .entry))
+        (now (work .exit)) r ⌝ }
 {
     let p = read_contents(pack);
     let sizes = p.sizes;

@@ -70,7 +70,8 @@ pub fn merge_table(work: &mut [u8], n: usize, w: usize, f: usize, c: usize) -> u
     write_merged(work, t, CLASSES, MERGED)
 }
 
-// Writes the chart of what node 0 means of the nodes that are read from `first` on; its length. The work buffer is cleared.
+// Writes the chart of what node 0 means of the nodes that are read from `first` on; its length. The work buffer is
+// cleared.
 pub fn put_start(
     pack: &[u8],
     first: usize,
@@ -81,7 +82,10 @@ pub fn put_start(
     work: &mut [u8],
 ) -> usize
     requires { ⌜ Startable (now pack) first nodes fluents characters (now chart) (now work) ⌝ }
-    ensures { λ r. ⌜ ((x : Startable (now (pack .entry)) first nodes fluents characters (now (chart .entry)) (now (work .entry))) → StartPut characters (x .table) (now (chart .entry)) (now (chart .exit)) (now (work .entry)) (now (work .exit)) r) ⌝ }
+    ensures { λ r. ⌜ ((x : Startable (now (pack .entry)) first nodes fluents characters (now (chart .entry))
+        (now (work .entry)))
+        → StartPut characters (x .table) (now (chart .entry)) (now (chart .exit)) (now (work .entry))
+        (now (work .exit)) r) ⌝ }
 {
     copy_table(pack, first, nodes, work, 0, fluents, characters);
     let rows = merge_table(work, nodes, fluents + characters, fluents, characters);
@@ -100,7 +104,8 @@ pub fn put_start(
 
 // Start(pack, chart out, work): the length of the chart of node 0, which is written, or a refusal's number and place.
 pub fn start(pack: &[u8], chart: &mut [u8], work: &mut [u8]) -> Charted
-    ensures { λ r. ⌜ Started (now (pack .entry)) (now (chart .entry)) (now (work .entry)) (now (chart .exit)) (now (work .exit)) r ⌝ }
+    ensures { λ r. ⌜ Started (now (pack .entry)) (now (chart .entry)) (now (work .entry)) (now (chart .exit))
+        (now (work .exit)) r ⌝ }
 {
     let p = read_contents(pack);
     let answer = p.answer;

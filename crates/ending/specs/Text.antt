@@ -1,5 +1,6 @@
--- What the program prints. Document 01: "prints each step's place in the list (from 1) and action, then `author`, the worth before and after; or the one line `refused`,
--- number, `at`, place. Fields are one space apart, and each line ends with a line feed." Text is a list of ASCII codes.
+-- What the program prints. Document 01: "prints each step's place in the list (from 1) and action, then `author`, the
+-- worth before and after; or the one line `refused`, number, `at`, place. Fields are one space apart, and each line
+-- ends with a line feed." Text is a list of ASCII codes.
 use Prim.Native.Nat.{ℕ, zero, suc, _+_, _/_, _%_}
 use mathlib.Core.List.{List, [], _∷_, _++_}
 use lib.Dec.{ltb}

@@ -30,7 +30,8 @@ fn more() -> bool {
     libc::read(STDIN_FILENO, &mut rest) > 0
 }
 
-// Reads to the input's end. A proved loop has to end, and nothing says that the input does: it counts down from a number that no run uses up.
+// Reads to the input's end. A proved loop has to end, and nothing says that the input does: it counts down from a
+// number that no run uses up.
 fn drain() {
     let mut turns = u64::MAX;
     while turns > 0 && more() {

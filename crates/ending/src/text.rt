@@ -1,4 +1,5 @@
-// The text that the program prints, put into a lent buffer piece by piece. Each function is handed the place to begin at and hands back the place after what it put.
+// The text that the program prints, put into a lent buffer piece by piece. Each function is handed the place to begin
+// at and hands back the place after what it put.
 use pack::number::wide;
 use planner::Found;
 ghost use mathlib.Core.Path.{_≡_};
@@ -63,7 +64,8 @@ pub fn put_number(text: &mut [u8], at: usize, n: usize) -> usize
 // A step's line: its place and its action.
 pub fn put_step(text: &mut [u8], at: usize, place: usize, action: usize) -> usize
     requires { ⌜ at + 42 ≤ length (now text) ⌝ }
-    ensures { λ r. ⌜ Put (line (decimal place) (decimal action ∷ [])) (now (text .entry)) at (now (text .exit)) r × (r ≤ at + 42) ⌝ }
+    ensures { λ r. ⌜ Put (line (decimal place) (decimal action ∷ [])) (now (text .entry)) at (now (text .exit)) r
+        × (r ≤ at + 42) ⌝ }
 {
     let mut end = put_number(text, at, place);
     end = put(text, end, b' ');
@@ -74,7 +76,8 @@ pub fn put_step(text: &mut [u8], at: usize, place: usize, action: usize) -> usiz
 // The lines of the first so many steps of a list.
 pub fn put_steps(text: &mut [u8], list: &[u8], count: usize) -> usize
     requires { ⌜ (count ≤ length (now list)) × (count * 42 ≤ length (now text)) ⌝ }
-    ensures { λ r. ⌜ Put (steps 1 (take count (now (list .entry)))) (now (text .entry)) 0 (now (text .exit)) r × (r ≤ count * 42) ⌝ }
+    ensures { λ r. ⌜ Put (steps 1 (take count (now (list .entry)))) (now (text .entry)) 0 (now (text .exit)) r
+        × (r ≤ count * 42) ⌝ }
 {
     let mut end = 0;
     let mut i = 0;
@@ -113,7 +116,8 @@ pub fn put_refusal(text: &mut [u8], number: usize, place: usize) -> usize
 pub fn put_answer(text: &mut [u8], answer: Found, list: &[u8]) -> usize
     requires { ⌜ Listed answer (now list) ⌝ }
     requires { ⌜ 385 ≤ length (now text) ⌝ }
-    ensures { λ r. ⌜ Put (answerText answer (now (list .entry))) (now (text .entry)) 0 (now (text .exit)) r × (r ≤ 385) ⌝ }
+    ensures { λ r. ⌜ Put (answerText answer (now (list .entry))) (now (text .entry)) 0 (now (text .exit)) r
+        × (r ≤ 385) ⌝ }
 {
     match answer {
         Found::Refused(k, at) => put_refusal(text, wide(k), at),

@@ -1,5 +1,5 @@
-// The calls as C and Rust call them. Each hands back 0 for an answer or a refusal's number, and writes numbers into a lent report: what the answer says, or the refusal's
-// place. What that is for each call stands in specs/Exports.antt.
+// The calls as C and Rust call them. Each hands back 0 for an answer or a refusal's number, and writes numbers into a
+// lent report: what the answer says, or the refusal's place. What that is for each call stands in specs/Exports.antt.
 use chart::Charted;
 use chart::Matched;
 use chart::Queried;
@@ -22,7 +22,8 @@ ghost use Rattle.pack.specs.Reading.{pick, told};
 ghost use Rattle.chart.specs.Promises.{chartSaid};
 ghost use Rattle.planner.specs.Promises.{explainedSaid, searchSaid};
 ghost use Rattle.export.specs.Report.{reportRoom, put, numberOf, entries};
-ghost use Rattle.export.specs.Exports.{one, verdictNumbers, planNumbers, StartReturned, QueryReturned, CompareReturned, StepReturned, ExplainedReturned, SearchReturned};
+ghost use Rattle.export.specs.Exports.{one, verdictNumbers, planNumbers, StartReturned, QueryReturned};
+ghost use Rattle.export.specs.Exports.{CompareReturned, StepReturned, ExplainedReturned, SearchReturned};
 
 fn wide_byte(x: u8) -> usize
     ensures { λ r. ⌜ x ≡ r ⌝ }
@@ -48,7 +49,8 @@ fn index(x: u64) -> usize
     x as usize
 }
 
-// How much of a work buffer is lent to the call: none where the report is too short, so that 8 is told where a short buffer is.
+// How much of a work buffer is lent to the call: none where the report is too short, so that 8 is told where a short
+// buffer is.
 fn lent(report: usize, work: usize) -> usize
     ensures { λ r. ⌜ r ≡ pick (leb reportRoom report) work 0 ⌝ }
 {
@@ -85,7 +87,8 @@ fn tell_three(first: usize, second: usize, third: usize, report: &mut [u64]) -> 
 
 // Tells the length of the chart that was written, or the refusal.
 fn tell_charted(answer: Charted, report: &mut [u64]) -> u32
-    ensures { λ r. ⌜ (r ≡ numberOf (told one (chartSaid answer))) × (now (report .exit) ≡ put (entries (told one (chartSaid answer))) (now (report .entry))) ⌝ }
+    ensures { λ r. ⌜ (r ≡ numberOf (told one (chartSaid answer)))
+        × (now (report .exit) ≡ put (entries (told one (chartSaid answer))) (now (report .entry))) ⌝ }
 {
     match answer {
         Charted::Refused(k, at) => tell(k, at, report),
@@ -102,7 +105,8 @@ fn bit(x: bool) -> usize
 
 // Tells the verdict, or the refusal.
 fn tell_judged(answer: Judged, report: &mut [u64]) -> u32
-    ensures { λ r. ⌜ (r ≡ numberOf (told verdictNumbers (explainedSaid answer))) × (now (report .exit) ≡ put (entries (told verdictNumbers (explainedSaid answer))) (now (report .entry))) ⌝ }
+    ensures { λ r. ⌜ (r ≡ numberOf (told verdictNumbers (explainedSaid answer)))
+        × (now (report .exit) ≡ put (entries (told verdictNumbers (explainedSaid answer))) (now (report .entry))) ⌝ }
 {
     match answer {
         Judged::Refused(k, at) => tell(k, at, report),
@@ -112,7 +116,8 @@ fn tell_judged(answer: Judged, report: &mut [u64]) -> u32
 
 // Tells the list's length and both utilities, or the refusal.
 fn tell_found(answer: Found, report: &mut [u64]) -> u32
-    ensures { λ r. ⌜ (r ≡ numberOf (told planNumbers (searchSaid answer))) × (now (report .exit) ≡ put (entries (told planNumbers (searchSaid answer))) (now (report .entry))) ⌝ }
+    ensures { λ r. ⌜ (r ≡ numberOf (told planNumbers (searchSaid answer)))
+        × (now (report .exit) ≡ put (entries (told planNumbers (searchSaid answer))) (now (report .entry))) ⌝ }
 {
     match answer {
         Found::Refused(k, at) => tell(k, at, report),
@@ -128,7 +133,8 @@ pub extern "C" fn pirwodd_start(
     work: &mut [u8],
     report: &mut [u64],
 ) -> u32
-    ensures { λ r. ⌜ StartReturned (now (pack .entry)) (now (chart .entry)) (now (work .entry)) (now (report .entry)) (now (chart .exit)) (now (work .exit)) (now (report .exit)) r ⌝ }
+    ensures { λ r. ⌜ StartReturned (now (pack .entry)) (now (chart .entry)) (now (work .entry)) (now (report .entry))
+        (now (chart .exit)) (now (work .exit)) (now (report .exit)) r ⌝ }
 {
     let room = lent(report.len(), work.len());
     let answer = start(pack, chart, &mut work[..room]);
@@ -145,7 +151,8 @@ pub extern "C" fn pirwodd_query(
     work: &mut [u8],
     report: &mut [u64],
 ) -> u32
-    ensures { λ r. ⌜ QueryReturned (now (pack .entry)) (now (chart .entry)) (now (chain .entry)) fluent (now (work .entry)) (now (report .entry)) (now (work .exit)) (now (report .exit)) r ⌝ }
+    ensures { λ r. ⌜ QueryReturned (now (pack .entry)) (now (chart .entry)) (now (chain .entry)) fluent
+        (now (work .entry)) (now (report .entry)) (now (work .exit)) (now (report .exit)) r ⌝ }
 {
     let room = lent(report.len(), work.len());
     match query(pack, chart, chain, index(fluent), &mut work[..room]) {
@@ -164,7 +171,8 @@ pub extern "C" fn pirwodd_compare(
     work: &mut [u8],
     report: &mut [u64],
 ) -> u32
-    ensures { λ r. ⌜ CompareReturned (now (pack .entry)) (now (first .entry)) (now (second .entry)) (now (chain .entry)) (now (work .entry)) (now (report .entry)) (now (chain .exit)) (now (work .exit)) (now (report .exit)) r ⌝ }
+    ensures { λ r. ⌜ CompareReturned (now (pack .entry)) (now (first .entry)) (now (second .entry)) (now (chain .entry))
+        (now (work .entry)) (now (report .entry)) (now (chain .exit)) (now (work .exit)) (now (report .exit)) r ⌝ }
 {
     let room = lent(report.len(), work.len());
     match compare(pack, first, second, chain, &mut work[..room]) {
@@ -184,7 +192,8 @@ pub extern "C" fn pirwodd_step(
     work: &mut [u8],
     report: &mut [u64],
 ) -> u32
-    ensures { λ r. ⌜ StepReturned (now (pack .entry)) (now (chart .entry)) action (now (result .entry)) (now (work .entry)) (now (report .entry)) (now (result .exit)) (now (work .exit)) (now (report .exit)) r ⌝ }
+    ensures { λ r. ⌜ StepReturned (now (pack .entry)) (now (chart .entry)) action (now (result .entry))
+        (now (work .entry)) (now (report .entry)) (now (result .exit)) (now (work .exit)) (now (report .exit)) r ⌝ }
 {
     let room = lent(report.len(), work.len());
     let answer = step(pack, chart, index(action), result, &mut work[..room]);
@@ -203,7 +212,8 @@ pub extern "C" fn pirwodd_explained(
     work: &mut [u8],
     report: &mut [u64],
 ) -> u32
-    ensures { λ r. ⌜ ExplainedReturned (now (pack .entry)) (now (chart .entry)) character action foresight nesting (now (work .entry)) (now (report .entry)) (now (work .exit)) (now (report .exit)) r ⌝ }
+    ensures { λ r. ⌜ ExplainedReturned (now (pack .entry)) (now (chart .entry)) character action foresight nesting
+        (now (work .entry)) (now (report .entry)) (now (work .exit)) (now (report .exit)) r ⌝ }
 {
     let room = lent(report.len(), work.len());
     let answer = verdict(
@@ -229,7 +239,8 @@ pub extern "C" fn pirwodd_search(
     work: &mut [u8],
     report: &mut [u64],
 ) -> u32
-    ensures { λ r. ⌜ SearchReturned (now (pack .entry)) story foresight nesting (now (list .entry)) (now (work .entry)) (now (report .entry)) (now (list .exit)) (now (work .exit)) (now (report .exit)) r ⌝ }
+    ensures { λ r. ⌜ SearchReturned (now (pack .entry)) story foresight nesting (now (list .entry)) (now (work .entry))
+        (now (report .entry)) (now (list .exit)) (now (work .exit)) (now (report .exit)) r ⌝ }
 {
     let room = lent(report.len(), work.len());
     let answer = search(

@@ -1,4 +1,5 @@
--- When tests and conditions hold in a state, what effects write, and what a state is worth. Document 01, "The pack", its last paragraph and its last item.
+-- When tests and conditions hold in a state, what effects write, and what a state is worth. Document 01, "The pack",
+-- its last paragraph and its last item.
 use Prim.Native.Nat.{ℕ}
 use mathlib.Core.Bool.{Bool, true, false, _&&_, _||_, not, cond}
 use mathlib.Core.List.{List, [], _∷_}
@@ -32,7 +33,8 @@ unfoldable pub utility : State → List Rule → ℕ
 utility s [] = 0
 utility s (r ∷ rules) = cond (holds s (r .condition)) (r .utility) (utility s rules)
 
--- the values after the effects meant for `whom`: "The state takes the effects with whom 0, in order, later ones winning."
+-- the values after the effects meant for `whom`: "The state takes the effects with whom 0, in order, later ones
+-- winning."
 unfoldable pub write : ℕ → List Effect → List ℕ → List ℕ
 write whom [] values = values
 write whom (e ∷ es) values = write whom es (cond (eqb (e .whom) whom) (set values (e .fluent) (e .value)) values)

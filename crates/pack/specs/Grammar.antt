@@ -1,9 +1,11 @@
--- The grammar of a pack and of a chart, as readers. Each reader follows one item of document 01, "The pack", in its order.
+-- The grammar of a pack and of a chart, as readers. Each reader follows one item of document 01, "The pack", in its
+-- order.
 use Prim.Native.Nat.{ℕ, suc, _+_}
 use mathlib.Core.List.{List}
 use lib.ListN.{length, getD}
 use lib.Dec.{ltb, eqb}
-use Rattle.pack.specs.Syntax.{Kind, is, isNot, atLeast, Test, Condition, Effect, Action, Trigger, Rule, Theory, Node, Pack}
+use Rattle.pack.specs.Syntax.{Kind, is, isNot, atLeast, Test, Condition, Effect}
+use Rattle.pack.specs.Syntax.{Action, Trigger, Rule, Theory, Node, Pack}
 use Rattle.pack.specs.Reading.{Reader, pick, bind, mapped, runs, many, Reply, gives, refuses, whole}
 use Rattle.pack.specs.Number.{numberAt, between, item, counted, beliefAt, risingAt}
 
@@ -48,7 +50,8 @@ module _ (d : Dimensions) where
       bind (counted 0 5 (item (d .characters)) s at) (λ chain n.
       bind (item 3 s n) (λ kind n.
       bind (fluentAt s n) (λ fluent n.
-      mapped (λ value. record { chain = chain; kind = kindOf kind; fluent = fluent; value = value }) (valueAt fluent s n))))
+      mapped (λ value. record { chain = chain; kind = kindOf kind; fluent = fluent; value = value })
+      (valueAt fluent s n))))
 
   -- "A condition: 0 to 8 alternatives, each of 0 to 8 tests"
   unfoldable pub conditionAt : Reader Condition
@@ -69,21 +72,28 @@ module _ (d : Dimensions) where
   unfoldable pub consentersAt : Reader (List ℕ)
   consentersAt s at = bind (between 0 7 3 s at) (λ k n. runs (risingAt (d .characters)) (λ least v. v + 1) 0 k s n)
 
-  -- "a condition; effects; a count of consenters 0 to 6 and the consenters, strictly rising; a condition of observation per character"
+  -- "a condition; effects; a count of consenters 0 to 6 and the consenters, strictly rising; a condition of observation
+  -- per character"
   unfoldable pub actionAt : Reader Action
   actionAt s at =
       bind (conditionAt s at) (λ condition n.
       bind (effectsAt s n) (λ effects n.
       bind (consentersAt s n) (λ consenters n.
-      mapped (λ observed. record { condition = condition; effects = effects; consenters = consenters; observed = observed }) (many conditionAt (d .characters) s n))))
+      mapped (λ observed.
+      record { condition = condition; effects = effects; consenters = consenters; observed = observed })
+      (many conditionAt (d .characters) s n))))
 
   -- "a condition; effects"
   unfoldable pub triggerAt : Reader Trigger
-  triggerAt s at = bind (conditionAt s at) (λ condition n. mapped (λ effects. record { condition = condition; effects = effects }) (effectsAt s n))
+  triggerAt s at =
+      bind (conditionAt s at)
+      (λ condition n. mapped (λ effects. record { condition = condition; effects = effects }) (effectsAt s n))
 
   -- "each a condition and a worth"
   unfoldable pub ruleAt : Reader Rule
-  ruleAt s at = bind (conditionAt s at) (λ condition n. mapped (λ utility. record { condition = condition; utility = utility }) (numberAt s n))
+  ruleAt s at =
+      bind (conditionAt s at)
+      (λ condition n. mapped (λ utility. record { condition = condition; utility = utility }) (numberAt s n))
 
   -- "0 to 8 rules"
   unfoldable pub rulesAt : Reader (List Rule)
@@ -94,7 +104,14 @@ module _ (d : Dimensions) where
   theoryAt s at =
       bind (counted 0 33 actionAt s at) (λ actions n.
       bind (counted 0 17 triggerAt s n) (λ triggers n.
-      mapped (λ utilities. record { characters = d .characters; domains = d .domains; actions = actions; triggers = triggers; utilities = utilities }) (many rulesAt (suc (d .characters)) s n)))
+      mapped (λ utilities.
+      record {
+        characters = d .characters;
+        domains = d .domains;
+        actions = actions;
+        triggers = triggers;
+        utilities = utilities;
+      }) (many rulesAt (suc (d .characters)) s n)))
 
 -- "in this order": the head, the nodes, the rest
 unfoldable pub packAt : Reader Pack

@@ -1,10 +1,12 @@
--- How a pack is written, and which packs keep document 01's layout. `Laws.PackBack` shows that each of those, written so, is read back.
+-- How a pack is written, and which packs keep document 01's layout. `Laws.PackBack` shows that each of those, written
+-- so, is read back.
 use Prim.Native.Nat.{ℕ, suc, _+_, _/_, _%_, _<_, _≤_}
 use mathlib.Core.Path.{_≡_}
 use mathlib.Core.List.{List, [], _∷_, _++_}
 use lib.ListN.{length, getD}
 use lib.Dec.{ltb}
-use Rattle.pack.specs.Syntax.{Kind, is, isNot, atLeast, Test, Condition, Effect, Action, Trigger, Rule, Theory, Node, Pack}
+use Rattle.pack.specs.Syntax.{Kind, is, isNot, atLeast, Test, Condition, Effect}
+use Rattle.pack.specs.Syntax.{Action, Trigger, Rule, Theory, Node, Pack}
 use Rattle.pack.specs.Reading.{pick}
 
 -- "groups of seven bits, lowest first, the top bit set on all but the last"; "shortest form only"
@@ -31,7 +33,9 @@ kindNumber atLeast = 2
 
 -- "a chain length 0 to 4, its characters, a kind, a fluent, a value"
 abbrev pub testBytes : Test → List ℕ
-testBytes t = countedBytes numberBytes (t .chain) ++ (numberBytes (kindNumber (t .kind)) ++ (numberBytes (t .fluent) ++ numberBytes (t .value)))
+testBytes t =
+    countedBytes numberBytes
+    (t .chain) ++ (numberBytes (kindNumber (t .kind)) ++ (numberBytes (t .fluent) ++ numberBytes (t .value)))
 
 -- "0 to 8 alternatives, each of 0 to 8 tests"
 abbrev pub conditionBytes : Condition → List ℕ
@@ -44,7 +48,9 @@ effectBytes e = numberBytes (e .whom) ++ (numberBytes (e .fluent) ++ numberBytes
 -- "a condition; effects; a count of consenters .. and the consenters ..; a condition of observation per character"
 abbrev pub actionBytes : Action → List ℕ
 actionBytes a =
-    conditionBytes (a .condition) ++ (countedBytes effectBytes (a .effects) ++ (countedBytes numberBytes (a .consenters) ++ listBytes conditionBytes (a .observed)))
+    conditionBytes (a .condition)
+    ++ (countedBytes effectBytes
+    (a .effects) ++ (countedBytes numberBytes (a .consenters) ++ listBytes conditionBytes (a .observed)))
 
 -- "a condition; effects"
 abbrev pub triggerBytes : Trigger → List ℕ
@@ -68,7 +74,9 @@ headBytes p = numberBytes 1 ++ (numberBytes (p .characters) ++ countedBytes numb
 
 -- "actions ..; triggers ..; worths, the author's first, then each character's"
 abbrev pub theoryBytes : Theory → List ℕ
-theoryBytes p = countedBytes actionBytes (p .actions) ++ (countedBytes triggerBytes (p .triggers) ++ listBytes (countedBytes ruleBytes) (p .utilities))
+theoryBytes p =
+    countedBytes actionBytes
+    (p .actions) ++ (countedBytes triggerBytes (p .triggers) ++ listBytes (countedBytes ruleBytes) (p .utilities))
 
 -- "and in this order"
 unfoldable pub packBytes : Pack → List ℕ

@@ -1,13 +1,15 @@
--- The number that starts at a position, and a number with its limits. Document 01, "The pack" and "Numbers handed back".
+-- The number that starts at a position, and a number with its limits. Document 01, "The pack" and "Numbers handed
+-- back".
 use Prim.Native.Nat.{ℕ, _+_, _*_, _%_, _-_}
 use mathlib.Core.List.{List}
 use lib.ListN.{length, getD}
 use lib.Dec.{ltb, leb, eqb}
 use Rattle.pack.specs.Reading.{done, refused, Reader, pick, bind, many}
 
--- "A number is written in groups of seven bits, lowest first, the top bit (80 hexadecimal) set on all but the last; at most three bytes, at most 65,535,
--- shortest form only." A last group of 0 behind others is not shortest (2); a third byte above 3 is above 65,535 or not the last (2).
--- "bytes end in a number of which fewer than three are there" is 1, at "the length of what was lent"; 2 is at "the first byte of the number at fault".
+-- "A number is written in groups of seven bits, lowest first, the top bit (80 hexadecimal) set on all but the last; at
+-- most three bytes, at most 65,535, shortest form only." A last group of 0 behind others is not shortest (2); a third
+-- byte above 3 is above 65,535 or not the last (2). "bytes end in a number of which fewer than three are there" is 1,
+-- at "the length of what was lent"; 2 is at "the first byte of the number at fault".
 unfoldable pub numberAt : Reader ℕ
 numberAt s at =
     let a : ℕ = getD s at 0 in
@@ -26,7 +28,8 @@ numberAt s at =
 -- a number from low up to, not including, limit; any other is refused under the number given, at its first byte
 unfoldable pub between : (low limit number : ℕ) → Reader ℕ
 between low limit number s at =
-    bind (numberAt s at) (λ v n. pick (ltb v low) (refused number at) (pick (ltb v limit) (done v n) (refused number at)))
+    bind (numberAt s at)
+    (λ v n. pick (ltb v low) (refused number at) (pick (ltb v limit) (done v n) (refused number at)))
 
 -- one of the things that are numbered from 0: "character, fluent, value, node, whom or kind that isn't there" is 4
 abbrev pub item : (limit : ℕ) → Reader ℕ

@@ -7,8 +7,8 @@ use lib.ListN.{getD, length}
 use lib.Dec.{ltb}
 use Rattle.pack.specs.Syntax.{Node}
 
--- Document 01, "Charts": "A state means one thing: for each chain of characters of any length, the fluent values found where it leads".
--- "Two states are the same exactly when all these agree": that is equality of these functions.
+-- Document 01, "Charts": "A state means one thing: for each chain of characters of any length, the fluent values found
+-- where it leads". "Two states are the same exactly when all these agree": that is equality of these functions.
 abbrev pub State : Type 0
 State = List ℕ → List ℕ
 

@@ -1,4 +1,5 @@
--- What a pack says, apart from its bytes. Document 01, "The pack": "A pack has at most 8,192 bytes, and in this order: ..".
+-- What a pack says, apart from its bytes. Document 01, "The pack": "A pack has at most 8,192 bytes, and in this order:
+-- ..".
 use Prim.Native.Nat.{ℕ}
 use mathlib.Core.List.{List}
 
@@ -17,13 +18,15 @@ pub record Test : Type 0 where
 abbrev pub Condition : Type 0
 Condition = List (List Test)
 
--- "Effects: a count 0 to 16, each with whom (0 the state itself, character + 1 that character's belief), fluent, value."
+-- "Effects: a count 0 to 16, each with whom (0 the state itself, character + 1 that character's belief), fluent,
+-- value."
 pub record Effect : Type 0 where
   pub whom : ℕ
   pub fluent : ℕ
   pub value : ℕ
 
--- "actions 0 to 32: a condition; effects; a count of consenters 0 to 6 and the consenters, strictly rising; a condition of observation per character"
+-- "actions 0 to 32: a condition; effects; a count of consenters 0 to 6 and the consenters, strictly rising; a condition
+-- of observation per character"
 pub record Action : Type 0 where
   pub condition : Condition
   pub effects : List Effect

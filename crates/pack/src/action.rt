@@ -1,5 +1,5 @@
-// Actions: checked, with the places of their parts. Action i has nine places from 9 * i on: its condition, its effects, its consenters,
-// and the observation condition of each character.
+// Actions: checked, with the places of their parts. Action i has nine places from 9 * i on: its condition, its effects,
+// its consenters, and the observation condition of each character.
 use crate::condition::check_condition;
 use crate::effect::check_consenters;
 use crate::effect::check_effects;
@@ -24,7 +24,8 @@ pub fn read_observed(
     base: usize,
 ) -> Checked
     requires { ⌜ (base + characters ≤ length (now places)) × Within (now s) at ⌝ }
-    ensures { λ r. ⌜ ObservedRead (dims characters (now (domains .entry))) (now (s .entry)) at base (now (places .entry)) (now (places .exit)) r ⌝ }
+    ensures { λ r. ⌜ ObservedRead (dims characters (now (domains .entry))) (now (s .entry)) at base
+        (now (places .entry)) (now (places .exit)) r ⌝ }
 {
     let mut i: usize = 0;
     let mut n = at;
@@ -55,7 +56,8 @@ pub fn read_action(
     base: usize,
 ) -> Checked
     requires { ⌜ (characters ≤ 6) × (base + 9 ≤ length (now places)) × Within (now s) at ⌝ }
-    ensures { λ r. ⌜ ActionRead (dims characters (now (domains .entry))) (now (s .entry)) at base (now (places .entry)) (now (places .exit)) r ⌝ }
+    ensures { λ r. ⌜ ActionRead (dims characters (now (domains .entry))) (now (s .entry)) at base (now (places .entry))
+        (now (places .exit)) r ⌝ }
 {
     places[base] = at as u16;
     match check_condition(s, at, characters, domains) {

@@ -65,7 +65,8 @@ pub fn check_test(s: &[u8], at: usize, characters: usize, domains: &[u8]) -> Che
 
 // An alternative: a count of tests, and the tests, of which plain ones are passed over at once.
 pub fn check_alternative(s: &[u8], at: usize, characters: usize, domains: &[u8]) -> Checked
-    ensures { λ r. ⌜ mapped forget (counted 0 9 (testAt (dims characters (now (domains .entry)))) (now (s .entry)) at) ≡ shown r ⌝ }
+    ensures { λ r. ⌜ mapped forget (counted 0 9 (testAt (dims characters (now (domains .entry)))) (now (s .entry)) at)
+        ≡ shown r ⌝ }
 {
     match read_between(s, at, 0, 9, LIMIT) {
         Number::Refused(k, p) => Checked::Refused(k, p),
@@ -96,7 +97,8 @@ pub fn check_alternative(s: &[u8], at: usize, characters: usize, domains: &[u8])
 
 // A condition: a count of alternatives, and the alternatives.
 pub fn check_condition(s: &[u8], at: usize, characters: usize, domains: &[u8]) -> Checked
-    ensures { λ r. ⌜ mapped forget (conditionAt (dims characters (now (domains .entry))) (now (s .entry)) at) ≡ shown r ⌝ }
+    ensures { λ r. ⌜ mapped forget (conditionAt (dims characters (now (domains .entry))) (now (s .entry)) at)
+        ≡ shown r ⌝ }
 {
     match read_between(s, at, 0, 9, LIMIT) {
         Number::Refused(k, p) => Checked::Refused(k, p),

@@ -1,4 +1,5 @@
-// The nodes of a pack or chart, copied into a table in a lent buffer. Every number of a node is one byte, and a belief is written plus 1.
+// The nodes of a pack or chart, copied into a table in a lent buffer. Every number of a node is one byte, and a belief
+// is written plus 1.
 ghost use Prim.Native.Nat.{_<_, _+_, _*_};
 ghost use Rattle.pack.specs.Contracts.Copy.{Copyable, Copied, RowCopyable, RowCopied, TableCopyable, TableCopied};
 
@@ -24,7 +25,8 @@ pub fn copy_row(
     characters: usize,
 )
     requires { ⌜ RowCopyable (now s) from (now buffer) to fluents characters ⌝ }
-    ensures { λ _. ⌜ RowCopied (now (s .entry)) from (now (buffer .entry)) (now (buffer .exit)) to fluents characters ⌝ }
+    ensures { λ _. ⌜ RowCopied (now (s .entry)) from (now (buffer .entry))
+        (now (buffer .exit)) to fluents characters ⌝ }
 {
     copy_bytes(s, from, buffer, to, fluents, 0);
     copy_bytes(s, from + fluents, buffer, to + fluents, characters, 1);
@@ -41,7 +43,8 @@ pub fn copy_table(
     characters: usize,
 )
     requires { ⌜ TableCopyable (now s) at nodes (now buffer) base fluents characters ⌝ }
-    ensures { λ _. ⌜ TableCopied (now (s .entry)) at nodes (now (buffer .entry)) (now (buffer .exit)) base fluents characters ⌝ }
+    ensures { λ _. ⌜ TableCopied (now (s .entry)) at nodes (now (buffer .entry))
+        (now (buffer .exit)) base fluents characters ⌝ }
 {
     buffer[base] = nodes as u8;
     let width = fluents + characters;

@@ -27,7 +27,8 @@ pub fn check_effect(s: &[u8], at: usize, characters: usize, domains: &[u8]) -> C
 // A count of effects, and the effects.
 pub fn check_effects(s: &[u8], at: usize, characters: usize, domains: &[u8]) -> Checked
     requires { ⌜ characters ≤ 6 ⌝ }
-    ensures { λ r. ⌜ mapped forget (effectsAt (dims characters (now (domains .entry))) (now (s .entry)) at) ≡ shown r ⌝ }
+    ensures { λ r. ⌜ mapped forget (effectsAt (dims characters (now (domains .entry))) (now (s .entry)) at)
+        ≡ shown r ⌝ }
 {
     match read_between(s, at, 0, 17, LIMIT) {
         Number::Refused(k, p) => Checked::Refused(k, p),
@@ -52,7 +53,8 @@ pub fn check_effects(s: &[u8], at: usize, characters: usize, domains: &[u8]) -> 
 
 // A count of consenters, and the consenters, strictly rising.
 pub fn check_consenters(s: &[u8], at: usize, characters: usize, domains: &[u8]) -> Checked
-    ensures { λ r. ⌜ mapped forget (consentersAt (dims characters (now (domains .entry))) (now (s .entry)) at) ≡ shown r ⌝ }
+    ensures { λ r. ⌜ mapped forget (consentersAt (dims characters (now (domains .entry))) (now (s .entry)) at)
+        ≡ shown r ⌝ }
 {
     match read_between(s, at, 0, 7, LIMIT) {
         Number::Refused(k, p) => Checked::Refused(k, p),

@@ -6,7 +6,8 @@ ghost use Rattle.pack.specs.Grammar.{effectAt, effectsAt};
 ghost use Rattle.pack.specs.Contracts.Judge.{Readable, Tells, Ends};
 ghost use Rattle.pack.specs.Contracts.Effects.{asks, someOf};
 
-// What is asked of an effect: that it is meant for whom, for anybody's belief, or that it writes a fluent of the state itself.
+// What is asked of an effect: that it is meant for whom, for anybody's belief, or that it writes a fluent of the state
+// itself.
 pub enum Wanted {
     For(usize),
     Belief,

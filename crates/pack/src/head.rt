@@ -63,8 +63,8 @@ pub fn no_head(k: u8, p: usize) -> Head
     }
 }
 
-// The domain sizes, and with them the head, behind version, characters and fluents; the first refusal of these is handed
-// on.
+// The domain sizes, and with them the head, behind version, characters and fluents; the first refusal of these is
+// handed on.
 pub fn domains_after(
     s: &[u8],
     at: usize,

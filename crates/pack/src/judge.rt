@@ -34,7 +34,8 @@ pub fn compare(kind: u8, x: u8, value: u8) -> bool
 // Whether a test holds where its chain leads.
 pub fn passes(s: &[u8], at: usize, buffer: &[u8], t: Table, node: usize) -> bool
     requires { ⌜ Judged testAt (now s) at t (now buffer) node ⌝ }
-    ensures { λ r. ⌜ ((d : Dimensions) → Over d t → (x : Test) (n : ℕ) → testAt d (now (s .entry)) at ≡ done x n → r ≡ Rattle.pack.specs.Condition.passes (stateOf t (now (buffer .entry)) node) x) ⌝ }
+    ensures { λ r. ⌜ ((d : Dimensions) → Over d t → (x : Test) (n : ℕ) → testAt d (now (s .entry)) at ≡ done x n
+        → r ≡ Rattle.pack.specs.Condition.passes (stateOf t (now (buffer .entry)) node) x) ⌝ }
 {
     let count = wide(s[at]);
     let there = follow(s, at + 1, count, buffer, t, node);
@@ -46,7 +47,8 @@ pub fn passes(s: &[u8], at: usize, buffer: &[u8], t: Table, node: usize) -> bool
 // Whether all tests of an alternative hold.
 pub fn all_pass(s: &[u8], at: usize, buffer: &[u8], t: Table, node: usize) -> bool
     requires { ⌜ Judged alternativeAt (now s) at t (now buffer) node ⌝ }
-    ensures { λ r. ⌜ ((d : Dimensions) → Over d t → (ts : List Test) (n : ℕ) → alternativeAt d (now (s .entry)) at ≡ done ts n → r ≡ allPass (stateOf t (now (buffer .entry)) node) ts) ⌝ }
+    ensures { λ r. ⌜ ((d : Dimensions) → Over d t → (ts : List Test) (n : ℕ)
+        → alternativeAt d (now (s .entry)) at ≡ done ts n → r ≡ allPass (stateOf t (now (buffer .entry)) node) ts) ⌝ }
 {
     let mut n = at + 1;
     let mut left = wide(s[at]);
@@ -65,7 +67,8 @@ pub fn all_pass(s: &[u8], at: usize, buffer: &[u8], t: Table, node: usize) -> bo
 // The place after an alternative.
 pub fn after_alternative(s: &[u8], at: usize) -> usize
     requires { ⌜ Readable alternativeAt (now s) at ⌝ }
-    ensures { λ r. ⌜ ((d : Dimensions) → Small d → (ts : List Test) (n : ℕ) → alternativeAt d (now (s .entry)) at ≡ done ts n → r ≡ n) ⌝ }
+    ensures { λ r. ⌜ ((d : Dimensions) → Small d → (ts : List Test) (n : ℕ)
+        → alternativeAt d (now (s .entry)) at ≡ done ts n → r ≡ n) ⌝ }
 {
     let mut n = at + 1;
     let mut left = wide(s[at]);
@@ -79,7 +82,9 @@ pub fn after_alternative(s: &[u8], at: usize) -> usize
 // Whether some alternative of a condition holds.
 pub fn holds(s: &[u8], at: usize, buffer: &[u8], t: Table, node: usize) -> bool
     requires { ⌜ Judged conditionAt (now s) at t (now buffer) node ⌝ }
-    ensures { λ r. ⌜ ((d : Dimensions) → Over d t → (c : Condition) (n : ℕ) → conditionAt d (now (s .entry)) at ≡ done c n → r ≡ Rattle.pack.specs.Condition.holds (stateOf t (now (buffer .entry)) node) c) ⌝ }
+    ensures { λ r. ⌜ ((d : Dimensions) → Over d t → (c : Condition) (n : ℕ)
+        → conditionAt d (now (s .entry)) at ≡ done c n
+        → r ≡ Rattle.pack.specs.Condition.holds (stateOf t (now (buffer .entry)) node) c) ⌝ }
 {
     let mut n = at + 1;
     let mut left = wide(s[at]);
@@ -100,7 +105,8 @@ pub fn holds(s: &[u8], at: usize, buffer: &[u8], t: Table, node: usize) -> bool
 // The place after a condition.
 pub fn after_condition(s: &[u8], at: usize) -> usize
     requires { ⌜ Readable conditionAt (now s) at ⌝ }
-    ensures { λ r. ⌜ ((d : Dimensions) → Small d → (c : Condition) (n : ℕ) → conditionAt d (now (s .entry)) at ≡ done c n → r ≡ n) ⌝ }
+    ensures { λ r. ⌜ ((d : Dimensions) → Small d → (c : Condition) (n : ℕ)
+        → conditionAt d (now (s .entry)) at ≡ done c n → r ≡ n) ⌝ }
 {
     let mut n = at + 1;
     let mut left = wide(s[at]);
@@ -114,7 +120,9 @@ pub fn after_condition(s: &[u8], at: usize) -> usize
 // What a state is worth by rules: the number of the first rule whose condition holds, or 0.
 pub fn utility(s: &[u8], at: usize, buffer: &[u8], t: Table, node: usize) -> usize
     requires { ⌜ Judged rulesAt (now s) at t (now buffer) node ⌝ }
-    ensures { λ r. ⌜ ((d : Dimensions) → Over d t → (rules : List Rule) (n : ℕ) → rulesAt d (now (s .entry)) at ≡ done rules n → r ≡ Rattle.pack.specs.Condition.utility (stateOf t (now (buffer .entry)) node) rules) ⌝ }
+    ensures { λ r. ⌜ ((d : Dimensions) → Over d t → (rules : List Rule) (n : ℕ)
+        → rulesAt d (now (s .entry)) at ≡ done rules n
+        → r ≡ Rattle.pack.specs.Condition.utility (stateOf t (now (buffer .entry)) node) rules) ⌝ }
 {
     let mut n = at + 1;
     let mut left = wide(s[at]);

@@ -1,4 +1,5 @@
-// The node part of a pack, a count and for each node its values and its beliefs; and a chart, which is that part by itself.
+// The node part of a pack, a count and for each node its values and its beliefs; and a chart, which is that part by
+// itself.
 use crate::head::Head;
 use crate::number::Checked;
 use crate::number::Number;
@@ -63,7 +64,8 @@ pub fn check_beliefs(s: &[u8], at: usize, characters: usize, nodes: usize) -> Ch
 
 // A node of so many: its values, then its beliefs.
 pub fn check_node(s: &[u8], at: usize, characters: usize, domains: &[u8], nodes: usize) -> Checked
-    ensures { λ r. ⌜ mapped forget (nodeAt (dims characters (now (domains .entry))) nodes (now (s .entry)) at) ≡ shown r ⌝ }
+    ensures { λ r. ⌜ mapped forget (nodeAt (dims characters (now (domains .entry))) nodes (now (s .entry)) at)
+        ≡ shown r ⌝ }
 {
     match check_values(s, at, domains) {
         Checked::Refused(k, p) => Checked::Refused(k, p),
@@ -73,7 +75,8 @@ pub fn check_node(s: &[u8], at: usize, characters: usize, domains: &[u8], nodes:
 
 // So many nodes.
 pub fn check_rows(s: &[u8], at: usize, characters: usize, domains: &[u8], nodes: usize) -> Checked
-    ensures { λ r. ⌜ mapped forget (many (nodeAt (dims characters (now (domains .entry))) nodes) nodes (now (s .entry)) at) ≡ shown r ⌝ }
+    ensures { λ r. ⌜ mapped forget
+        (many (nodeAt (dims characters (now (domains .entry))) nodes) nodes (now (s .entry)) at) ≡ shown r ⌝ }
 {
     let mut n = at;
     let mut left = nodes;
@@ -130,7 +133,8 @@ pub fn check_nodes(s: &[u8], at: usize, characters: usize, domains: &[u8]) -> Nu
 
 // How many nodes a chart has, or its refusal: 20 more than a pack's.
 pub fn check_chart(s: &[u8], characters: usize, domains: &[u8]) -> Number
-    ensures { λ r. ⌜ told length (inChart (whole (nodesAt (dims characters (now (domains .entry)))) (now (s .entry)))) ≡ repliedCount r ⌝ }
+    ensures { λ r. ⌜ told length (inChart (whole (nodesAt (dims characters (now (domains .entry)))) (now (s .entry))))
+        ≡ repliedCount r ⌝ }
 {
     match check_nodes(s, 0, characters, domains) {
         Number::Refused(k, p) => Number::Refused(k + IN_CHART, p),

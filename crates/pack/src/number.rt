@@ -27,7 +27,8 @@ pub fn wide(x: u8) -> usize
     x as usize
 }
 
-// The number that starts at a position: groups of seven bits, lowest first, at most three bytes, shortest form, at most 65,535.
+// The number that starts at a position: groups of seven bits, lowest first, at most three bytes, shortest form, at most
+// 65,535.
 pub fn read_number(s: &[u8], at: usize) -> Number
     ensures { λ r. ⌜ numberAt (now (s .entry)) at ≡ said r ⌝ }
 {

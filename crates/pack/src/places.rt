@@ -1,11 +1,12 @@
-// Where the places of a pack's parts stand among those that are marked. Those of the actions come first, nine for each: condition, effects, consenters, and an observation condition for
-// each character. Behind them are those of the triggers, two for each, and of the utilities, one for each.
+// Where the places of a pack's parts stand among those that are marked. Those of the actions come first, nine for each:
+// condition, effects, consenters, and an observation condition for each character. Behind them are those of the
+// triggers, two for each, and of the utilities, one for each.
 //
 // A place has 16 bits: no accepted pack has more than 8,192 bytes, and what is read within them ends within them. All
 // are set to 0 before they are marked, and each line of cache beside the work buffer costs time.
 
-// How many places there are for an action; its condition is the first of them, and these are its effects, its consenters and
-// the first character's observation condition.
+// How many places there are for an action; its condition is the first of them, and these are its effects, its
+// consenters and the first character's observation condition.
 pub const ACTION: usize = 9;
 
 pub const EFFECTS: usize = 1;

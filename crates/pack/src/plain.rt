@@ -1,5 +1,6 @@
-// Plain tests: each number is one byte and in range. Every test of an accepted pack is plain, and is passed over at once. Any other is read
-// number by number, which finds the fault, so only where these functions say yes do they promise something.
+// Plain tests: each number is one byte and in range. Every test of an accepted pack is plain, and is passed over at
+// once. Any other is read number by number, which finds the fault, so only where these functions say yes do they
+// promise something.
 use crate::number::wide;
 ghost use Prim.Native.Nat.{_+_, _<_, _≤_};
 ghost use lib.ListN.{length};
@@ -21,7 +22,8 @@ pub fn byte_limit(limit: usize) -> usize
 // Whether a chain's characters are plain: count of them, from a position on.
 pub fn plain_chain(s: &[u8], at: usize, characters: usize, count: usize) -> bool
     requires { ⌜ at + count ≤ length (now s) ⌝ }
-    ensures { λ r. ⌜ (r ≡ true → mapped forget (many (item characters) count (now (s .entry)) at) ≡ done tt (at + count)) ⌝ }
+    ensures { λ r. ⌜ (r ≡ true
+        → mapped forget (many (item characters) count (now (s .entry)) at) ≡ done tt (at + count)) ⌝ }
 {
     let limit = byte_limit(characters);
     let mut n = at;
@@ -50,7 +52,8 @@ pub fn plain_claim(s: &[u8], at: usize, domains: &[u8]) -> bool
 
 // The place after a test, where it is plain, and else its own place.
 pub fn plain_test(s: &[u8], at: usize, characters: usize, domains: &[u8]) -> usize
-    ensures { λ r. ⌜ (at < r → mapped forget (testAt (dims characters (now (domains .entry))) (now (s .entry)) at) ≡ done tt r) ⌝ }
+    ensures { λ r. ⌜ (at < r
+        → mapped forget (testAt (dims characters (now (domains .entry))) (now (s .entry)) at) ≡ done tt r) ⌝ }
 {
     if s.len() <= at {
         return at;

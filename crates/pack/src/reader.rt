@@ -87,7 +87,8 @@ pub fn actions<'a, 'b>(r: Reader<'a>, h: Head, earlier: Number, places: &'b mut 
 // The triggers: how many there are, with the places of their parts.
 pub fn triggers<'a, 'b>(r: Reader<'a>, h: Head, earlier: Number, places: &'b mut [u16]) -> Number
     requires { ⌜ Ready (now (r .src)) (r .at) h (now places) ⌝ }
-    ensures { λ n. ⌜ TriggersAfter h earlier (now (r .entry .src)) (r .entry .at) (now (places .entry)) (now (places .exit)) n ⌝ }
+    ensures { λ n. ⌜ TriggersAfter h earlier (now (r .entry .src)) (r .entry .at) (now (places .entry))
+        (now (places .exit)) n ⌝ }
 {
     triggers_after(r.src, r.at, h, earlier, places)
 }
@@ -95,7 +96,8 @@ pub fn triggers<'a, 'b>(r: Reader<'a>, h: Head, earlier: Number, places: &'b mut
 // The utilities, with their places.
 pub fn utilities<'a, 'b>(r: Reader<'a>, h: Head, earlier: Number, places: &'b mut [u16]) -> Checked
     requires { ⌜ Ready (now (r .src)) (r .at) h (now places) ⌝ }
-    ensures { λ n. ⌜ UtilitiesAfter h earlier (now (r .entry .src)) (r .entry .at) (now (places .entry)) (now (places .exit)) n ⌝ }
+    ensures { λ n. ⌜ UtilitiesAfter h earlier (now (r .entry .src)) (r .entry .at) (now (places .entry))
+        (now (places .exit)) n ⌝ }
 {
     utilities_after(r.src, r.at, h, earlier, places)
 }

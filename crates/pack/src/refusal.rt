@@ -1,7 +1,7 @@
 // The numbers of refusals, each in this one place; what they mean is document 01's table.
 
-// Of a pack: its bytes end in a number, a number is in no shortest form, a count or size is outside its limits, something isn't
-// there, a belief is blank, consenters don't rise, bytes come after the end.
+// Of a pack: its bytes end in a number, a number is in no shortest form, a count or size is outside its limits,
+// something isn't there, a belief is blank, consenters don't rise, bytes come after the end.
 pub const ENDS: u8 = 1;
 
 pub const FORM: u8 = 2;

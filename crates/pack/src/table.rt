@@ -17,8 +17,10 @@ pub struct Table {
 
 // The node where a chain leads: count characters, from a place on.
 pub fn follow(s: &[u8], at: usize, count: usize, buffer: &[u8], t: Table, node: usize) -> usize
-    requires { ⌜ TableFits t (now buffer) × (node < t .nodes) × (at + count ≤ length (now s)) × Valid (t .characters) (bytesAt (now s) at count) ⌝ }
-    ensures { λ r. ⌜ (r ≡ walk (tableOf t (now (buffer .entry))) node (bytesAt (now (s .entry)) at count)) × (r < t .nodes) ⌝ }
+    requires { ⌜ TableFits t (now buffer) × (node < t .nodes) × (at + count ≤ length (now s))
+        × Valid (t .characters) (bytesAt (now s) at count) ⌝ }
+    ensures { λ r. ⌜ (r ≡ walk (tableOf t (now (buffer .entry))) node (bytesAt (now (s .entry)) at count))
+        × (r < t .nodes) ⌝ }
 {
     let mut there = node;
     let mut n = at;

@@ -1,4 +1,5 @@
-// Triggers: checked, with the places of their parts. Trigger i has two places from 288 + 2 * i on: its condition and its effects.
+// Triggers: checked, with the places of their parts. Trigger i has two places from 288 + 2 * i on: its condition and
+// its effects.
 use crate::condition::check_condition;
 use crate::effect::check_effects;
 use crate::head::Head;
@@ -23,7 +24,8 @@ pub fn read_trigger(
     base: usize,
 ) -> Checked
     requires { ⌜ (characters ≤ 6) × (base + 2 ≤ length (now places)) × Within (now s) at ⌝ }
-    ensures { λ r. ⌜ TriggerRead (dims characters (now (domains .entry))) (now (s .entry)) at base (now (places .entry)) (now (places .exit)) r ⌝ }
+    ensures { λ r. ⌜ TriggerRead (dims characters (now (domains .entry))) (now (s .entry)) at base (now (places .entry))
+        (now (places .exit)) r ⌝ }
 {
     places[base] = at as u16;
     match check_condition(s, at, characters, domains) {
@@ -44,7 +46,8 @@ pub fn read_triggers(
     places: &mut [u16],
 ) -> Number
     requires { ⌜ (characters ≤ 6) × (327 ≤ length (now places)) × Within (now s) at ⌝ }
-    ensures { λ r. ⌜ TriggersRead (dims characters (now (domains .entry))) (now (s .entry)) at (now (places .entry)) (now (places .exit)) r ⌝ }
+    ensures { λ r. ⌜ TriggersRead (dims characters (now (domains .entry))) (now (s .entry)) at (now (places .entry))
+        (now (places .exit)) r ⌝ }
 {
     match read_between(s, at, 0, 17, LIMIT) {
         Number::Refused(k, p) => Number::Refused(k, p),

@@ -1,4 +1,5 @@
-// Utilities ("worths"): rules, each a condition and a number. The rules of the author and of each character have a place each, from 320 on.
+// Utilities ("worths"): rules, each a condition and a number. The rules of the author and of each character have a
+// place each, from 320 on.
 use crate::condition::check_condition;
 use crate::head::Head;
 use crate::number::Checked;
@@ -63,7 +64,8 @@ pub fn read_utilities(
     places: &mut [u16],
 ) -> Checked
     requires { ⌜ (characters ≤ 6) × (327 ≤ length (now places)) × Within (now s) at ⌝ }
-    ensures { λ r. ⌜ UtilitiesRead (dims characters (now (domains .entry))) (now (s .entry)) at (now (places .entry)) (now (places .exit)) r ⌝ }
+    ensures { λ r. ⌜ UtilitiesRead (dims characters (now (domains .entry))) (now (s .entry)) at (now (places .entry))
+        (now (places .exit)) r ⌝ }
 {
     let mut i: usize = 0;
     let mut n = at;

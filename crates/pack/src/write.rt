@@ -45,7 +45,8 @@ pub fn write_effects(
 // How many consenters there are.
 pub fn consenters(s: &[u8], at: usize) -> usize
     requires { ⌜ Readable consentersAt (now s) at ⌝ }
-    ensures { λ r. ⌜ ((d : Dimensions) → Small d → (cs : List ℕ) (n : ℕ) → consentersAt d (now (s .entry)) at ≡ done cs n → r ≡ length cs) ⌝ }
+    ensures { λ r. ⌜ ((d : Dimensions) → Small d → (cs : List ℕ) (n : ℕ)
+        → consentersAt d (now (s .entry)) at ≡ done cs n → r ≡ length cs) ⌝ }
 {
     wide(s[at])
 }
@@ -53,7 +54,8 @@ pub fn consenters(s: &[u8], at: usize) -> usize
 // One of the consenters.
 pub fn consenter(s: &[u8], at: usize, i: usize) -> usize
     requires { ⌜ Readable consentersAt (now s) at × (i < getD (now s) at 0) ⌝ }
-    ensures { λ r. ⌜ ((d : Dimensions) → Small d → (cs : List ℕ) (n : ℕ) → consentersAt d (now (s .entry)) at ≡ done cs n → r ≡ getD cs i 0) ⌝ }
+    ensures { λ r. ⌜ ((d : Dimensions) → Small d → (cs : List ℕ) (n : ℕ)
+        → consentersAt d (now (s .entry)) at ≡ done cs n → r ≡ getD cs i 0) ⌝ }
 {
     wide(s[at + 1 + i])
 }

@@ -1,4 +1,5 @@
--- What Explained and Search give, as functions of a table. `Laws.Answers` shows that they are what `Explained` and `Searched` say over chains, and nothing else is.
+-- What Explained and Search give, as functions of a table. `Laws.Answers` shows that they are what `Explained` and
+-- `Searched` say over chains, and nothing else is.
 use Prim.Native.Nat.{ℕ}
 use mathlib.Core.Bool.{Bool, true, false}
 use mathlib.Core.List.{List}
@@ -16,7 +17,8 @@ says (no x) = false
 
 -- whether character c's action a is explained in the state that the table means; of what is no table it says nothing
 unfoldable pub explainedTable : (p : Theory) (foresight nesting c a : ℕ) → List Node → Bool
-explainedTable p K e c a t = onTable (p .characters) t (λ x. says (explained? p K e c a (meaning (p .characters) t 0) x)) false
+explainedTable p K e c a t =
+    onTable (p .characters) t (λ x. says (explained? p K e c a (meaning (p .characters) t 0) x)) false
 
 -- the first of all lists, shorter first and then by action numbers, that is an ending
 unfoldable pub searchTable : (p : Theory) (story foresight nesting : ℕ) → List Node → Answer

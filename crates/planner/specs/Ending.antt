@@ -1,4 +1,5 @@
--- Explanation and ending, over states that chains define. Document 01, "Worth, explanation, ending"; a worth is a utility here.
+-- Explanation and ending, over states that chains define. Document 01, "Worth, explanation, ending"; a worth is a
+-- utility here.
 use Prim.Native.Nat.{ℕ, zero, suc, _<_, _≤_}
 use mathlib.Core.Path.{_≡_}
 use mathlib.Core.List.{List, [], _∷_, List·Memᴰ}
@@ -17,9 +18,11 @@ abbrev pub utilityTo : Theory → ℕ → State → ℕ
 utilityTo p c s = utility s (getD (p .utilities) (suc c) [])
 
 module _ (p : Theory) where
-  -- a list of actions leads from s to s′: "its first action is playable there, and each later one in the state that the action before it leaves"; and each consenter
-  -- that is `asked` is `content` with the action "in the state before that action"
-  unfoldable pub Leads : (asked : ℕ → Type 0) → (content : (character action : ℕ) → State → Type 0) → State → List ℕ → State → Type 0
+  -- a list of actions leads from s to s′: "its first action is playable there, and each later one in the state that the
+  -- action before it leaves"; and each consenter that is `asked` is `content` with the action "in the state before that
+  -- action"
+  unfoldable pub Leads : (asked : ℕ → Type 0) → (content : (character action : ℕ) → State → Type 0) → State → List ℕ
+      → State → Type 0
   Leads asked content s [] s′ = s ≡ s′
   Leads asked content s (a ∷ rest) s′ =
       (t : State) × Plays p s a t
@@ -28,8 +31,9 @@ module _ (p : Theory) where
 
   -- the foresight limit K
   module _ (foresight : ℕ) where
-    -- "Explained(c, a, s, e) is no at e = 0. Else let b0 be c's belief in s. It is yes if some list of 1 to K actions beginning with a is playable from b0, ends with
-    -- c's worth above that in b0, and from its second action on has Explained at e - 1, in the state before that action, for each consenter other than c"
+    -- "Explained(c, a, s, e) is no at e = 0. Else let b0 be c's belief in s. It is yes if some list of 1 to K actions
+    -- beginning with a is playable from b0, ends with c's worth above that in b0, and from its second action on has
+    -- Explained at e - 1, in the state before that action, for each consenter other than c"
     unfoldable pub Explained : (nesting character action : ℕ) → State → Type 0
     Explained zero c a s = ⊥
     Explained (suc e) c a s =
@@ -39,8 +43,8 @@ module _ (p : Theory) where
         × Leads (λ d. d ≡ c → ⊥) (Explained e) t rest s′
         × (utilityTo p c (belief s c) < utilityTo p c s′)
 
-  -- "An ending is a list of 1 to T actions, each playable, each explained at E, in the state before it, to all its consenters (none: explained), with the author's
-  -- worth higher at its end than at the start."
+  -- "An ending is a list of 1 to T actions, each playable, each explained at E, in the state before it, to all its
+  -- consenters (none: explained), with the author's worth higher at its end than at the start."
   pub record Ending (story foresight nesting : ℕ) (s : State) (list : List ℕ) : Type 0 where
     pub some : 0 < length list
     pub within : length list ≤ story

@@ -1,4 +1,5 @@
--- What Explained and Search promise of every call: the answer, and every lent buffer at its end, as equations with the reply. A buffer's name with ′ is what it holds at exit.
+-- What Explained and Search promise of every call: the answer, and every lent buffer at its end, as equations with the
+-- reply. A buffer's name with ′ is what it holds at exit.
 use Prim.Native.Nat.{ℕ}
 use mathlib.Core.Path.{_≡_}
 use mathlib.Core.Bool.{Bool}
@@ -33,12 +34,14 @@ searchSaid (found.Ending count before after) = gives (record { count = count; be
 searchSaid (found.Refused number place) = refuses number place
 
 -- Explained(pack, chart, character, action, K, e, work)
-pub record Judgement (pack chart : List ℕ) (character action foresight nesting : ℕ) (work work′ : List ℕ) (r : Judged) : Type 0 where
+pub record Judgement (pack chart : List ℕ) (character action foresight nesting : ℕ) (work work′ : List ℕ)
+    (r : Judged) : Type 0 where
   pub answer : explainedSaid r ≡ explainedReply pack chart character action foresight nesting work
   pub scratch : work′ ≡ workAfter (explainedReply pack chart character action foresight nesting work) work
 
 -- Search(pack, T, K, E, list out, work)
-pub record Searching (pack : List ℕ) (story foresight nesting : ℕ) (list work list′ work′ : List ℕ) (r : Found) : Type 0 where
+pub record Searching (pack : List ℕ) (story foresight nesting : ℕ) (list work list′ work′ : List ℕ)
+    (r : Found) : Type 0 where
   pub answer : searchSaid r ≡ told summary (searchReply pack story foresight nesting list work)
   pub result : list′ ≡ resultAfter (told (λ p. p .list) (searchReply pack story foresight nesting list work)) list
   pub scratch : work′ ≡ workAfter (searchReply pack story foresight nesting list work) work

@@ -14,8 +14,10 @@ use Rattle.planner.specs.Replies.{explainedReply, Plan, searchReply}
 -- "P is `01 02 01 03 01 00 01 01 01 ..` (42 bytes)"; byte 6 is left open, for "P, byte 6 `00`"
 abbrev pub P-with : ℕ → List ℕ
 P-with byte6 =
-    0x01 ∷ 0x02 ∷ 0x01 ∷ 0x03 ∷ 0x01 ∷ 0x00 ∷ byte6 ∷ 0x01 ∷ 0x01 ∷ 0x01 ∷ 0x01 ∷ 0x00 ∷ 0x00 ∷ 0x00 ∷ 0x00 ∷ 0x01 ∷ 0x00 ∷ 0x00 ∷ 0x01 ∷ 0x01 ∷ 0x00
-    ∷ 0x01 ∷ 0x00 ∷ 0x00 ∷ 0x00 ∷ 0x01 ∷ 0x01 ∷ 0x01 ∷ 0x00 ∷ 0x00 ∷ 0x00 ∷ 0x01 ∷ 0x05 ∷ 0x01 ∷ 0x01 ∷ 0x01 ∷ 0x00 ∷ 0x00 ∷ 0x00 ∷ 0x01 ∷ 0x05 ∷ 0x00 ∷ []
+    0x01 ∷ 0x02 ∷ 0x01 ∷ 0x03 ∷ 0x01 ∷ 0x00 ∷ byte6 ∷ 0x01 ∷ 0x01 ∷ 0x01 ∷ 0x01 ∷ 0x00 ∷ 0x00 ∷ 0x00 ∷ 0x00 ∷ 0x01
+    ∷ 0x00 ∷ 0x00 ∷ 0x01 ∷ 0x01 ∷ 0x00
+    ∷ 0x01 ∷ 0x00 ∷ 0x00 ∷ 0x00 ∷ 0x01 ∷ 0x01 ∷ 0x01 ∷ 0x00 ∷ 0x00 ∷ 0x00 ∷ 0x01 ∷ 0x05 ∷ 0x01 ∷ 0x01 ∷ 0x01 ∷ 0x00
+    ∷ 0x00 ∷ 0x00 ∷ 0x01 ∷ 0x05 ∷ 0x00 ∷ []
 
 -- P itself
 abbrev pub P : List ℕ
@@ -46,19 +48,25 @@ pub data Reading : Type 0 where
 -- the call replies so, whatever buffers it is lent that are long enough
 abbrev pub Says : Reading → Type 0
 Says (start r) = (out work : List ℕ) → chartRoom ≤ length out → workRoom ≤ length work → startReply P out work ≡ r
-Says (step chart action r) = (out work : List ℕ) → chartRoom ≤ length out → workRoom ≤ length work → stepReply P chart action out work ≡ r
-Says (compare first second r) = (chain work : List ℕ) → chainRoom ≤ length chain → workRoom ≤ length work → compareReply P first second chain work ≡ r
+Says (step chart action r) =
+    (out work : List ℕ) → chartRoom ≤ length out → workRoom ≤ length work → stepReply P chart action out work ≡ r
+Says (compare first second r) =
+    (chain work : List ℕ) → chainRoom ≤ length chain → workRoom ≤ length work
+    → compareReply P first second chain work ≡ r
 Says (explained c a K e r) = (work : List ℕ) → workRoom ≤ length work → explainedReply P started c a K e work ≡ r
-Says (search T K E r) = (list work : List ℕ) → listRoom ≤ length list → workRoom ≤ length work → searchReply P T K E list work ≡ r
+Says (search T K E r) =
+    (list work : List ℕ) → listRoom ≤ length list → workRoom ≤ length work → searchReply P T K E list work ≡ r
 Says (refusal pack number place) =
     ((out work : List ℕ) → startReply pack out work ≡ refuses number place)
-    × ((chart chain : List ℕ) (fluent : ℕ) (work : List ℕ) → queryReply pack chart chain fluent work ≡ refuses number place)
+    × ((chart chain : List ℕ) (fluent : ℕ) (work : List ℕ)
+    → queryReply pack chart chain fluent work ≡ refuses number place)
     × ((first second chain work : List ℕ) → compareReply pack first second chain work ≡ refuses number place)
     × ((chart : List ℕ) (action : ℕ) (out work : List ℕ) → stepReply pack chart action out work ≡ refuses number place)
     × ((chart : List ℕ) (c a K e : ℕ) (work : List ℕ) → explainedReply pack chart c a K e work ≡ refuses number place)
     × ((T K E : ℕ) (list work : List ℕ) → searchReply pack T K E list work ≡ refuses number place)
 
--- "The readings of P marked * are shown to follow from the definitions, as one theorem over a small table"; "The rows of 1 and 5."
+-- "The readings of P marked * are shown to follow from the definitions, as one theorem over a small table"; "The rows
+-- of 1 and 5."
 abbrev pub starred : List Reading
 starred =
     start (gives started)

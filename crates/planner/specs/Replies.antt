@@ -23,10 +23,12 @@ abbrev pub nestingLimit : ℕ → Bool
 nestingLimit E = leb E 3
 
 -- "9 | action, character, fluent or limit out of range"
-unfoldable pub explainedReply : (pack chart : List ℕ) (character action foresight nesting : ℕ) (work : List ℕ) → Reply Bool
+unfoldable pub explainedReply : (pack chart : List ℕ) (character action foresight nesting : ℕ) (work : List ℕ)
+    → Reply Bool
 explainedReply pack chart character action foresight nesting work =
     call pack (chart ∷ []) (fits workRoom work)
-    (λ p. ltb character (p .characters) && (ltb action (length (p .actions)) && (foresightLimit foresight && nestingLimit nesting))) (λ p tables.
+    (λ p. ltb character (p .characters)
+    && (ltb action (length (p .actions)) && (foresightLimit foresight && nestingLimit nesting))) (λ p tables.
     gives (explainedTable (p .theory) foresight nesting character action (firstOf tables)))
 
 -- a list, and the author's utility at the start and at its end
@@ -43,5 +45,6 @@ answerReply none = refuses 13 0
 -- "The start is the state that node 0 of the pack means"
 unfoldable pub searchReply : (pack : List ℕ) (story foresight nesting : ℕ) (list work : List ℕ) → Reply Plan
 searchReply pack story foresight nesting list work =
-    call pack [] (fits listRoom list && fits workRoom work) (λ p. storyLimit story && (foresightLimit foresight && nestingLimit nesting)) (λ p tables.
+    call pack [] (fits listRoom list && fits workRoom work)
+    (λ p. storyLimit story && (foresightLimit foresight && nestingLimit nesting)) (λ p tables.
     answerReply (searchTable (p .theory) story foresight nesting (p .nodes)))

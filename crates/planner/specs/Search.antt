@@ -1,5 +1,5 @@
--- What Search gives. Document 01: "Search finds the shortest, then the earliest by action numbers"; "Its result has the length, the actions (8 bytes lent) and both worths,
--- the author's at the start and at the end of that list."
+-- What Search gives. Document 01: "Search finds the shortest, then the earliest by action numbers"; "Its result has the
+-- length, the actions (8 bytes lent) and both worths, the author's at the start and at the end of that list."
 use Prim.Native.Nat.{ℕ}
 use mathlib.Core.Path.{_≡_}
 use mathlib.Core.List.{List}
@@ -8,8 +8,10 @@ use Rattle.pack.specs.State.{State}
 use Rattle.chart.specs.Earliest.{Earliest}
 use Rattle.planner.specs.Ending.{Ending, authorUtility}
 
--- what is true of a list that is found: the shortest ending, then the earliest, with the author's utility "at the start and at the end of that list"
-pub record Sought (p : Theory) (story foresight nesting : ℕ) (s : State) (list : List ℕ) (before after : ℕ) : Type 0 where
+-- what is true of a list that is found: the shortest ending, then the earliest, with the author's utility "at the start
+-- and at the end of that list"
+pub record Sought (p : Theory) (story foresight nesting : ℕ) (s : State) (list : List ℕ)
+    (before after : ℕ) : Type 0 where
   pub first : Earliest (Ending p story foresight nesting s) list
   pub atStart : authorUtility p s ≡ before
   pub atEnd : authorUtility p (first .good .end) ≡ after

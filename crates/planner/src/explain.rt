@@ -1,4 +1,5 @@
-// Explanations: whether a character has a reason of their own for an action. A state is row 0 of the table in a slot of the work buffer; the slots behind it are free.
+// Explanations: whether a character has a reason of their own for an action. A state is row 0 of the table in a slot of
+// the work buffer; the slots behind it are free.
 //
 // In the slots stand the state asked about, one for each action of the author's list, and one for each action of each
 // explanation within it, at most 8 + 6 x 3 more. A belief is a row of the table that it is believed in and needs no
@@ -40,8 +41,10 @@ pub fn explained(
     k: Foresight,
     e: Nesting,
 ) -> bool
-    requires { ⌜ Prepared (k .0) (now pack) (now places) p (now work) (slotTable p (now work) slot) (slot + slotRoom) × (c < p .characters) × (a < p .actions) × (0 < k .0) × (k .0 ≤ 6) × Free slot (1 + k .0 * e .0) ⌝ }
-    ensures { λ r. ⌜ Answers (k .0) (now (pack .entry)) (now (places .entry)) p slot (now (work .entry)) (now (work .exit)) r (λ th s. Explained th (k .0) (e .0) c a s) ⌝ }
+    requires { ⌜ Prepared (k .0) (now pack) (now places) p (now work) (slotTable p (now work) slot) (slot + slotRoom)
+        × (c < p .characters) × (a < p .actions) × (0 < k .0) × (k .0 ≤ 6) × Free slot (1 + k .0 * e .0) ⌝ }
+    ensures { λ r. ⌜ Answers (k .0) (now (pack .entry)) (now (places .entry)) p slot (now (work .entry))
+        (now (work .exit)) r (λ th s. Explained th (k .0) (e .0) c a s) ⌝ }
 {
     if e.0 == 0 {
         return false;
@@ -76,8 +79,11 @@ pub fn explains(
     k: Foresight,
     e: Nesting,
 ) -> bool
-    requires { ⌜ Prepared (k .0) (now pack) (now places) p (now work) (slotTable p (now work) slot) (slot + slotRoom) × (c < p .characters) × (a < p .actions) × (0 < k .0) × (k .0 ≤ 6) × Free slot (1 + k .0 * e .0) × (0 < e .0) ⌝ }
-    ensures { λ r. ⌜ Answers (k .0) (now (pack .entry)) (now (places .entry)) p slot (now (work .entry)) (now (work .exit)) r (λ th s. Explained th (k .0) (e .0) c a s) ⌝ }
+    requires { ⌜ Prepared (k .0) (now pack) (now places) p (now work) (slotTable p (now work) slot) (slot + slotRoom)
+        × (c < p .characters) × (a < p .actions) × (0 < k .0) × (k .0 ≤ 6) × Free slot (1 + k .0 * e .0)
+        × (0 < e .0) ⌝ }
+    ensures { λ r. ⌜ Answers (k .0) (now (pack .entry)) (now (places .entry)) p slot (now (work .entry))
+        (now (work .exit)) r (λ th s. Explained th (k .0) (e .0) c a s) ⌝ }
 {
     let q = wide(work[slot + 1 + p.fluents + c]);
     let number = known_step(pack, places, p, a, work, slot, q);
@@ -120,8 +126,10 @@ pub fn extends(
     left: usize,
     base: usize,
 ) -> bool
-    requires { ⌜ Prepared (k .0) (now pack) (now places) p (now work) (slotTable p (now work) slot) (slot + slotRoom) × (c < p .characters) × (0 < k .0) × (k .0 ≤ 6) × Free slot (1 + left + k .0 * e .0) ⌝ }
-    ensures { λ r. ⌜ Answers (k .0) (now (pack .entry)) (now (places .entry)) p slot (now (work .entry)) (now (work .exit)) r (λ th s. Above th (k .0) (e .0) c base (suc left) s) ⌝ }
+    requires { ⌜ Prepared (k .0) (now pack) (now places) p (now work) (slotTable p (now work) slot) (slot + slotRoom)
+        × (c < p .characters) × (0 < k .0) × (k .0 ≤ 6) × Free slot (1 + left + k .0 * e .0) ⌝ }
+    ensures { λ r. ⌜ Answers (k .0) (now (pack .entry)) (now (places .entry)) p slot (now (work .entry))
+        (now (work .exit)) r (λ th s. Above th (k .0) (e .0) c base (suc left) s) ⌝ }
 {
     let t = table_in(work, p, slot);
     if base < utility(pack, places[CHARACTER_UTILITIES + c] as usize, work, t, 0) {
@@ -155,7 +163,8 @@ pub fn mark(found: bool) -> u8
     if found { 2 } else { 1 }
 }
 
-// Whether some action, and then some list of at most `left` actions, leads from the state in a slot to c's utility above base.
+// Whether some action, and then some list of at most `left` actions, leads from the state in a slot to c's utility
+// above base.
 pub fn extends_by(
     pack: &[u8],
     places: &[u16],
@@ -168,8 +177,10 @@ pub fn extends_by(
     left: usize,
     base: usize,
 ) -> bool
-    requires { ⌜ Prepared (k .0) (now pack) (now places) p (now work) (slotTable p (now work) slot) (slot + slotRoom) × (c < p .characters) × (0 < k .0) × (k .0 ≤ 6) × Free slot (2 + left + k .0 * e .0) ⌝ }
-    ensures { λ r. ⌜ Answers (k .0) (now (pack .entry)) (now (places .entry)) p slot (now (work .entry)) (now (work .exit)) r (λ th s. AboveBySome th (k .0) (e .0) c base (suc left) s) ⌝ }
+    requires { ⌜ Prepared (k .0) (now pack) (now places) p (now work) (slotTable p (now work) slot) (slot + slotRoom)
+        × (c < p .characters) × (0 < k .0) × (k .0 ≤ 6) × Free slot (2 + left + k .0 * e .0) ⌝ }
+    ensures { λ r. ⌜ Answers (k .0) (now (pack .entry)) (now (places .entry)) p slot (now (work .entry))
+        (now (work .exit)) r (λ th s. AboveBySome th (k .0) (e .0) c base (suc left) s) ⌝ }
 {
     let mut x = next_promising(pack, places, p, work, slot, 0, c + 1, left, base);
     while x < p.actions {
@@ -182,7 +193,8 @@ pub fn extends_by(
     false
 }
 
-// Whether action x, and then some list of at most `left` actions, leads from the state in a slot to c's utility above base.
+// Whether action x, and then some list of at most `left` actions, leads from the state in a slot to c's utility above
+// base.
 pub fn via(
     pack: &[u8],
     places: &[u16],
@@ -196,8 +208,10 @@ pub fn via(
     left: usize,
     base: usize,
 ) -> bool
-    requires { ⌜ Prepared (k .0) (now pack) (now places) p (now work) (slotTable p (now work) slot) (slot + slotRoom) × (c < p .characters) × (x < p .actions) × (0 < k .0) × (k .0 ≤ 6) × Free slot (2 + left + k .0 * e .0) ⌝ }
-    ensures { λ r. ⌜ Answers (k .0) (now (pack .entry)) (now (places .entry)) p slot (now (work .entry)) (now (work .exit)) r (λ th s. AboveBy th (k .0) (e .0) c base (suc left) x s) ⌝ }
+    requires { ⌜ Prepared (k .0) (now pack) (now places) p (now work) (slotTable p (now work) slot) (slot + slotRoom)
+        × (c < p .characters) × (x < p .actions) × (0 < k .0) × (k .0 ≤ 6) × Free slot (2 + left + k .0 * e .0) ⌝ }
+    ensures { λ r. ⌜ Answers (k .0) (now (pack .entry)) (now (places .entry)) p slot (now (work .entry))
+        (now (work .exit)) r (λ th s. AboveBy th (k .0) (e .0) c base (suc left) x s) ⌝ }
 {
     let agreed = allowed(pack, places, p, work, slot, c, x, k, e);
     if !agreed {
@@ -222,8 +236,10 @@ pub fn allowed(
     k: Foresight,
     e: Nesting,
 ) -> bool
-    requires { ⌜ Prepared (k .0) (now pack) (now places) p (now work) (slotTable p (now work) slot) (slot + slotRoom) × (x < p .actions) × (0 < k .0) × (k .0 ≤ 6) × Free slot (1 + k .0 * e .0) ⌝ }
-    ensures { λ r. ⌜ Answers (k .0) (now (pack .entry)) (now (places .entry)) p slot (now (work .entry)) (now (work .exit)) r (λ th s. Agreed th (k .0) (e .0) who x s) ⌝ }
+    requires { ⌜ Prepared (k .0) (now pack) (now places) p (now work) (slotTable p (now work) slot) (slot + slotRoom)
+        × (x < p .actions) × (0 < k .0) × (k .0 ≤ 6) × Free slot (1 + k .0 * e .0) ⌝ }
+    ensures { λ r. ⌜ Answers (k .0) (now (pack .entry)) (now (places .entry)) p slot (now (work .entry))
+        (now (work .exit)) r (λ th s. Agreed th (k .0) (e .0) who x s) ⌝ }
 {
     let at = places[ACTION * x + CONSENTERS] as usize;
     let count = consenters(pack, at);
@@ -252,8 +268,10 @@ pub fn fine(
     k: Foresight,
     e: Nesting,
 ) -> bool
-    requires { ⌜ Prepared (k .0) (now pack) (now places) p (now work) (slotTable p (now work) slot) (slot + slotRoom) × (d < p .characters) × (x < p .actions) × (0 < k .0) × (k .0 ≤ 6) × Free slot (1 + k .0 * e .0) ⌝ }
-    ensures { λ r. ⌜ Answers (k .0) (now (pack .entry)) (now (places .entry)) p slot (now (work .entry)) (now (work .exit)) r (λ th s. Other who d → Explained th (k .0) (e .0) d x s) ⌝ }
+    requires { ⌜ Prepared (k .0) (now pack) (now places) p (now work) (slotTable p (now work) slot) (slot + slotRoom)
+        × (d < p .characters) × (x < p .actions) × (0 < k .0) × (k .0 ≤ 6) × Free slot (1 + k .0 * e .0) ⌝ }
+    ensures { λ r. ⌜ Answers (k .0) (now (pack .entry)) (now (places .entry)) p slot (now (work .entry))
+        (now (work .exit)) r (λ th s. Other who d → Explained th (k .0) (e .0) d x s) ⌝ }
 {
     if d == who {
         return true;

@@ -10,7 +10,8 @@ ghost use lib.ListN.{length};
 ghost use Rattle.planner.specs.Inner.Lists.{slotTable};
 ghost use Rattle.planner.specs.Inner.Memory.{Before, Place, Storable, KeyPut, Recalled, Remembered, keyAt};
 
-// Whose list it is that is known about, at which nesting, how many actions are left to it, and above which utility it is to end.
+// Whose list it is that is known about, at which nesting, how many actions are left to it, and above which utility it
+// is to end.
 pub struct Key {
     pub who: usize,
     pub nesting: usize,
@@ -84,7 +85,8 @@ pub fn recall(work: &mut [u8], p: Shape, slot: usize, k: Key) -> u8
 
 // Writes an entry's mark and key.
 pub fn put_key(work: &mut [u8], at: usize, mark: u8, k: Key)
-    requires { ⌜ (at + 6 ≤ length (now work)) × (k .who < 256) × (k .nesting < 256) × (k .left < 256) × (k .base < 65536) ⌝ }
+    requires { ⌜ (at + 6 ≤ length (now work)) × (k .who < 256) × (k .nesting < 256) × (k .left < 256)
+        × (k .base < 65536) ⌝ }
     ensures { λ _. ⌜ KeyPut (now (work .entry)) (now (work .exit)) at mark k ⌝ }
 {
     work[at] = mark;
@@ -98,7 +100,8 @@ pub fn put_key(work: &mut [u8], at: usize, mark: u8, k: Key)
 // Puts down what is known of the table in a slot by this key, in the place of what stood there.
 pub fn remember(work: &mut [u8], p: Shape, slot: usize, mark: u8, k: Key)
     requires { ⌜ Before p (now work) (slotTable p (now work) slot) ⌝ }
-    ensures { λ _. ⌜ Remembered p (slotTable p (now (work .entry)) slot) mark k (now (work .entry)) (now (work .exit)) ⌝ }
+    ensures { λ _. ⌜ Remembered p (slotTable p (now (work .entry)) slot) mark k (now (work .entry))
+        (now (work .exit)) ⌝ }
 {
     let name = name_of(work, p, slot);
     if storable(name, k) {

@@ -17,7 +17,8 @@ ghost use mathlib.Core.Bool.{true};
 ghost use Prim.Native.Nat.{_+_, _*_, _<_, _≤_};
 ghost use lib.ListN.{length, getD};
 ghost use Rattle.planner.specs.Inner.Lists.{slotTable};
-ghost use Rattle.planner.specs.Inner.Memory.{Before, Kept, Place, StepRead, StepPut, Noted, Slot, Again, LeftNoted};
+ghost use Rattle.planner.specs.Inner.Memory.{Before, Kept, Place, StepRead, StepPut};
+ghost use Rattle.planner.specs.Inner.Memory.{Noted, Slot, Again, LeftNoted};
 ghost use Rattle.planner.specs.Inner.Explain.{Steppable, Advances};
 ghost use Rattle.transition.specs.Contracts.Stage.{slotRoom};
 
@@ -86,7 +87,8 @@ pub fn again(work: &mut [u8], p: Shape, next: usize, slot: usize) -> u8
 
 // Names what a step has left in a slot, and puts the step down.
 pub fn note_left(work: &mut [u8], p: Shape, t: Table, root: usize, action: usize, slot: usize)
-    requires { ⌜ Before p (now work) t × (root < 256) × (action < 256) × Slot p (now work) slot × (getD (now work) slot 0 ≤ 32) ⌝ }
+    requires { ⌜ Before p (now work) t × (root < 256) × (action < 256) × Slot p (now work) slot
+        × (getD (now work) slot 0 ≤ 32) ⌝ }
     ensures { λ _. ⌜ LeftNoted p t root action slot (now (work .entry)) (now (work .exit)) ⌝ }
 {
     work[NAMES + slot / SLOT] = 0;
@@ -106,8 +108,10 @@ pub fn known_step(
     slot: usize,
     root: usize,
 ) -> u8
-    requires { ⌜ Steppable (now pack) (now places) p action (now work) (slotTable p (now work) slot) root (slot + slotRoom) ⌝ }
-    ensures { λ r. ⌜ Advances (now (pack .entry)) (now (places .entry)) p action slot root (now (work .entry)) (now (work .exit)) r ⌝ }
+    requires { ⌜ Steppable (now pack) (now places) p action (now work) (slotTable p (now work) slot) root
+        (slot + slotRoom) ⌝ }
+    ensures { λ r. ⌜ Advances (now (pack .entry)) (now (places .entry)) p action slot root (now (work .entry))
+        (now (work .exit)) r ⌝ }
 {
     let t = table_in(work, p, slot);
     let name = name_of(work, p, slot);

@@ -1,4 +1,5 @@
-// The planner layer: explanations and endings. What it promises stands in specs/; here are the answers that its public calls hand back.
+// The planner layer: explanations and endings. What it promises stands in specs/; here are the answers that its public
+// calls hand back.
 pub mod explain;
 pub mod fact;
 pub mod known;
@@ -15,7 +16,8 @@ pub enum Judged {
     Refused(u8, usize),
 }
 
-// What Search hands back: the length of the list and the author's utility ("worth") at the start and at the list's end; 13 is a refusal's number, "no ending".
+// What Search hands back: the length of the list and the author's utility ("worth") at the start and at the list's end;
+// 13 is a refusal's number, "no ending".
 pub enum Found {
     Ending(usize, usize, usize),
     Refused(u8, usize),

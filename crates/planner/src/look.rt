@@ -1,4 +1,5 @@
-// A look before an action is tried: no step is made for one whose condition fails, nor for a last one after which no rule above some utility could hold. What effects may write, and what is believed, is left open.
+// A look before an action is tried: no step is made for one whose condition fails, nor for a last one after which no
+// rule above some utility could hold. What effects may write, and what is believed, is left open.
 //
 // Pruning: a test about the state itself, on a fluent that neither the action nor any trigger writes there, keeps its
 // outcome through the step; any other is left open. Where no rule above the old utility could hold, nobody is asked
@@ -71,7 +72,8 @@ pub fn could_pass(
     t: Table,
 ) -> bool
     requires { ⌜ Lookable testAt (now pack) (now places) triggers x at (now work) t ⌝ }
-    ensures { λ r. ⌜ Looked testAt still.couldPass (now (pack .entry)) (now (places .entry)) triggers x at (now (work .entry)) t r ⌝ }
+    ensures { λ r. ⌜ Looked testAt still.couldPass (now (pack .entry)) (now (places .entry)) triggers x at
+        (now (work .entry)) t r ⌝ }
 {
     if chain_of(pack, at) != 0 {
         return true;
@@ -93,7 +95,8 @@ pub fn could_all(
     t: Table,
 ) -> bool
     requires { ⌜ Lookable alternativeAt (now pack) (now places) triggers x at (now work) t ⌝ }
-    ensures { λ r. ⌜ Looked alternativeAt still.couldAll (now (pack .entry)) (now (places .entry)) triggers x at (now (work .entry)) t r ⌝ }
+    ensures { λ r. ⌜ Looked alternativeAt still.couldAll (now (pack .entry)) (now (places .entry)) triggers x at
+        (now (work .entry)) t r ⌝ }
 {
     let mut n = at + 1;
     let mut left = wide(pack[at]);
@@ -118,7 +121,8 @@ pub fn could_hold(
     t: Table,
 ) -> bool
     requires { ⌜ Lookable conditionAt (now pack) (now places) triggers x at (now work) t ⌝ }
-    ensures { λ r. ⌜ Looked conditionAt still.couldHold (now (pack .entry)) (now (places .entry)) triggers x at (now (work .entry)) t r ⌝ }
+    ensures { λ r. ⌜ Looked conditionAt still.couldHold (now (pack .entry)) (now (places .entry)) triggers x at
+        (now (work .entry)) t r ⌝ }
 {
     let mut n = at + 1;
     let mut left = wide(pack[at]);
@@ -144,7 +148,8 @@ pub fn could_exceed(
     base: usize,
 ) -> bool
     requires { ⌜ Lookable rulesAt (now pack) (now places) triggers x at (now work) t ⌝ }
-    ensures { λ r. ⌜ Looked rulesAt (λ (moves : ℕ → Bool) (s : State). still.couldExceed moves s base) (now (pack .entry)) (now (places .entry)) triggers x at (now (work .entry)) t r ⌝ }
+    ensures { λ r. ⌜ Looked rulesAt (λ (moves : ℕ → Bool) (s : State). still.couldExceed moves s base)
+        (now (pack .entry)) (now (places .entry)) triggers x at (now (work .entry)) t r ⌝ }
 {
     let mut n = at + 1;
     let mut left = wide(pack[at]);
@@ -173,7 +178,8 @@ pub fn could_exceed(
     false
 }
 
-// Whether action x, with `left` actions behind it, is worth a try in row 0: its condition holds, and where it is the last one it could leave a utility above base. `whose` is 0 for the author and c + 1 for character c.
+// Whether action x, with `left` actions behind it, is worth a try in row 0: its condition holds, and where it is the
+// last one it could leave a utility above base. `whose` is 0 for the author and c + 1 for character c.
 pub fn promising(
     pack: &[u8],
     places: &[u16],
@@ -186,7 +192,8 @@ pub fn promising(
     base: usize,
 ) -> bool
     requires { ⌜ Tryable (now pack) (now places) (p .triggers) x (now work) t whose ⌝ }
-    ensures { λ r. ⌜ (r ≡ false → Hopeless (now (pack .entry)) (now (places .entry)) (p .triggers) x (now (work .entry)) t whose left base) ⌝ }
+    ensures { λ r. ⌜ (r ≡ false
+        → Hopeless (now (pack .entry)) (now (places .entry)) (p .triggers) x (now (work .entry)) t whose left base) ⌝ }
 {
     let may = holds(pack, places[ACTION * x] as usize, work, t, 0);
     if !may {
@@ -220,7 +227,8 @@ pub fn next_promising(
     base: usize,
 ) -> usize
     requires { ⌜ Trying (now pack) (now places) p (now work) slot whose × (x ≤ p .actions) ⌝ }
-    ensures { λ r. ⌜ Skipped (now (pack .entry)) (now (places .entry)) p (now (work .entry)) slot whose left base x r ⌝ }
+    ensures { λ r. ⌜ Skipped (now (pack .entry)) (now (places .entry)) p
+        (now (work .entry)) slot whose left base x r ⌝ }
 {
     let t = table_in(work, p, slot);
     let mut y = x;

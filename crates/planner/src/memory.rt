@@ -1,4 +1,5 @@
-// What is known of states, behind a step's scratch: tables that are kept, each under a number that is its name. What is known of steps and of lists is known by these names.
+// What is known of states, behind a step's scratch: tables that are kept, each under a number that is its name. What is
+// known of steps and of lists is known by these names.
 //
 // A transposition table: a table that is kept has an id (`name`), the number of its first block of 12 bytes, by which
 // steps and facts are found. It is held byte for byte against the one that its hash leads to, so nothing proved

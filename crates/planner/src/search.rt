@@ -1,4 +1,5 @@
-// Search: the list search of the author, shortest lists first, and the public call. A state is row 0 of the table in a slot of the work buffer; the slots behind it are free.
+// Search: the list search of the author, shortest lists first, and the public call. A state is row 0 of the table in a
+// slot of the work buffer; the slots behind it are free.
 //
 // A depth-limited search, deepened one action at a time. The memory is emptied in two parts, one before the nodes are
 // laid out and one after: each is below 2,048 bytes, up to which C's `memset` writes by plain stores. The list is
@@ -49,17 +50,20 @@ ghost use Rattle.pack.specs.Syntax.{Node};
 ghost use Rattle.planner.specs.Inner.Lists.{slotTable, Ends, EndsBy};
 ghost use Rattle.planner.specs.Inner.Memory.{Before};
 ghost use Rattle.planner.specs.Inner.Explain.{Staged, Free};
-ghost use Rattle.planner.specs.Inner.Search.{Underway, Finds, EndsHere, Outset, Repeated, OnPath, Laying, Layable, LaidStart, ShortestFrom, Seekable, SearchPutFrom};
+ghost use Rattle.planner.specs.Inner.Search.{Underway, Finds, EndsHere, Outset, Repeated, OnPath, Laying};
+ghost use Rattle.planner.specs.Inner.Search.{Layable, LaidStart, ShortestFrom, Seekable, SearchPutFrom};
 ghost use Rattle.planner.specs.Promises.{Searching};
 ghost use Rattle.transition.specs.Contracts.Stage.{slotRoom};
 
-// The list that was found: how many actions it has, and the author's utility at its end; no actions where there is none.
+// The list that was found: how many actions it has, and the author's utility at its end; no actions where there is
+// none.
 pub struct Ended {
     pub count: usize,
     pub after: usize,
 }
 
-// The author's utility at the end of the earliest list of exactly `left` actions from the state in a slot that ends above base, which is put down from `done` on; or 0.
+// The author's utility at the end of the earliest list of exactly `left` actions from the state in a slot that ends
+// above base, which is put down from `done` on; or 0.
 pub fn completes(
     pack: &[u8],
     places: &[u16],
@@ -73,8 +77,12 @@ pub fn completes(
     left: usize,
     base: usize,
 ) -> usize
-    requires { ⌜ Underway (k .0) (e .0) base (now pack) (now places) p (now work) slot done left × (0 < k .0) × (k .0 ≤ 6) × Free slot (1 + left + k .0 * e .0) × (done + left ≤ length (now list)) × (slot ≡ done * slotRoom) ⌝ }
-    ensures { λ r. ⌜ Finds (k .0) (e .0) base (now (pack .entry)) (now (places .entry)) p slot done left (now (list .entry)) (now (list .exit)) (now (work .entry)) (now (work .exit)) r (λ th. Ends th (k .0) (e .0) base) ⌝ }
+    requires { ⌜ Underway (k .0) (e .0) base (now pack) (now places) p (now work) slot done left × (0 < k .0)
+        × (k .0 ≤ 6) × Free slot (1 + left + k .0 * e .0) × (done + left ≤ length (now list))
+        × (slot ≡ done * slotRoom) ⌝ }
+    ensures { λ r. ⌜ Finds (k .0) (e .0) base (now (pack .entry)) (now (places .entry)) p slot done left
+        (now (list .entry)) (now (list .exit)) (now (work .entry)) (now (work .exit)) r
+        (λ th. Ends th (k .0) (e .0) base) ⌝ }
 {
     if left == 0 {
         return ends(pack, places, p, work, slot, base);
@@ -122,8 +130,10 @@ pub fn extent(work: &[u8], p: Shape, slot: usize) -> usize
 // Whether the state in a slot, the last of `done` + 1, is one of those in the slots before it. Written charts stand in
 // them, so equal bytes are the same state, and only they are.
 pub fn repeats(work: &[u8], p: Shape, slot: usize, done: usize) -> bool
-    requires { ⌜ Before p (now work) (slotTable p (now work) slot) × (slot ≡ done * slotRoom) × OnPath p (now work) done ⌝ }
-    ensures { λ r. ⌜ (r ≡ true → Repeated p (now (work .entry)) slot done) × (r ≡ false → ¬ Repeated p (now (work .entry)) slot done) ⌝ }
+    requires { ⌜ Before p (now work) (slotTable p (now work) slot) × (slot ≡ done * slotRoom)
+        × OnPath p (now work) done ⌝ }
+    ensures { λ r. ⌜ (r ≡ true → Repeated p (now (work .entry)) slot done)
+        × (r ≡ false → ¬ Repeated p (now (work .entry)) slot done) ⌝ }
 {
     let n = extent(work, p, slot);
     let mut i = 0;
@@ -150,8 +160,12 @@ pub fn completes_after(
     left: usize,
     base: usize,
 ) -> usize
-    requires { ⌜ Underway (k .0) (e .0) base (now pack) (now places) p (now work) slot done (suc left) × (0 < k .0) × (k .0 ≤ 6) × Free slot (2 + left + k .0 * e .0) × (done + suc left ≤ length (now list)) × (slot ≡ done * slotRoom) ⌝ }
-    ensures { λ r. ⌜ Finds (k .0) (e .0) base (now (pack .entry)) (now (places .entry)) p slot done (suc left) (now (list .entry)) (now (list .exit)) (now (work .entry)) (now (work .exit)) r (λ th. Ends th (k .0) (e .0) base) ⌝ }
+    requires { ⌜ Underway (k .0) (e .0) base (now pack) (now places) p (now work) slot done (suc left) × (0 < k .0)
+        × (k .0 ≤ 6) × Free slot (2 + left + k .0 * e .0) × (done + suc left ≤ length (now list))
+        × (slot ≡ done * slotRoom) ⌝ }
+    ensures { λ r. ⌜ Finds (k .0) (e .0) base (now (pack .entry)) (now (places .entry)) p slot done (suc left)
+        (now (list .entry)) (now (list .exit)) (now (work .entry)) (now (work .exit)) r
+        (λ th. Ends th (k .0) (e .0) base) ⌝ }
 {
     let actions = p.actions;
     let mut x = next_promising(pack, places, p, work, slot, 0, 0, left, base);
@@ -167,7 +181,8 @@ pub fn completes_after(
 
 // The author's utility in the state in a slot where it is above base, or 0.
 pub fn ends(pack: &[u8], places: &[u16], p: Shape, work: &[u8], slot: usize, base: usize) -> usize
-    requires { ⌜ Staged (now pack) (now places) p (now work) (slotTable p (now work) slot) (slot + slotRoom) × Free slot 1 ⌝ }
+    requires { ⌜ Staged (now pack) (now places) p (now work) (slotTable p (now work) slot) (slot + slotRoom)
+        × Free slot 1 ⌝ }
     ensures { λ r. ⌜ EndsHere base (now (pack .entry)) (now (places .entry)) p slot (now (work .entry)) r ⌝ }
 {
     let t = table_in(work, p, slot);
@@ -190,8 +205,12 @@ pub fn completes_by(
     left: usize,
     base: usize,
 ) -> usize
-    requires { ⌜ Underway (k .0) (e .0) base (now pack) (now places) p (now work) slot done (suc left) × (x < p .actions) × (0 < k .0) × (k .0 ≤ 6) × Free slot (2 + left + k .0 * e .0) × (done + suc left ≤ length (now list)) × (slot ≡ done * slotRoom) ⌝ }
-    ensures { λ r. ⌜ Finds (k .0) (e .0) base (now (pack .entry)) (now (places .entry)) p slot done (suc left) (now (list .entry)) (now (list .exit)) (now (work .entry)) (now (work .exit)) r (λ th. EndsBy th (k .0) (e .0) base x) ⌝ }
+    requires { ⌜ Underway (k .0) (e .0) base (now pack) (now places) p (now work) slot done (suc left)
+        × (x < p .actions) × (0 < k .0) × (k .0 ≤ 6) × Free slot (2 + left + k .0 * e .0)
+        × (done + suc left ≤ length (now list)) × (slot ≡ done * slotRoom) ⌝ }
+    ensures { λ r. ⌜ Finds (k .0) (e .0) base (now (pack .entry)) (now (places .entry)) p slot done (suc left)
+        (now (list .entry)) (now (list .exit)) (now (work .entry)) (now (work .exit)) r
+        (λ th. EndsBy th (k .0) (e .0) base x) ⌝ }
 {
     let agreed = allowed(pack, places, p, work, slot, p.characters, x, k, e);
     if !agreed {
@@ -232,8 +251,10 @@ pub fn shortest(
     e: Nesting,
     base: usize,
 ) -> Ended
-    requires { ⌜ Outset (k .0) base (now pack) (now places) p (now work) × (0 < k .0) × (k .0 ≤ 6) × (e .0 ≤ 3) × (s .0 ≤ 8) × (8 ≤ length (now list)) ⌝ }
-    ensures { λ r. ⌜ ShortestFrom (s .0) (k .0) (e .0) base (now (pack .entry)) (now (places .entry)) p (now (list .entry)) (now (list .exit)) (now (work .entry)) (now (work .exit)) r ⌝ }
+    requires { ⌜ Outset (k .0) base (now pack) (now places) p (now work) × (0 < k .0) × (k .0 ≤ 6) × (e .0 ≤ 3)
+        × (s .0 ≤ 8) × (8 ≤ length (now list)) ⌝ }
+    ensures { λ r. ⌜ ShortestFrom (s .0) (k .0) (e .0) base (now (pack .entry)) (now (places .entry)) p
+        (now (list .entry)) (now (list .exit)) (now (work .entry)) (now (work .exit)) r ⌝ }
 {
     let mut n = 1;
     while n <= s.0 {
@@ -246,11 +267,12 @@ pub fn shortest(
     Ended { count: 0, after: 0 }
 }
 
-// Lays the nodes that are read from `first` on out in the first slot, merged, and empties the memory: what is known of lists first and the rest last, since each by itself is short
-// enough to be cleared by plain stores.
+// Lays the nodes that are read from `first` on out in the first slot, merged, and empties the memory: what is known of
+// lists first and the rest last, since each by itself is short enough to be cleared by plain stores.
 pub fn lay_start(pack: &[u8], first: usize, nodes: usize, p: Shape, work: &mut [u8])
     requires { ⌜ Layable (now pack) first nodes p (now work) ⌝ }
-    ensures { λ _. ⌜ ((T : List Node) → Laying T (now (pack .entry)) first nodes p (now (work .entry)) → LaidStart T p (now (work .entry)) (now (work .exit))) ⌝ }
+    ensures { λ _. ⌜ ((T : List Node) → Laying T (now (pack .entry)) first nodes p (now (work .entry))
+        → LaidStart T p (now (work .entry)) (now (work .exit))) ⌝ }
 {
     clear(work, LISTS, OF_LISTS);
     copy_table(pack, first, nodes, work, 0, p.fluents, p.characters);
@@ -275,7 +297,8 @@ pub fn search_nodes(
     work: &mut [u8],
 ) -> Found
     requires { ⌜ Seekable (now pack) (now places) p first nodes (s .0) (k .0) (e .0) (now list) (now work) ⌝ }
-    ensures { λ r. ⌜ SearchPutFrom (now (pack .entry)) (now (places .entry)) p first nodes (s .0) (k .0) (e .0) (now (list .entry)) (now (list .exit)) (now (work .entry)) (now (work .exit)) r ⌝ }
+    ensures { λ r. ⌜ SearchPutFrom (now (pack .entry)) (now (places .entry)) p first nodes (s .0) (k .0) (e .0)
+        (now (list .entry)) (now (list .exit)) (now (work .entry)) (now (work .exit)) r ⌝ }
 {
     lay_start(pack, first, nodes, p, work);
     let t = table_in(work, p, 0);
@@ -288,7 +311,8 @@ pub fn search_nodes(
     Found::Ending(found.count, base, found.after)
 }
 
-// Search(pack, T, K, E, list out, work): the length of the list, which is written, and both utilities, or a refusal's number and place.
+// Search(pack, T, K, E, list out, work): the length of the list, which is written, and both utilities, or a refusal's
+// number and place.
 pub fn search(
     pack: &[u8],
     t: Story,
@@ -297,7 +321,8 @@ pub fn search(
     list: &mut [u8],
     work: &mut [u8],
 ) -> Found
-    ensures { λ r. ⌜ Searching (now (pack .entry)) (t .0) (k .0) (e .0) (now (list .entry)) (now (work .entry)) (now (list .exit)) (now (work .exit)) r ⌝ }
+    ensures { λ r. ⌜ Searching (now (pack .entry)) (t .0) (k .0) (e .0) (now (list .entry)) (now (work .entry))
+        (now (list .exit)) (now (work .exit)) r ⌝ }
 {
     let mut places = [0u16; PLACES];
     let p = read_pack(pack, &mut places);

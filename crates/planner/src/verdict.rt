@@ -32,7 +32,8 @@ pub fn in_range(
     k: Foresight,
     e: Nesting,
 ) -> bool
-    ensures { λ r. ⌜ r ≡ (ltb character characters && (ltb action actions && (foresightLimit (k .0) && nestingLimit (e .0)))) ⌝ }
+    ensures { λ r. ⌜ r
+        ≡ (ltb character characters && (ltb action actions && (foresightLimit (k .0) && nestingLimit (e .0)))) ⌝ }
 {
     if character < characters {
         if action < actions {
@@ -59,7 +60,8 @@ pub fn verdict_in(
     work: &mut [u8],
 ) -> bool
     requires { ⌜ Judgeable (now pack) (now places) p (now chart) nodes character action (k .0) (e .0) (now work) ⌝ }
-    ensures { λ r. ⌜ VerdictOf (now (pack .entry)) (now (places .entry)) p (now (chart .entry)) nodes character action (k .0) (e .0) (now (work .entry)) (now (work .exit)) r ⌝ }
+    ensures { λ r. ⌜ VerdictOf (now (pack .entry)) (now (places .entry)) p (now (chart .entry)) nodes character action
+        (k .0) (e .0) (now (work .entry)) (now (work .exit)) r ⌝ }
 {
     copy_table(chart, 1, nodes, work, 0, p.fluents, p.characters);
     clear(work, NAMES, BEFORE_TABLES);
@@ -78,7 +80,8 @@ pub fn verdict(
     e: Nesting,
     work: &mut [u8],
 ) -> Judged
-    ensures { λ r. ⌜ Judgement (now (pack .entry)) (now (chart .entry)) character action (k .0) (e .0) (now (work .entry)) (now (work .exit)) r ⌝ }
+    ensures { λ r. ⌜ Judgement (now (pack .entry)) (now (chart .entry)) character action (k .0) (e .0)
+        (now (work .entry)) (now (work .exit)) r ⌝ }
 {
     let mut places = [0u16; PLACES];
     let p = read_pack(pack, &mut places);

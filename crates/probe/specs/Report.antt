@@ -15,14 +15,18 @@ numberOf (refuses k p) = k
 
 -- a report with five counts over its first entries
 abbrev pub counts : List ℕ → (characters fluents nodes actions triggers : ℕ) → List ℕ
-counts report characters fluents nodes actions triggers = set (set (set (set (set report 0 characters) 1 fluents) 2 nodes) 3 actions) 4 triggers
+counts report characters fluents nodes actions triggers =
+    set (set (set (set (set report 0 characters) 1 fluents) 2 nodes) 3 actions) 4 triggers
 
 -- a report after a pack was read: the counts of what is given, or the place of the refusal and nothing else
 abbrev pub ofPack : List ℕ → Reply Pack → List ℕ
-ofPack report (gives p) = counts report (p .theory .characters) (length (p .theory .domains)) (length (p .nodes)) (length (p .theory .actions)) (length (p .theory .triggers))
+ofPack report (gives p) =
+    counts report (p .theory .characters) (length (p .theory .domains)) (length (p .nodes))
+    (length (p .theory .actions)) (length (p .theory .triggers))
 ofPack report (refuses k p) = set report 0 p
 
--- A pack and a report: 8 where the report has fewer than five entries, which then stays as it was; else what `packOf` says.
+-- A pack and a report: 8 where the report has fewer than five entries, which then stays as it was; else what `packOf`
+-- says.
 pub record PackProbed (pack report after : List ℕ) (r : ℕ) : Type 0 where
   pub number : r ≡ pick (ltb (length report) 5) 8 (numberOf (packOf pack))
   pub written : after ≡ pick (ltb (length report) 5) report (ofPack report (packOf pack))

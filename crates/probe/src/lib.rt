@@ -27,7 +27,8 @@ fn wide_place(x: usize) -> u64
 // The counts of an accepted pack, in the first five entries.
 fn put_counts(c: Contents, report: &mut [u64])
     requires { ⌜ 5 ≤ length (now report) ⌝ }
-    ensures { λ _. ⌜ now (report .exit) ≡ counts (now (report .entry)) (c .characters) (c .fluents) (c .nodes) (c .actions) (c .triggers) ⌝ }
+    ensures { λ _. ⌜ now (report .exit)
+        ≡ counts (now (report .entry)) (c .characters) (c .fluents) (c .nodes) (c .actions) (c .triggers) ⌝ }
 {
     report[0] = wide_place(c.characters);
     report[1] = wide_place(c.fluents);
@@ -79,7 +80,8 @@ fn count_nodes(pack: &[u8], chart: &[u8]) -> Number
 // Reads a chart under a pack: 0 and how many nodes it has, or a refusal's number and its place. An empty report is 8.
 #[no_mangle]
 pub extern "C" fn pirwodd_probe_chart(pack: &[u8], chart: &[u8], report: &mut [u64]) -> u32
-    ensures { λ r. ⌜ ChartProbed (now (pack .entry)) (now (chart .entry)) (now (report .entry)) (now (report .exit)) r ⌝ }
+    ensures { λ r. ⌜ ChartProbed (now (pack .entry)) (now (chart .entry)) (now (report .entry))
+        (now (report .exit)) r ⌝ }
 {
     if report.len() < 1 {
         return 8;

@@ -1,4 +1,5 @@
--- What Step promises of every call: the answer, and every lent buffer at its end, as equations with the reply. A buffer's name with ′ is what it holds at exit.
+-- What Step promises of every call: the answer, and every lent buffer at its end, as equations with the reply. A
+-- buffer's name with ′ is what it holds at exit.
 use Prim.Native.Nat.{ℕ}
 use mathlib.Core.Path.{_≡_}
 use mathlib.Core.List.{List}

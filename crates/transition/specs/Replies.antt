@@ -19,5 +19,6 @@ outcomeReply (refused number) = refuses number 0
 -- "Step takes a chart and an action"; "9 | action .. out of range"
 unfoldable pub stepReply : (pack chart : List ℕ) (action : ℕ) (out work : List ℕ) → Reply (List ℕ)
 stepReply pack chart action out work =
-    call pack (chart ∷ []) (fits chartRoom out && fits workRoom work) (λ p. ltb action (length (p .actions))) (λ p tables.
+    call pack (chart ∷ []) (fits chartRoom out && fits workRoom work) (λ p. ltb action (length (p .actions)))
+    (λ p tables.
     outcomeReply (stepTable (p .theory) (firstOf tables) action))

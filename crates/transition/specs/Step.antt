@@ -14,6 +14,7 @@ pub data Outcome : Type 0 where
 
 -- the written chart of the state that the action leaves, or a number, 9 where there is no such action
 pub data Steps (p : Theory) (s : State) (a : ℕ) : Outcome → Type 0 where
-  left : {rows : List Node} → Written (p .characters) rows → Plays p s a (meaning (p .characters) rows 0) → Steps p s a (leaves rows)
+  left : {rows : List Node} → Written (p .characters) rows → Plays p s a (meaning (p .characters) rows 0)
+      → Steps p s a (leaves rows)
   failed : {n : ℕ} → a < length (p .actions) → Refuses p s a n → Steps p s a (refused n)
   missing : length (p .actions) ≤ a → Steps p s a (refused 9)

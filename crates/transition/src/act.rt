@@ -36,7 +36,8 @@ pub fn act(
     slot: usize,
 ) -> usize
     requires { ⌜ Actable (now pack) (now places) action (now work) t root slot ⌝ }
-    ensures { λ r. ⌜ ActsIn (now (pack .entry)) (now (places .entry)) action root t (now (work .entry)) (now (work .exit)) slot r ⌝ }
+    ensures { λ r. ⌜ ActsIn (now (pack .entry)) (now (places .entry)) action root t (now (work .entry))
+        (now (work .exit)) slot r ⌝ }
 {
     let place = places[ACTION * action + EFFECTS];
     let effects = [place; 32];

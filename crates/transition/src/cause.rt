@@ -8,7 +8,8 @@ use pack::places::PLACES;
 use pack::table::Table;
 use pack::write::write_effects;
 ghost use mathlib.Core.Path.{_≡_};
-ghost use Rattle.transition.specs.Contracts.Cause.{told, Telling, OfEffects, Tellable, ToldWritten, Watched, Took};
+ghost use Rattle.transition.specs.Contracts.Cause.{told, Telling, OfEffects, Tellable};
+ghost use Rattle.transition.specs.Contracts.Cause.{ToldWritten, Watched, Took};
 
 // Whether some effect at a place is meant for whom.
 pub fn tells(pack: &[u8], at: usize, whom: usize) -> bool
@@ -31,7 +32,8 @@ pub fn write_told(pack: &[u8], at: usize, whom: usize, work: &mut [u8], row: usi
     }
 }
 
-// Whether what character c believes in row m takes part: every belief does where `observed` is `PLACES`, else those whose observation condition holds there.
+// Whether what character c believes in row m takes part: every belief does where `observed` is `PLACES`, else those
+// whose observation condition holds there.
 pub fn takes(
     pack: &[u8],
     places: &[u16],

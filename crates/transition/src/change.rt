@@ -1,5 +1,6 @@
-// The pass that makes a table of what happens in another. A row of the new table stands for one of three: a row that took part; what a character believes in a row that took
-// part and told it something; a row as it was. Each has a slot, seven a row of the old table, by which it is numbered when it is met.
+// The pass that makes a table of what happens in another. A row of the new table stands for one of three: a row that
+// took part; what a character believes in a row that took part and told it something; a row as it was. Each has a slot,
+// seven a row of the old table, by which it is numbered when it is met.
 //
 // Seven slots for each row: one for each character that it tells something, one for having taken part, one as it was.
 // So 7 x 32 + 1 are enough and a number is one byte. The last slot is the root's where every character is told
@@ -26,10 +27,12 @@ ghost use lib.ListN.{length};
 ghost use Rattle.chart.specs.Contracts.Numbers.{Numbering, keyAt};
 ghost use Rattle.transition.specs.Laws.Changed.{acted, old, There};
 ghost use Rattle.transition.specs.Contracts.Cause.{Tabled};
-ghost use Rattle.transition.specs.Inner.Change.{Scene, Stands, Scened, InScene, Seen, believed, rowAfter, memberOf, Sourced, SlotIs, SlotsPut, RowRoom, Puts, Laid, RowMade, ChangeMade};
+ghost use Rattle.transition.specs.Inner.Change.{Scene, Stands, Scened, InScene, Seen, believed};
+ghost use Rattle.transition.specs.Inner.Change.{rowAfter, memberOf, Sourced, SlotIs, SlotsPut};
+ghost use Rattle.transition.specs.Inner.Change.{RowRoom, Puts, Laid, RowMade, ChangeMade};
 
-// Which of a row's seven slots stand for the row having taken part and for the row as it was, the others being its characters'; where the observation conditions are; and the
-// row in which it happens.
+// Which of a row's seven slots stand for the row having taken part and for the row as it was, the others being its
+// characters'; where the observation conditions are; and the row in which it happens.
 pub struct Change {
     pub acted: usize,
     pub old: usize,
@@ -49,7 +52,8 @@ pub fn slot_of(
     d: usize,
 ) -> usize
     requires { ⌜ Scened (now pack) (now places) (now effects) h (now work) t × (m < t .nodes) × (d < t .characters) ⌝ }
-    ensures { λ r. ⌜ InScene (now (pack .entry)) (now (places .entry)) (now (effects .entry)) h (now (work .entry)) t (λ s. SlotIs h (t .nodes) (believed s (t .characters) m d) r) ⌝ }
+    ensures { λ r. ⌜ InScene (now (pack .entry)) (now (places .entry)) (now (effects .entry)) h (now (work .entry)) t
+        (λ s. SlotIs h (t .nodes) (believed s (t .characters) m d) r) ⌝ }
 {
     if tells(pack, effects[m] as usize, d + 1) {
         return m * 7 + d;
@@ -73,8 +77,11 @@ pub fn put_slots(
     m: usize,
     to: usize,
 )
-    requires { ⌜ Scened (now pack) (now places) (now effects) h (now work) t × (m < t .nodes) × (t .rows + t .nodes * t .width ≤ to) × (to + t .characters ≤ length (now work)) ⌝ }
-    ensures { λ _. ⌜ InScene (now (pack .entry)) (now (places .entry)) (now (effects .entry)) h (now (work .entry)) t (λ s. SlotsPut h (t .nodes) (t .characters) (believed s (t .characters) m) (now (work .entry)) (now (work .exit)) to) ⌝ }
+    requires { ⌜ Scened (now pack) (now places) (now effects) h (now work) t × (m < t .nodes)
+        × (t .rows + t .nodes * t .width ≤ to) × (to + t .characters ≤ length (now work)) ⌝ }
+    ensures { λ _. ⌜ InScene (now (pack .entry)) (now (places .entry)) (now (effects .entry)) h (now (work .entry)) t
+        (λ s. SlotsPut h (t .nodes) (t .characters) (believed s (t .characters) m) (now (work .entry))
+        (now (work .exit)) to) ⌝ }
 {
     let mut d = 0;
     while d < t.characters {
@@ -95,8 +102,10 @@ pub fn put_acted(
     m: usize,
     to: usize,
 )
-    requires { ⌜ Scened (now pack) (now places) (now effects) h (now work) t × (m < t .nodes) × RowRoom (now work) t to ⌝ }
-    ensures { λ _. ⌜ InScene (now (pack .entry)) (now (places .entry)) (now (effects .entry)) h (now (work .entry)) t (λ s. Puts s h t (acted m) (now (work .entry)) (now (work .exit)) to) ⌝ }
+    requires { ⌜ Scened (now pack) (now places) (now effects) h (now work) t × (m < t .nodes)
+        × RowRoom (now work) t to ⌝ }
+    ensures { λ _. ⌜ InScene (now (pack .entry)) (now (places .entry)) (now (effects .entry)) h (now (work .entry)) t
+        (λ s. Puts s h t (acted m) (now (work .entry)) (now (work .exit)) to) ⌝ }
 {
     let from = t.rows + m * t.width;
     copy_part(work, from, to, t.fluents);
@@ -107,7 +116,8 @@ pub fn put_acted(
 // Writes row m as it was, its beliefs by slots.
 pub fn put_old(h: Change, work: &mut [u8], t: Table, m: usize, to: usize)
     requires { ⌜ Seen (now work) t × (m < t .nodes) × (h .old < 7) × RowRoom (now work) t to ⌝ }
-    ensures { λ _. ⌜ ((s : Scene) → Tabled (s .dimensions) (s .table) (now (work .entry)) t → Puts s h t (old m) (now (work .entry)) (now (work .exit)) to) ⌝ }
+    ensures { λ _. ⌜ ((s : Scene) → Tabled (s .dimensions) (s .table) (now (work .entry)) t
+        → Puts s h t (old m) (now (work .entry)) (now (work .exit)) to) ⌝ }
 {
     let from = t.rows + m * t.width;
     copy_part(work, from, to, t.fluents);
@@ -128,8 +138,10 @@ pub struct Source {
 
 // What a slot's row is made of. The last slot is that of the root having taken part, where no other is.
 pub fn made_of(pack: &[u8], places: &[u16], h: Change, work: &[u8], t: Table, slot: usize) -> Source
-    requires { ⌜ ((effects : List ℕ) × Scened (now pack) (now places) effects h (now work) t) × (slot < t .nodes * 7 + 1) × There (t .characters) (memberOf h (t .nodes) slot) ⌝ }
-    ensures { λ r. ⌜ ((s : Scene) (effects : List ℕ) → Stands s (now (pack .entry)) (now (places .entry)) effects h (now (work .entry)) t → Sourced s h t slot r) ⌝ }
+    requires { ⌜ ((effects : List ℕ) × Scened (now pack) (now places) effects h (now work) t)
+        × (slot < t .nodes * 7 + 1) × There (t .characters) (memberOf h (t .nodes) slot) ⌝ }
+    ensures { λ r. ⌜ ((s : Scene) (effects : List ℕ)
+        → Stands s (now (pack .entry)) (now (places .entry)) effects h (now (work .entry)) t → Sourced s h t slot r) ⌝ }
 {
     let m = slot / 7;
     let kind = slot % 7;
@@ -174,8 +186,10 @@ pub fn put_row(
     took: bool,
     to: usize,
 )
-    requires { ⌜ Scened (now pack) (now places) (now effects) h (now work) t × (m < t .nodes) × (took ≡ false → h .old < 7) × RowRoom (now work) t to ⌝ }
-    ensures { λ _. ⌜ InScene (now (pack .entry)) (now (places .entry)) (now (effects .entry)) h (now (work .entry)) t (λ s. Puts s h t (rowAfter m took) (now (work .entry)) (now (work .exit)) to) ⌝ }
+    requires { ⌜ Scened (now pack) (now places) (now effects) h (now work) t × (m < t .nodes)
+        × (took ≡ false → h .old < 7) × RowRoom (now work) t to ⌝ }
+    ensures { λ _. ⌜ InScene (now (pack .entry)) (now (places .entry)) (now (effects .entry)) h (now (work .entry)) t
+        (λ s. Puts s h t (rowAfter m took) (now (work .entry)) (now (work .exit)) to) ⌝ }
 {
     if took {
         put_acted(pack, places, effects, h, work, t, m, to)
@@ -195,8 +209,10 @@ pub fn put_member(
     slot: usize,
     to: usize,
 )
-    requires { ⌜ Scened (now pack) (now places) (now effects) h (now work) t × (slot < t .nodes * 7 + 1) × There (t .characters) (memberOf h (t .nodes) slot) × RowRoom (now work) t to ⌝ }
-    ensures { λ _. ⌜ InScene (now (pack .entry)) (now (places .entry)) (now (effects .entry)) h (now (work .entry)) t (λ s. Puts s h t (memberOf h (t .nodes) slot) (now (work .entry)) (now (work .exit)) to) ⌝ }
+    requires { ⌜ Scened (now pack) (now places) (now effects) h (now work) t × (slot < t .nodes * 7 + 1)
+        × There (t .characters) (memberOf h (t .nodes) slot) × RowRoom (now work) t to ⌝ }
+    ensures { λ _. ⌜ InScene (now (pack .entry)) (now (places .entry)) (now (effects .entry)) h (now (work .entry)) t
+        (λ s. Puts s h t (memberOf h (t .nodes) slot) (now (work .entry)) (now (work .exit)) to) ⌝ }
 {
     let from = made_of(pack, places, h, work, t, slot);
     put_row(pack, places, effects, h, work, t, from.row, from.took, to);
@@ -220,8 +236,10 @@ pub fn change_row(
     count: usize,
 ) -> usize
     requires { ⌜ Scened (now pack) (now places) (now effects) h (now work) t × Laid (now work) t b u ⌝ }
-    requires { ⌜ Numbering (now work) b (t .nodes * 7 + 1) count × (i < count) × There (t .characters) (memberOf h (t .nodes) (keyAt (now work) b (t .nodes * 7 + 1) i)) ⌝ }
-    ensures { λ r. ⌜ InScene (now (pack .entry)) (now (places .entry)) (now (effects .entry)) h (now (work .entry)) t (λ s. RowMade s h t (now (work .entry)) (now (work .exit)) b u i count r) ⌝ }
+    requires { ⌜ Numbering (now work) b (t .nodes * 7 + 1) count × (i < count)
+        × There (t .characters) (memberOf h (t .nodes) (keyAt (now work) b (t .nodes * 7 + 1) i)) ⌝ }
+    ensures { λ r. ⌜ InScene (now (pack .entry)) (now (places .entry)) (now (effects .entry)) h (now (work .entry)) t
+        (λ s. RowMade s h t (now (work .entry)) (now (work .exit)) b u i count r) ⌝ }
 {
     let size = t.nodes * 7 + 1;
     let slot = wide(work[b + size + i]);
@@ -254,7 +272,8 @@ pub fn change_table(
     u: usize,
 ) -> usize
     requires { ⌜ Scened (now pack) (now places) (now effects) h (now work) t × Laid (now work) t b u ⌝ }
-    ensures { λ r. ⌜ InScene (now (pack .entry)) (now (places .entry)) (now (effects .entry)) h (now (work .entry)) t (λ s. ChangeMade s h t (now (work .entry)) (now (work .exit)) b u r) ⌝ }
+    ensures { λ r. ⌜ InScene (now (pack .entry)) (now (places .entry)) (now (effects .entry)) h (now (work .entry)) t
+        (λ s. ChangeMade s h t (now (work .entry)) (now (work .exit)) b u r) ⌝ }
 {
     let size = t.nodes * 7 + 1;
     clear(work, b, size);

@@ -41,7 +41,8 @@ pub fn fire_all(
     effects: &mut [u16],
 ) -> bool
     requires { ⌜ Firable (now pack) (now places) triggers (now work) t × (t .nodes ≤ length (now effects)) ⌝ }
-    ensures { λ r. ⌜ FiresAll (now (pack .entry)) (now (places .entry)) triggers (now (work .entry)) t (now (effects .exit)) r ⌝ }
+    ensures { λ r. ⌜ FiresAll (now (pack .entry)) (now (places .entry)) triggers (now (work .entry)) t
+        (now (effects .exit)) r ⌝ }
 {
     let mut any = false;
     let mut m = 0;

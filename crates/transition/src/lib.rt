@@ -1,4 +1,5 @@
-// The transition layer: what actions and triggers make of a state, in slots of the work buffer. What Step promises stands in specs/; its call is in play.
+// The transition layer: what actions and triggers make of a state, in slots of the work buffer. What Step promises
+// stands in specs/; its call is in play.
 pub mod act;
 pub mod cause;
 pub mod change;

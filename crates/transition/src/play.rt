@@ -32,8 +32,11 @@ pub fn play(
     out: &mut [u8],
     work: &mut [u8],
 ) -> Charted
-    requires { ⌜ Steppable (now pack) (now places) triggers action (now chart) nodes fluents characters (now out) (now work) ⌝ }
-    ensures { λ r. ⌜ StepPut (now (pack .entry)) (now (places .entry)) triggers action (now (chart .entry)) nodes fluents characters (now (out .entry)) (now (work .entry)) (now (out .exit)) (now (work .exit)) r ⌝ }
+    requires { ⌜ Steppable (now pack) (now places) triggers action (now chart) nodes fluents characters (now out)
+        (now work) ⌝ }
+    ensures { λ r. ⌜ StepPut (now (pack .entry)) (now (places .entry)) triggers action
+        (now (chart .entry)) nodes fluents characters (now (out .entry)) (now (work .entry)) (now (out .exit))
+        (now (work .exit)) r ⌝ }
 {
     copy_table(chart, 1, nodes, work, 0, fluents, characters);
     let t = Table {
@@ -62,9 +65,11 @@ pub fn play(
     Charted::Chart(length)
 }
 
-// Step(pack, chart, action, chart out, work): the length of the chart of what the action leaves, which is written, or a refusal's number and place.
+// Step(pack, chart, action, chart out, work): the length of the chart of what the action leaves, which is written, or a
+// refusal's number and place.
 pub fn step(pack: &[u8], chart: &[u8], action: usize, out: &mut [u8], work: &mut [u8]) -> Charted
-    ensures { λ r. ⌜ Stepped (now (pack .entry)) (now (chart .entry)) action (now (out .entry)) (now (work .entry)) (now (out .exit)) (now (work .exit)) r ⌝ }
+    ensures { λ r. ⌜ Stepped (now (pack .entry)) (now (chart .entry)) action (now (out .entry)) (now (work .entry))
+        (now (out .exit)) (now (work .exit)) r ⌝ }
 {
     let mut places = [0u16; PLACES];
     let p = read_pack(pack, &mut places);

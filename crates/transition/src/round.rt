@@ -1,4 +1,5 @@
-// A round of triggers in a slot. Where it tells nobody anything, every belief stays where it was: the values change in place, and rows that have become the same are merged.
+// A round of triggers in a slot. Where it tells nobody anything, every belief stays where it was: the values change in
+// place, and rows that have become the same are merged.
 use crate::cause::write_told;
 use crate::change::Change;
 use crate::regions::CLASSES;
@@ -40,8 +41,10 @@ pub fn silent(pack: &[u8], at: usize) -> bool
 
 // Whether the effects in the first n rows are.
 pub fn all_silent(pack: &[u8], effects: &[u16], n: usize) -> bool
-    requires { ⌜ (n ≤ 32) × (n ≤ length (now effects)) × ((m : ℕ) → m < n → Telling (now pack) (getD (now effects) m 0)) ⌝ }
-    ensures { λ r. ⌜ (r ≡ true → (m : ℕ) → m < n → OfEffects (now (pack .entry)) (getD (now (effects .entry)) m 0) Silent) ⌝ }
+    requires { ⌜ (n ≤ 32) × (n ≤ length (now effects))
+        × ((m : ℕ) → m < n → Telling (now pack) (getD (now effects) m 0)) ⌝ }
+    ensures { λ r. ⌜ (r ≡ true → (m : ℕ) → m < n
+        → OfEffects (now (pack .entry)) (getD (now (effects .entry)) m 0) Silent) ⌝ }
 {
     let mut m = 0;
     while m < n {
@@ -56,7 +59,8 @@ pub fn all_silent(pack: &[u8], effects: &[u16], n: usize) -> bool
 // Writes the effects in each row of a table into its values.
 pub fn rewrite(pack: &[u8], effects: &[u16], work: &mut [u8], t: Table)
     requires { ⌜ CausedSome (now pack) (now effects) (now work) t ⌝ }
-    ensures { λ _. ⌜ ((s : Scene) → Caused s (now (pack .entry)) (now (effects .entry)) (now (work .entry)) t → Rewritten s t (now (work .entry)) (now (work .exit)) (t .nodes)) ⌝ }
+    ensures { λ _. ⌜ ((s : Scene) → Caused s (now (pack .entry)) (now (effects .entry)) (now (work .entry)) t
+        → Rewritten s t (now (work .entry)) (now (work .exit)) (t .nodes)) ⌝ }
 {
     let mut m = 0;
     while m < t.nodes {
@@ -91,7 +95,8 @@ pub fn merge_slot(work: &mut [u8], t: Table, slot: usize) -> usize
     count
 }
 
-// The round in which these effects take place in the rows of the table in a slot, everyone taking part; how many rows it leaves, or more than 32.
+// The round in which these effects take place in the rows of the table in a slot, everyone taking part; how many rows
+// it leaves, or more than 32.
 pub fn round(
     pack: &[u8],
     places: &[u16],
@@ -101,8 +106,10 @@ pub fn round(
     t: Table,
     slot: usize,
 ) -> usize
-    requires { ⌜ Scened (now pack) (now places) (now effects) h (now work) t × StageRoom (now work) t slot × Everyone h × Slotted (tableOf t (now work)) (now work) t slot ⌝ }
-    ensures { λ r. ⌜ InScene (now (pack .entry)) (now (places .entry)) (now (effects .entry)) h (now (work .entry)) t (λ s. Staged s (h .root) t (now (work .entry)) (now (work .exit)) slot r) ⌝ }
+    requires { ⌜ Scened (now pack) (now places) (now effects) h (now work) t × StageRoom (now work) t slot × Everyone h
+        × Slotted (tableOf t (now work)) (now work) t slot ⌝ }
+    ensures { λ r. ⌜ InScene (now (pack .entry)) (now (places .entry)) (now (effects .entry)) h (now (work .entry)) t
+        (λ s. Staged s (h .root) t (now (work .entry)) (now (work .exit)) slot r) ⌝ }
 {
     if !all_silent(pack, effects, t.nodes) {
         return stage(pack, places, effects, h, work, t, slot);

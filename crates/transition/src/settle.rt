@@ -8,7 +8,8 @@ use pack::refusal::STATES;
 use pack::table::Table;
 ghost use Rattle.transition.specs.Contracts.Play.{Settleable, SettlesIn};
 
-// Settles the state in a slot, of which t is the table: 0 where it does, 12 where there are more than 32 states, 11 where a trigger holds after round 16.
+// Settles the state in a slot, of which t is the table: 0 where it does, 12 where there are more than 32 states, 11
+// where a trigger holds after round 16.
 pub fn settle(
     pack: &[u8],
     places: &[u16],
@@ -18,7 +19,8 @@ pub fn settle(
     slot: usize,
 ) -> u8
     requires { ⌜ Settleable (now pack) (now places) triggers (now work) t slot ⌝ }
-    ensures { λ r. ⌜ SettlesIn (now (pack .entry)) (now (places .entry)) triggers t (now (work .entry)) (now (work .exit)) slot r ⌝ }
+    ensures { λ r. ⌜ SettlesIn (now (pack .entry)) (now (places .entry)) triggers t (now (work .entry))
+        (now (work .exit)) slot r ⌝ }
 {
     if triggers == 0 {
         return 0;

@@ -1,4 +1,5 @@
-// A stage of Step, part 1 or a round: the pass, the partition, and the merged table, which is put into a slot of the work buffer.
+// A stage of Step, part 1 or a round: the pass, the partition, and the merged table, which is put into a slot of the
+// work buffer.
 use crate::change::Change;
 use crate::change::change_table;
 use crate::regions::CLASSES;
@@ -18,16 +19,19 @@ ghost use Rattle.chart.specs.Contracts.Put.{PartCopied};
 ghost use Rattle.transition.specs.Inner.Change.{Scene, Scened, InScene};
 ghost use Rattle.transition.specs.Contracts.Stage.{StageRoom, Staged, scratchAt, slotRoom};
 
-// Puts n rows of w bytes, which stand from `from` on in the scratch, into the slot at `slot`: their count there and the rows behind it.
+// Puts n rows of w bytes, which stand from `from` on in the scratch, into the slot at `slot`: their count there and the
+// rows behind it.
 pub fn put_down(work: &mut [u8], from: usize, n: usize, w: usize, slot: usize)
-    requires { ⌜ (n ≤ 32) × (n * w ≤ 960) × (slot + slotRoom ≤ scratchAt) × (scratchAt ≤ from) × (from + n * w ≤ length (now work)) ⌝ }
+    requires { ⌜ (n ≤ 32) × (n * w ≤ 960) × (slot + slotRoom ≤ scratchAt) × (scratchAt ≤ from)
+        × (from + n * w ≤ length (now work)) ⌝ }
     ensures { λ _. ⌜ PartCopied (set (now (work .entry)) slot n) (now (work .exit)) from (slot + 1) (n * w) ⌝ }
 {
     work[slot] = n as u8;
     copy_part(work, from, slot + 1, n * w);
 }
 
-// Puts the table of what happens, merged, into the slot at `slot`. How many rows that is, or more than 32, and then the slot is as it was.
+// Puts the table of what happens, merged, into the slot at `slot`. How many rows that is, or more than 32, and then the
+// slot is as it was.
 pub fn stage(
     pack: &[u8],
     places: &[u16],
@@ -38,7 +42,8 @@ pub fn stage(
     slot: usize,
 ) -> usize
     requires { ⌜ Scened (now pack) (now places) (now effects) h (now work) t × StageRoom (now work) t slot ⌝ }
-    ensures { λ r. ⌜ InScene (now (pack .entry)) (now (places .entry)) (now (effects .entry)) h (now (work .entry)) t (λ s. Staged s (h .root) t (now (work .entry)) (now (work .exit)) slot r) ⌝ }
+    ensures { λ r. ⌜ InScene (now (pack .entry)) (now (places .entry)) (now (effects .entry)) h (now (work .entry)) t
+        (λ s. Staged s (h .root) t (now (work .entry)) (now (work .exit)) slot r) ⌝ }
 {
     let rows = change_table(pack, places, effects, h, work, t, NUMBERS, MADE);
     if rows == 1 {

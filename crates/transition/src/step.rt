@@ -23,7 +23,8 @@ pub fn step_slot(
     slot: usize,
 ) -> u8
     requires { ⌜ Playable (now pack) (now places) triggers action (now work) t root slot ⌝ }
-    ensures { λ r. ⌜ PlaysIn (now (pack .entry)) (now (places .entry)) triggers action root t (now (work .entry)) (now (work .exit)) slot r ⌝ }
+    ensures { λ r. ⌜ PlaysIn (now (pack .entry)) (now (places .entry)) triggers action root t (now (work .entry))
+        (now (work .exit)) slot r ⌝ }
 {
     let may = holds(pack, places[ACTION * action] as usize, work, t, root);
     if !may {

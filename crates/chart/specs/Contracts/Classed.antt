@@ -43,7 +43,9 @@ pub record Room (bytes : List ℕ) (n w f c t k u : ℕ) : Type 0 where
 -- the rows stand in the order met, and the classes are what they mean, numbered by first row
 pub record Classed (bytes : List ℕ) (n w f c t k : ℕ) : Type 0 where
   pub ordered : Ordered c (rowsAt bytes w f c t n)
-  pub exact : (i j : ℕ) → i < n → j < n → (classAt bytes k i ≡ classAt bytes k j) ↔ (meaning c (rowsAt bytes w f c t n) i ≡ meaning c (rowsAt bytes w f c t n) j)
+  pub exact : (i j : ℕ) → i < n → j < n
+      → (classAt bytes k i ≡ classAt bytes k j)
+      ↔ (meaning c (rowsAt bytes w f c t n) i ≡ meaning c (rowsAt bytes w f c t n) j)
   pub numbered : Numbered (classAt bytes k) n
 
 -- what `write_merged` leaves: r rows from u on, the written chart of what the source means

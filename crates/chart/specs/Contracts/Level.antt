@@ -59,13 +59,16 @@ pub record Against (bytes : List ℕ) (w f c t k r count i : ℕ) : Type 0 where
   pub row : RowOk bytes w f c t k i
   pub leads : (q : ℕ) → q < count → RowOk bytes w f c t k (getD bytes (r + q) 0)
   -- rows that are alike are of one class already
-  pub finer : (q : ℕ) → q < count → Alike bytes w f c t k (getD bytes (r + q) 0) i → classAt bytes k (getD bytes (r + q) 0) ≡ classAt bytes k i
+  pub finer : (q : ℕ) → q < count → Alike bytes w f c t k (getD bytes (r + q) 0) i
+      → classAt bytes k (getD bytes (r + q) 0) ≡ classAt bytes k i
   -- and those of one class have the same values
-  pub values : (q : ℕ) → q < count → classAt bytes k (getD bytes (r + q) 0) ≡ classAt bytes k i → SameValues bytes w f t (getD bytes (r + q) 0) i
+  pub values : (q : ℕ) → q < count → classAt bytes k (getD bytes (r + q) 0) ≡ classAt bytes k i
+      → SameValues bytes w f t (getD bytes (r + q) 0) i
   -- and the new class has no lower number
   pub since : (q : ℕ) → q < count → Alike bytes w f c t k (getD bytes (r + q) 0) i → classAt bytes k i ≤ q
 
--- n rows from t on, then room for new classes from a on, the old classes from k on, and room for the leading rows from r on
+-- n rows from t on, then room for new classes from a on, the old classes from k on, and room for the leading rows from
+-- r on
 pub record Levels (bytes : List ℕ) (n w f c t a k r : ℕ) : Type 0 where
   pub few : n < 256
   pub wide : f + c ≤ w
@@ -74,7 +77,8 @@ pub record Levels (bytes : List ℕ) (n w f c t a k r : ℕ) : Type 0 where
   pub old : k + n ≤ r
   pub leads : r + n ≤ length bytes
 
--- rows that are alike are of one class already, those of one class have the same values, and the classes are numbered by first row
+-- rows that are alike are of one class already, those of one class have the same values, and the classes are numbered
+-- by first row
 pub record Finer (bytes : List ℕ) (n w f c t k : ℕ) : Type 0 where
   pub values : (i j : ℕ) → i < n → j < n → classAt bytes k i ≡ classAt bytes k j → SameValues bytes w f t i j
   pub numbered : Numbered (classAt bytes k) n
@@ -110,9 +114,12 @@ pub record Leveled (was now : List ℕ) (n w f c t a k r count : ℕ) : Type 0 w
 
 -- the classes from k on are those of chains shorter than `depth`
 abbrev pub Exact : List ℕ → (n w f c t k depth : ℕ) → Type 0
-Exact bytes n w f c t k depth = moore.Exact c (λ i. node (rowsAt bytes w f c t n) i .values) (target (rowsAt bytes w f c t n)) n depth (classAt bytes k)
+Exact bytes n w f c t k depth =
+    moore.Exact c (λ i. node (rowsAt bytes w f c t n) i .values) (target (rowsAt bytes w f c t n)) n depth
+    (classAt bytes k)
 
--- what `partition` leaves: where there are at most `limit` classes, what each row means, from k on; else there are more states than that
+-- what `partition` leaves: where there are at most `limit` classes, what each row means, from k on; else there are more
+-- states than that
 pub record Parted (was now : List ℕ) (n w f c t a k r limit count : ℕ) : Type 0 where
   pub few : count ≤ limit → Classed now n w f c t k × (classes (classAt now k) n ≡ count)
   pub many : limit < count → AtMost limit c (meaning c (rowsAt now w f c t n) 0) → ⊥

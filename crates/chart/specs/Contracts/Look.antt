@@ -22,13 +22,16 @@ pub record NodesFrom (bytes : List ℕ) (at end nodes fluents characters : ℕ) 
 abbrev pub NodesRead : (chart : List ℕ) (nodes fluents characters : ℕ) (t : List Node) → Type 0
 NodesRead chart nodes fluents characters t = NodesFrom chart 1 (length chart) nodes fluents characters t
 
-pub record Lookable (chart : List ℕ) (nodes fluents characters : ℕ) (chain : List ℕ) (fluent : ℕ) (work : List ℕ) : Type 0 where
+pub record Lookable (chart : List ℕ) (nodes fluents characters : ℕ) (chain : List ℕ) (fluent : ℕ)
+    (work : List ℕ) : Type 0 where
   pub table : List Node
   pub read : NodesRead chart nodes fluents characters table
   pub valid : Valid characters chain
   pub there : fluent < fluents
   pub room : workRoom ≤ length work
 
-pub record Looked (chart : List ℕ) (nodes fluents characters : ℕ) (chain : List ℕ) (fluent : ℕ) (was now : List ℕ) (r : ℕ) : Type 0 where
-  pub value : (t : List Node) → NodesRead chart nodes fluents characters t → r ≡ getD (meaning characters t 0 chain) fluent 0
+pub record Looked (chart : List ℕ) (nodes fluents characters : ℕ) (chain : List ℕ) (fluent : ℕ) (was now : List ℕ)
+    (r : ℕ) : Type 0 where
+  pub value : (t : List Node) → NodesRead chart nodes fluents characters t
+      → r ≡ getD (meaning characters t 0 chain) fluent 0
   pub work : now ≡ cleared was

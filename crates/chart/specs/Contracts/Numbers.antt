@@ -1,4 +1,5 @@
--- Numbers given on demand: of `size` slots, each has a number (kept one higher, 0 for none), and each number the slot that it was given to. Assumes nothing.
+-- Numbers given on demand: of `size` slots, each has a number (kept one higher, 0 for none), and each number the slot
+-- that it was given to. Assumes nothing.
 use mathlib.Core.Path.{_≡_}
 use mathlib.Core.List.{List}
 use Prim.Native.Nat.{ℕ, suc, _+_, _*_, _<_, _≤_, max}
@@ -43,7 +44,8 @@ pub record Named (was now : List ℕ) (m size count more to c : ℕ) (slots : �
   pub high : Above was now (to + c)
 
 -- what `fill_row` leaves: a row of f values and c beliefs from `to` on
-pub record RowFilled (was now : List ℕ) (m size count more to w f c : ℕ) (values : List ℕ) (slots : ℕ → ℕ) : Type 0 where
+pub record RowFilled (was now : List ℕ) (m size count more to w f c : ℕ) (values : List ℕ)
+    (slots : ℕ → ℕ) : Type 0 where
   pub holds : cells now to f ≡ values
   pub numbering : Numbering now m size more
   pub fresh : Fresh count (cells now (to + f) c)

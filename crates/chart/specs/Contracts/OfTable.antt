@@ -1,4 +1,5 @@
--- A contract over plain numbers, of those that a table has, and of those that say where its classes stand. Assumes nothing.
+-- A contract over plain numbers, of those that a table has, and of those that say where its classes stand. Assumes
+-- nothing.
 use mathlib.Core.List.{List}
 use Prim.Native.Nat.{ℕ, _+_}
 use lib.ListN.{getD}

@@ -1,4 +1,5 @@
--- Rows of bytes put from one buffer into another, their beliefs with a number added and one taken away: a table written out as a chart's bytes (1 and 0). Assumes nothing.
+-- Rows of bytes put from one buffer into another, their beliefs with a number added and one taken away: a table written
+-- out as a chart's bytes (1 and 0). Assumes nothing.
 use mathlib.Core.Path.{_≡_}
 use mathlib.Core.List.{List}
 use Prim.Native.Nat.{ℕ, _+_, _*_, _-_, _<_, _≤_}
@@ -29,6 +30,7 @@ pub record RowPutIn (src was now : List ℕ) (from to f c more less : ℕ) : Typ
 -- the first i rows
 pub record RowsPut (src was now : List ℕ) (w f c from to more less i : ℕ) : Type 0 where
   pub values : (j q : ℕ) → j < i → q < f → getD now (to + j * w + q) 0 ≡ getD src (from + j * w + q) 0
-  pub beliefs : (j d : ℕ) → j < i → d < c → getD now (to + j * w + f + d) 0 ≡ shifted src more less (from + j * w + f + d)
+  pub beliefs : (j d : ℕ) → j < i → d < c
+      → getD now (to + j * w + f + d) 0 ≡ shifted src more less (from + j * w + f + d)
   pub low : Below was now to
   pub high : Above was now (to + i * w)

@@ -1,4 +1,5 @@
--- What merging a table that is loaded from place 1 on asks and promises, and writing the chart of a pack's nodes. Assumes nothing.
+-- What merging a table that is loaded from place 1 on asks and promises, and writing the chart of a pack's nodes.
+-- Assumes nothing.
 use mathlib.Core.Path.{_≡_}
 use mathlib.Core.List.{List, _++_}
 use Prim.Native.Nat.{ℕ, _+_, _<_, _≤_}
@@ -40,5 +41,6 @@ pub record Startable (pack : List ℕ) (first nodes fluents characters : ℕ) (c
 -- the chart of what node 0 means is written, and the work buffer cleared
 pub record StartPut (characters : ℕ) (table : List Node) (chart chart′ work work′ : List ℕ) (r : ℕ) : Type 0 where
   pub answer : r ≡ length (chartBytes (startTable characters table))
-  pub result : chart′ ≡ chartBytes (startTable characters table) ++ drop (length (chartBytes (startTable characters table))) chart
+  pub result : chart′
+      ≡ chartBytes (startTable characters table) ++ drop (length (chartBytes (startTable characters table))) chart
   pub scratch : work′ ≡ cleared work

@@ -28,7 +28,8 @@ pub record Joinable (first : List ℕ) (n : ℕ) (second : List ℕ) (m f c : �
 pub record Joined (first : List ℕ) (n : ℕ) (second : List ℕ) (m f c : ℕ) (was now : List ℕ) : Type 0 where
   pub sound : Sound now (n + m) (f + c) f c 1
   pub left : (t : List Node) → NodesRead first n f c t → meaning c (rowsAt now (f + c) f c 1 (n + m)) 0 ≡ meaning c t 0
-  pub right : (u : List Node) → NodesRead second m f c u → meaning c (rowsAt now (f + c) f c 1 (n + m)) n ≡ meaning c u 0
+  pub right : (u : List Node) → NodesRead second m f c u
+      → meaning c (rowsAt now (f + c) f c 1 (n + m)) n ≡ meaning c u 0
   pub high : Above was now 1921
 
 -- at most 64 rows of at most 30 bytes from 1 on, each belief one of them
@@ -53,6 +54,8 @@ pub record RowsMatched (was now : List ℕ) (n m f c : ℕ) (chain chain′ : Li
   pub high : Above was now 26624
 
 -- of two charts
-pub record ChartsMatched (first : List ℕ) (n : ℕ) (second : List ℕ) (m f c : ℕ) (chain chain′ work work′ : List ℕ) (r : Matched) : Type 0 where
-  pub said : (t u : List Node) → NodesRead first n f c t → NodesRead second m f c u → Said (compareTable c f t u) chain chain′ r
+pub record ChartsMatched (first : List ℕ) (n : ℕ) (second : List ℕ) (m f c : ℕ) (chain chain′ work work′ : List ℕ)
+    (r : Matched) : Type 0 where
+  pub said : (t u : List Node) → NodesRead first n f c t → NodesRead second m f c u
+      → Said (compareTable c f t u) chain chain′ r
   pub scratch : work′ ≡ cleared work

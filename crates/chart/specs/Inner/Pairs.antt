@@ -1,5 +1,6 @@
--- Pairs of rows in the order met, breadth first. A pair is marked where it was met, and is an entry of five bytes: its rows, the number of the entry that it was met from,
--- in two bytes, and the character that leads there. Assumes nothing.
+-- Pairs of rows in the order met, breadth first. A pair is marked where it was met, and is an entry of five bytes: its
+-- rows, the number of the entry that it was met from, in two bytes, and the character that leads there. Assumes
+-- nothing.
 use mathlib.Core.Path.{_≡_}
 use mathlib.Core.Logic.{_⊎_, _≢_}
 use mathlib.Core.List.{List, [], _∷_, _++_}
@@ -45,12 +46,15 @@ pub record Pairs (T : List Node) (r s : ℕ) (bytes : List ℕ) (n c m q count d
   pub met : Met T c r s (leftAt bytes q) (rightAt bytes q) (fromAt bytes q) (charAt bytes q) count done d
   pub inside : (e : ℕ) → e < count → (leftAt bytes q e < n) × (rightAt bytes q e < n)
   pub marked : (e : ℕ) → e < count → markAt bytes m (leftAt bytes q e) (rightAt bytes q e) ≡ 1
-  pub listed : (x y : ℕ) → x < 64 → y < 64 → (markAt bytes m x y ≡ 0) ⊎ ((e : ℕ) × (e < count) × (leftAt bytes q e ≡ x) × (rightAt bytes q e ≡ y))
-  pub distinct : (a b : ℕ) → a < b → b < count → leftAt bytes q a ≡ leftAt bytes q b → rightAt bytes q a ≡ rightAt bytes q b → ⊥
+  pub listed : (x y : ℕ) → x < 64 → y < 64
+      → (markAt bytes m x y ≡ 0) ⊎ ((e : ℕ) × (e < count) × (leftAt bytes q e ≡ x) × (rightAt bytes q e ≡ y))
+  pub distinct : (a b : ℕ) → a < b → b < count → leftAt bytes q a ≡ leftAt bytes q b
+      → rightAt bytes q a ≡ rightAt bytes q b → ⊥
 
 -- the pairs met from those of the first entry on
 abbrev pub PairsIn : List ℕ → (n w f c t m q count done d : ℕ) → Type 0
-PairsIn bytes n w f c t m q count done d = Pairs (rowsAt bytes w f c t n) (leftAt bytes q 0) (rightAt bytes q 0) bytes n c m q count done d
+PairsIn bytes n w f c t m q count done d =
+    Pairs (rowsAt bytes w f c t n) (leftAt bytes q 0) (rightAt bytes q 0) bytes n c m q count done d
 
 -- entry `count` is written, and its pair marked
 pub record EntryPut (was now : List ℕ) (m q count x y from d : ℕ) : Type 0 where
@@ -92,7 +96,8 @@ pub record FirstOther (T : List Node) (r s : ℕ) (bytes : List ℕ) (n c m q k 
 
 -- what `seek` leaves: k is the first entry whose rows have other values, or 4096 where there is none
 pub record Sought (was now : List ℕ) (n w f c t m q k : ℕ) : Type 0 where
-  pub none : 4096 ≤ k → meaning c (rowsAt was w f c t n) (leftAt was q 0) ≡ meaning c (rowsAt was w f c t n) (rightAt was q 0)
+  pub none : 4096 ≤ k
+      → meaning c (rowsAt was w f c t n) (leftAt was q 0) ≡ meaning c (rowsAt was w f c t n) (rightAt was q 0)
   pub some : k < 4096 → FirstOther (rowsAt was w f c t n) (leftAt was q 0) (rightAt was q 0) now n c m q k
   pub low : Below was now m
   pub high : Above was now (q + 20480)
@@ -101,7 +106,8 @@ pub record Sought (was now : List ℕ) (n w f c t m q k : ℕ) : Type 0 where
 pub record Ways (bytes : List ℕ) (q e : ℕ) : Type 0 where
   pub way : ℕ → List ℕ
   pub root : way 0 ≡ []
-  pub on : (i : ℕ) → 0 < i → i ≤ e → (fromAt bytes q i < i) × (way i ≡ way (fromAt bytes q i) ++ (charAt bytes q i ∷ []))
+  pub on : (i : ℕ) → 0 < i → i ≤ e
+      → (fromAt bytes q i < i) × (way i ≡ way (fromAt bytes q i) ++ (charAt bytes q i ∷ []))
   pub room : q + e * 5 + 5 ≤ length bytes
 
 -- their chain has room

@@ -1,4 +1,5 @@
--- The first level of the partition: rows classed by their values, the classes found by a mark of the values. Assumes nothing.
+-- The first level of the partition: rows classed by their values, the classes found by a mark of the values. Assumes
+-- nothing.
 use mathlib.Core.Path.{_≡_}
 use mathlib.Core.List.{List}
 use Prim.Native.Nat.{ℕ, zero, suc, _+_, _*_, _%_, _<_, _≤_}
@@ -26,7 +27,8 @@ pub record Last (mark : ℕ → ℕ) (m b x : ℕ) : Type 0 where
   pub has : (p : ℕ) → x ≡ suc p → mark p ≡ b
   pub others : (p : ℕ) → x ≤ p → p < m → mark p ≡ b → ⊥
 
--- the leading rows of `count` classes are to be held against row i: from a on stands for each class the last one before it of its mark, and `last` is the last of row i's
+-- the leading rows of `count` classes are to be held against row i: from a on stands for each class the last one before
+-- it of its mark, and `last` is the last of row i's
 pub record Chain (bytes : List ℕ) (w f t a r i count last : ℕ) : Type 0 where
   pub row : t + i * w + f ≤ length bytes
   pub leads : (q : ℕ) → q < count → t + getD bytes (r + q) 0 * w + f ≤ length bytes
@@ -35,7 +37,8 @@ pub record Chain (bytes : List ℕ) (w f t a r i count last : ℕ) : Type 0 wher
   pub nexts : (q : ℕ) → q < count → Last (leadMark bytes w f t r) q (leadMark bytes w f t r q) (getD bytes (a + q) 0)
   pub ends : Last (leadMark bytes w f t r) count (markOf bytes (t + i * w) f) last
 
--- of `count` classes the last of each mark stands in `heads`, and from a on for each class the last before it of its mark
+-- of `count` classes the last of each mark stands in `heads`, and from a on for each class the last before it of its
+-- mark
 pub record Chained (bytes heads : List ℕ) (w f t a r count : ℕ) : Type 0 where
   pub marks : length heads ≡ 131
   pub heads-last : (b : ℕ) → b < 131 → Last (leadMark bytes w f t r) count b (getD heads b 0)

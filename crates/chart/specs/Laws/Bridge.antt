@@ -1,4 +1,5 @@
--- The partition's theorems (`Moore`) said of a table: class numbers that may stop are what `Merged` asks for. Assumes nothing.
+-- The partition's theorems (`Moore`) said of a table: class numbers that may stop are what `Merged` asks for. Assumes
+-- nothing.
 use Prim.Native.Nat.{ℕ, _<_}
 use mathlib.Core.Path.{_≡_, refl, sym, _∙_, ap, fun-ext}
 use mathlib.Core.Logic.{_↔_, Iff·trans}
@@ -27,14 +28,16 @@ module _ (C : ℕ) (t : List Node) where
       go (c ∷ chain) n = rw (go chain (target t n c))
 
   -- class numbers of level k, where the partition is stable
-  pub exact : (closed : Closed C t) (k : ℕ) (cls : ℕ → ℕ) → moore.Exact C val (target t) (length t) k cls → moore.Stable C val (target t) (length t) closed k
+  pub exact : (closed : Closed C t) (k : ℕ) (cls : ℕ → ℕ) → moore.Exact C val (target t) (length t) k cls
+      → moore.Stable C val (target t) (length t) closed k
       → (i j : ℕ) → i < length t → j < length t → (cls i ≡ cls j) ↔ (meaning C t i ≡ meaning C t j)
   exact closed k cls e st i j li lj =
       Iff·trans (moore.exact-all C val (target t) (length t) closed k cls e st i j li lj)
       (λ x. meaning-at i ∙ x ∙ sym (meaning-at j), λ x. sym (meaning-at i) ∙ x ∙ meaning-at j)
 
   -- class numbers of any level: rows that mean the same are of one class
-  pub coarse : (k : ℕ) (cls : ℕ → ℕ) → moore.Exact C val (target t) (length t) k cls → (i j : ℕ) → i < length t → j < length t → meaning C t i ≡ meaning C t j → cls i ≡ cls j
+  pub coarse : (k : ℕ) (cls : ℕ → ℕ) → moore.Exact C val (target t) (length t) k cls → (i j : ℕ) → i < length t
+      → j < length t → meaning C t i ≡ meaning C t j → cls i ≡ cls j
   coarse k cls e i j li lj x = e i j li lj .1 (λ ch l. ap (λ (s : State). s ch) (sym (meaning-at i) ∙ x ∙ meaning-at j))
 
 -- more classes than n at any level: more states than n
@@ -44,5 +47,6 @@ pub many : (C : ℕ) (t : List Node) → Ordered C t → (cls : ℕ → ℕ) →
 many C t w cls d same n h x =
     omega (
       arith,
-      at-least C t (ordered-reached C t w) cls (classes cls (length t)) (λ i l. let (r, lr, e, f) = first cls (length t) d i l in (r, lr, e)) same n x,
+      at-least C t (ordered-reached C t w) cls (classes cls (length t))
+          (λ i l. let (r, lr, e, f) = first cls (length t) d i l in (r, lr, e)) same n x,
     )

@@ -1,4 +1,5 @@
--- How a table that is built is shown to mean what it should: a family of states that is closed under one step of belief, and a member of it for each row. Assumes nothing.
+-- How a table that is built is shown to mean what it should: a family of states that is closed under one step of
+-- belief, and a member of it for each row. Assumes nothing.
 use Prim.Native.Nat.{ℕ, _<_, _≤_}
 use mathlib.Core.Path.{_≡_, refl, sym, _∙_, ap}
 use mathlib.Core.List.{List, []}
@@ -8,21 +9,25 @@ use Rattle.pack.specs.Syntax.{Node}
 use Rattle.pack.specs.Laws.Table.{means, blank, belief-in, belief-out}
 
 -- members of K stand for states: the values of each, and what each believes, again a member
-pub record Family (C : ℕ) {K : Type 0} (Real : K → Type 0) (sem : K → State) (values : K → List ℕ) (next : K → ℕ → K) : Type 0 where
+pub record Family (C : ℕ) {K : Type 0} (Real : K → Type 0) (sem : K → State) (values : K → List ℕ)
+    (next : K → ℕ → K) : Type 0 where
   pub found : (k : K) → Real k → values k ≡ sem k []
   pub step : (k : K) → Real k → (c : ℕ) → c < C → sem (next k c) ≡ belief (sem k) c
   pub real : (k : K) → Real k → (c : ℕ) → c < C → Real (next k c)
   pub outside : (k : K) → Real k → (c : ℕ) → C ≤ c → belief (sem k) c ≡ blank
 
 -- each row of t holds the values of a member and names what that member believes
-pub record Rows (C : ℕ) (t : List Node) {K : Type 0} (Real : K → Type 0) (val : K → List ℕ) (next : K → ℕ → K) (key : ℕ → K) : Type 0 where
+pub record Rows (C : ℕ) (t : List Node) {K : Type 0} (Real : K → Type 0) (val : K → List ℕ) (next : K → ℕ → K)
+    (key : ℕ → K) : Type 0 where
   pub real : (i : ℕ) → i < length t → Real (key i)
   pub values : (i : ℕ) → i < length t → node t i .values ≡ val (key i)
   pub inside : (i c : ℕ) → i < length t → c < C → target t i c < length t
   pub names : (i c : ℕ) → i < length t → c < C → key (target t i c) ≡ next (key i) c
 
-pub built : {C : ℕ} {t : List Node} {K : Type 0} {Real : K → Type 0} {sem : K → State} {values : K → List ℕ} {next : K → ℕ → K} {key : ℕ → K}
-    → Family C Real sem values next → Rows C t Real values next key → (i : ℕ) → i < length t → meaning C t i ≡ sem (key i)
+pub built : {C : ℕ} {t : List Node} {K : Type 0} {Real : K → Type 0} {sem : K → State} {values : K → List ℕ}
+    {next : K → ℕ → K} {key : ℕ → K}
+    → Family C Real sem values next → Rows C t Real values next key → (i : ℕ) → i < length t
+    → meaning C t i ≡ sem (key i)
 built {C} {t} {sem = sem} {key = key} f r = means C t (λ i. sem (key i)) (record {
   values = λ n h. r .values n h ∙ f .found (key n) (r .real n h);
   inside = λ n c h l. r .inside n c h l;

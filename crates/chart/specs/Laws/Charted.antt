@@ -1,4 +1,5 @@
--- Whatever state a table means has a written chart: its rows that are reached, in order, one for each meaning. So it is decided how many states its chains lead to. Assumes nothing.
+-- Whatever state a table means has a written chart: its rows that are reached, in order, one for each meaning. So it is
+-- decided how many states its chains lead to. Assumes nothing.
 use Prim.Native.Nat.{ℕ, zero, suc, _-_, _<_, _≤_, min}
 use mathlib.Core.Path.{_≡_, refl, sym, _∙_, ap, subst}
 use mathlib.Core.Logic.{⊎-elim, by-cases, _↔_, _⊎_}
@@ -22,11 +23,14 @@ use Rattle.chart.specs.Laws.Tabled.{Tabled}
 use Rattle.chart.specs.Laws.Unique.{some, unique, ordered-reached}
 
 -- two rows mean the same, or they don't
-pub same? : (C : ℕ) (t : List Node) → Closed C t → (i j : ℕ) → i < length t → j < length t → Dec (meaning C t i ≡ meaning C t j)
+pub same? : (C : ℕ) (t : List Node) → Closed C t → (i j : ℕ) → i < length t → j < length t
+    → Dec (meaning C t i ≡ meaning C t j)
 same? C t closed i j li lj =
     ⊎-elim
-    (λ s. yes (meaning-at C t i ∙ moore.bound C (val C t) (target t) (length t) closed i j li lj s ∙ sym (meaning-at C t j)))
-    (λ (a : moore.Apart C (val C t) (target t) (length t - 1) i j). no (λ e. a .2 (ap (λ (s : State). s (a .0)) (sym (meaning-at C t i) ∙ e ∙ meaning-at C t j))))
+    (λ s.
+    yes (meaning-at C t i ∙ moore.bound C (val C t) (target t) (length t) closed i j li lj s ∙ sym (meaning-at C t j)))
+    (λ (a : moore.Apart C (val C t) (target t) (length t - 1) i j).
+    no (λ e. a .2 (ap (λ (s : State). s (a .0)) (sym (meaning-at C t i) ∙ e ∙ meaning-at C t j))))
     (moore.same-or-apart C (val C t) (target t) (length t - 1) i j)
 
 more : {A : Type 0} → Dec A → ℕ → ℕ
@@ -51,7 +55,8 @@ module _ {R : ℕ → ℕ → Type 0} (s : Sorts R) where
   tally-up m zero h = let e : m ≡ 0 = omega arith in rw e (omega arith)
   tally-up m (suc n) h =
       ⊎-elim (λ (e : m ≡ suc n). rw e (omega arith))
-      (λ (l : m < suc n). let r = tally-up m n (le-of-suc-le-suc l) in by-cases (first? s n) (λ f. omega (arith, tally-new n f)) (λ f. omega (arith, tally-old n f))) (eq-or-lt-of-le h)
+      (λ (l : m < suc n). let r = tally-up m n (le-of-suc-le-suc l) in
+      by-cases (first? s n) (λ f. omega (arith, tally-new n f)) (λ f. omega (arith, tally-old n f))) (eq-or-lt-of-le h)
 
   tally-past : (m n : ℕ) → m < n → First R m → tally m < tally n
   tally-past m n h f = omega (arith, tally-new m f, tally-up (suc m) n h)
@@ -64,7 +69,8 @@ module _ {R : ℕ → ℕ → Type 0} (s : Sorts R) where
   class-same n m =
       let (a, la, ra, fa) = head s n in
       let (b, lb, rb, fb) = head s m in (
-        λ e. let g : a ≡ b = by-cases (decLt a b) (λ l. absurd (omega (arith, tally-past a b l fa))) (λ x. by-cases (decLt b a) (λ l. absurd (omega (arith, tally-past b a l fb))) (λ y. omega arith)) in
+        λ e. let g : a ≡ b = by-cases (decLt a b) (λ l. absurd (omega (arith, tally-past a b l fa)))
+            (λ x. by-cases (decLt b a) (λ l. absurd (omega (arith, tally-past b a l fb))) (λ y. omega arith)) in
             s .join (s .back ra) (subst (λ (x : ℕ). R x m) (sym g) rb),
         λ x. ap tally (head-one s a b fa fb (s .join ra (s .join x (s .back rb)))),
       )
@@ -77,7 +83,9 @@ module _ {R : ℕ → ℕ → Type 0} (s : Sorts R) where
       let e = class-tally i in
       by-cases (first? s i)
       (λ f. let g : a ≡ i = head-one s a i fa f ra in omega (arith, tally-new i f, ap tally g))
-      (λ f. let l : a < i = by-cases (decLt a i) (λ l. l) (λ x. let g : a ≡ i = omega arith in absurd (f (subst (First R) g fa))) in omega (arith, tally-old i f, tally-past a i l fa))
+      (λ f. let l : a < i = by-cases (decLt a i) (λ l. l)
+      (λ x. let g : a ≡ i = omega arith in absurd (f (subst (First R) g fa))) in
+      omega (arith, tally-old i f, tally-past a i l fa))
 
   pub class-numbered : (i : ℕ) → class i ≤ classes class i
   unfolding class
@@ -101,7 +109,12 @@ module _ (C : ℕ) (t : List Node) (w : Ordered C t) where
   cap-id n h = omega arith
 
   alike : Sorts (λ n m. meaning C t (cap n) ≡ meaning C t (cap m))
-  alike = record { self = λ n. refl; back = λ e. sym e; join = λ e f. e ∙ f; test = λ n m. same? C t (w .closed) (cap n) (cap m) (cap-in n) (cap-in m) }
+  alike = record {
+    self = λ n. refl;
+    back = λ e. sym e;
+    join = λ e f. e ∙ f;
+    test = λ n m. same? C t (w .closed) (cap n) (cap m) (cap-in n) (cap-in m);
+  }
 
   cls : ℕ → ℕ
   cls = class alike
@@ -130,8 +143,10 @@ module _ (C : ℕ) (t : List Node) (w : Ordered C t) where
     rows = λ i li e.
         let l : cls i < classes cls (length t) = grows cls i (length t) li in
         let (r, lr, f, g) = rep (cls i) l in
-        let same : r ≡ i = by-cases (decLt r i) (λ h. absurd (omega (arith, grows cls r i h))) (λ x. by-cases (decLt i r) (λ h. absurd (omega (arith, grows cls i r h))) (λ y. omega arith)) in
-        getD-tabulate (classes cls (length t)) line nowhere (cls i) l ∙ ap (λ (i : ℕ). record { values = node t i .values; beliefs = map cls (node t i .beliefs) }) same;
+        let same : r ≡ i = by-cases (decLt r i) (λ h. absurd (omega (arith, grows cls r i h)))
+        (λ x. by-cases (decLt i r) (λ h. absurd (omega (arith, grows cls i r h))) (λ y. omega arith)) in
+        getD-tabulate (classes cls (length t)) line nowhere (cls i) l
+        ∙ ap (λ (i : ℕ). record { values = node t i .values; beliefs = map cls (node t i .beliefs) }) same;
   }
 
 -- the written chart
@@ -147,7 +162,11 @@ chart {C} x =
     let m = merging C u w in
     let pos : 0 < length u = some u (w .whole) in
     let z : cls C u w 0 ≡ 0 = omega (arith, m .numbered 0 pos, classes-zero (cls C u w)) in
-    record { rows = lines C u w; written = merged C u (cls C u w) (lines C u w) m; means = ap (meaning C (lines C u w)) (sym z) ∙ kept C u (cls C u w) (lines C u w) m 0 pos ∙ e ∙ x .means }
+    record {
+      rows = lines C u w;
+      written = merged C u (cls C u w) (lines C u w) m;
+      means = ap (meaning C (lines C u w)) (sym z) ∙ kept C u (cls C u w) (lines C u w) m 0 pos ∙ e ∙ x .means;
+    }
   where
     classes-zero : (cls : ℕ → ℕ) → classes cls 0 ≡ 0
     classes-zero cls = unfold classes in refl
@@ -157,7 +176,8 @@ module _ {C : ℕ} {s : State} (x : Charting C s) where
   few-rows n =
       let w = x .written .ordered in
       subst (λ (s : State). AtMost n C s ↔ (length (x .rows) ≤ n)) (x .means)
-      (counted C (x .rows) (ordered-reached C (x .rows) w) (w .closed) (some (x .rows) (w .whole)) (x .written .apart) n)
+      (counted C (x .rows) (ordered-reached C (x .rows) w) (w .closed) (some (x .rows) (w .whole))
+      (x .written .apart) n)
 
 pub few? : {C : ℕ} {s : State} → Tabled C s → (n : ℕ) → Dec (AtMost n C s)
 few? x n = let c = chart x in let e = few-rows c n in map-dec (e .1) (e .0) (decLe (length (c .rows)) n)

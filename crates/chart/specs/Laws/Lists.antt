@@ -18,11 +18,13 @@ unfolding tabulate
 length-tabulate zero f = refl
 length-tabulate (suc n) f = ap suc (length-tabulate n (λ i l. f (suc i) (omega arith)))
 
-pub getD-tabulate : {A : Type 0} (n : ℕ) (f : (i : ℕ) → i < n → A) (d : A) (i : ℕ) (l : i < n) → getD (tabulate n f) i d ≡ f i l
+pub getD-tabulate : {A : Type 0} (n : ℕ) (f : (i : ℕ) → i < n → A) (d : A) (i : ℕ) (l : i < n)
+    → getD (tabulate n f) i d ≡ f i l
 unfolding tabulate
 getD-tabulate zero f d i l = absurd (omega arith)
 getD-tabulate (suc n) f d zero l = ap (f 0) (le-prop _ _)
-getD-tabulate (suc n) f d (suc i) l = getD-tabulate n (λ i l. f (suc i) (omega arith)) d i (omega arith) ∙ ap (f (suc i)) (le-prop _ _)
+getD-tabulate (suc n) f d (suc i) l =
+    getD-tabulate n (λ i l. f (suc i) (omega arith)) d i (omega arith) ∙ ap (f (suc i)) (le-prop _ _)
 
 -- what stands at a place is a member, and a member stands at a place
 pub stands : {A : Type 0} (l : List A) (d : A) (i : ℕ) → i < length l → List·Memᴰ (getD l i d) l
@@ -42,19 +44,25 @@ below (suc n) = n ∷ below n
 pub below-in : (n i : ℕ) → i < n → List·Memᴰ i (below n)
 unfolding below
 below-in zero i l = absurd (omega arith)
-below-in (suc n) i l = ⊎-elim (λ (e : i ≡ n). List·Memᴰ·head e) (λ (h : i < n). List·Memᴰ·tail (below-in n i h)) (eq-or-lt-of-le (le-of-suc-le-suc l))
+below-in (suc n) i l =
+    ⊎-elim (λ (e : i ≡ n). List·Memᴰ·head e) (λ (h : i < n). List·Memᴰ·tail (below-in n i h))
+    (eq-or-lt-of-le (le-of-suc-le-suc l))
 
 pub below-out : (n i : ℕ) → List·Memᴰ i (below n) → i < n
 unfolding below
 below-out zero i m = elim m [ ]
-below-out (suc n) i m = ⊎-elim (λ (e : i ≡ n). omega arith) (λ (h : List·Memᴰ i (below n)). omega (arith, below-out n i h)) (List·Memᴰ·cases-cons m)
+below-out (suc n) i m =
+    ⊎-elim (λ (e : i ≡ n). omega arith) (λ (h : List·Memᴰ i (below n)). omega (arith, below-out n i h))
+    (List·Memᴰ·cases-cons m)
 
 pub map-in : {A B : Type 0} (f : A → B) (l : List A) (x : A) → List·Memᴰ x l → List·Memᴰ (f x) (map f l)
 map-in f l x (List·Memᴰ·head e) = List·Memᴰ·head (ap f e)
 map-in f l x (List·Memᴰ·tail m) = List·Memᴰ·tail (map-in f _ x m)
 
-pub map-out : {A B : Type 0} (f : A → B) (l : List A) (y : B) → List·Memᴰ y (map f l) → (x : A) × List·Memᴰ x l × (y ≡ f x)
+pub map-out : {A B : Type 0} (f : A → B) (l : List A) (y : B) → List·Memᴰ y (map f l)
+    → (x : A) × List·Memᴰ x l × (y ≡ f x)
 map-out f [] y m = elim m [ ]
 map-out {A} f (a ∷ l) y m =
     ⊎-elim (λ (e : y ≡ f a). (a, List·Memᴰ·head refl, e))
-    (λ (h : List·Memᴰ y (map f l)). let (x, n, e) = map-out f l y h in (x, List·Memᴰ·tail n, e)) (List·Memᴰ·cases-cons m)
+    (λ (h : List·Memᴰ y (map f l)). let (x, n, e) = map-out f l y h in (x, List·Memᴰ·tail n, e))
+    (List·Memᴰ·cases-cons m)

@@ -1,4 +1,5 @@
--- Nodes that are read, copied behind their count at the start of the work buffer: there is room for them, and the table there is the nodes. Assumes nothing.
+-- Nodes that are read, copied behind their count at the start of the work buffer: there is room for them, and the table
+-- there is the nodes. Assumes nothing.
 use Prim.Native.Nat.{ℕ, _+_, _*_, _≤_}
 use mathlib.Core.Path.{_≡_}
 use mathlib.Core.List.{List}
@@ -18,7 +19,10 @@ use Rattle.chart.specs.Contracts.Start.{Mergeable, Merged}
 
 module _ {bytes : List ℕ} {at end nodes f c : ℕ} {t : List Node} (r : NodesFrom bytes at end nodes f c t) where
   pub read-slim : (f + c ≤ 30) × (c ≤ 6)
-  read-slim = let s = r .shaped in (omega (arith, s .small .characters, s .small .fluents, s .fluents, s .characters), omega (arith, s .small .characters, s .characters))
+  read-slim = let s = r .shaped in (
+    omega (arith, s .small .characters, s .small .fluents, s .fluents, s .characters),
+    omega (arith, s .small .characters, s .characters),
+  )
 
   -- a table is far smaller than the work buffer
   pub read-small : 1 + nodes * (f + c) ≤ 961
@@ -36,11 +40,21 @@ module _ {bytes : List ℕ} {at end nodes f c : ℕ} {t : List Node} (r : NodesF
 
   module _ {work : List ℕ} (room : workRoom ≤ length work) where
     pub read-copies : TableCopyable bytes at nodes work 0 f c
-    read-copies = record { dimensions = r .dimensions; sized = r .shaped; few = r .few; value = t; end = end; reads = r .reads; room = omega (arith, read-small, room) }
+    read-copies =
+        record {
+          dimensions = r .dimensions;
+          sized = r .shaped;
+          few = r .few;
+          value = t;
+          end = end;
+          reads = r .reads;
+          room = omega (arith, read-small, room);
+        }
 
     module _ {mid : List ℕ} (x : TableCopied bytes at nodes work mid 0 f c) where
       pub read-fits : TableFits readTable mid
-      read-fits = copied-fits bytes at nodes work mid 0 f c x (r .dimensions) (r .shaped) t end (r .reads) (omega (arith, read-small, room))
+      read-fits = copied-fits bytes at nodes work mid 0 f c x (r .dimensions) (r .shaped) t end (r .reads)
+          (omega (arith, read-small, room))
 
       pub read-merges : Mergeable mid nodes (f + c) f c
       read-merges = record {

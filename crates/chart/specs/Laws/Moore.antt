@@ -1,4 +1,5 @@
--- How far two nodes of a graph of beliefs agree, and when agreement to a depth is agreement at every depth (Moore). Assumes nothing.
+-- How far two nodes of a graph of beliefs agree, and when agreement to a depth is agreement at every depth (Moore).
+-- Assumes nothing.
 use mathlib.Core.Path.{_≡_, refl, sym, _∙_, ap, fun-ext}
 use mathlib.Core.Logic.{_⊎_, inl, inr, ⊎-elim, by-cases, _↔_, _≢_, Iff·trans, Iff·symm}
 use mathlib.Core.Bool.{cond}
@@ -10,7 +11,8 @@ use native.Mathlib.Omega.{arith}
 use lib.ListN.{length}
 use lib.Dec.{ltb}
 use borrow.Author.Tests.{lt-ltb, le-ltb}
-use Rattle.chart.specs.Laws.Classes.{Sorts, by-key, classes-of, classes-pos, classes-full, classes-eq, classes-below, classes-used}
+use Rattle.chart.specs.Laws.Classes.{Sorts, by-key, classes-of, classes-pos, classes-full}
+use Rattle.chart.specs.Laws.Classes.{classes-eq, classes-below, classes-used}
 use Rattle.chart.specs.Laws.Count.{least}
 
 -- C characters; the values at node n are `val n`, and `bel n c` is the node that n's belief for the character c names
@@ -53,12 +55,17 @@ module _ (C : ℕ) (val : ℕ → List ℕ) (bel : ℕ → ℕ → ℕ) where
   pub same-or-apart : (k n m : ℕ) → Same k n m ⊎ Apart k n m
   unfolding at
   same-or-apart zero n m = inl (λ ch l. absurd (omega arith))
-  same-or-apart (suc k) n m = go (List-discrete ℕ-discrete (val n) (val m)) (least (λ c. same-or-apart k (bel n c) (bel m c)) C)
+  same-or-apart (suc k) n m =
+      go (List-discrete ℕ-discrete (val n) (val m)) (least (λ c. same-or-apart k (bel n c) (bel m c)) C)
     where
-      go : Dec (val n ≡ val m) → ((c : ℕ) → c < C → Same k (bel n c) (bel m c)) ⊎ ((c : ℕ) × (c < C) × Apart k (bel n c) (bel m c) × ((d : ℕ) → d < c → Same k (bel n d) (bel m d))) → Same (suc k) n m ⊎ Apart (suc k) n m
+      go : Dec (val n ≡ val m)
+          → ((c : ℕ) → c < C → Same k (bel n c) (bel m c))
+          ⊎ ((c : ℕ) × (c < C) × Apart k (bel n c) (bel m c) × ((d : ℕ) → d < c → Same k (bel n d) (bel m d)))
+          → Same (suc k) n m ⊎ Apart (suc k) n m
       go (no x) r = inr ([], zero-lt-suc k, x)
       go (yes v) (inl b) = inl (same-in k n m v b)
-      go (yes v) (inr (c, h, a, _)) = inr (c ∷ a .0, suc-le-suc (a .1), λ e. a .2 (sym (at-in n c (a .0) h) ∙ e ∙ at-in m c (a .0) h))
+      go (yes v) (inr (c, h, a, _)) =
+          inr (c ∷ a .0, suc-le-suc (a .1), λ e. a .2 (sym (at-in n c (a .0) h) ∙ e ∙ at-in m c (a .0) h))
 
   pub sorts : (k : ℕ) → Sorts (Same k)
   sorts k = record {
@@ -86,7 +93,10 @@ module _ (C : ℕ) (val : ℕ → List ℕ) (bel : ℕ → ℕ → ℕ) where
     stable-all k st [] n m ln lm s = st n m ln lm s [] (zero-lt-suc k)
     stable-all k st (c ∷ ch) n m ln lm s =
         by-cases (decLt c C)
-        (λ h. at-in n c ch h ∙ stable-all k st ch (bel n c) (bel m c) (closed n c ln h) (closed m c lm h) (same-out k n m c h (st n m ln lm s)) ∙ sym (at-in m c ch h))
+        (λ h. at-in n c ch h
+        ∙ stable-all k st ch (bel n c) (bel m c) (closed n c ln h) (closed m c lm h)
+        (same-out k n m c h (st n m ln lm s))
+        ∙ sym (at-in m c ch h))
         (λ h. at-out n c ch (omega arith) ∙ sym (at-out m c ch (omega arith)))
 
     stable-suc : (k : ℕ) → Stable k → Stable (suc k)
@@ -108,23 +118,34 @@ module _ (C : ℕ) (val : ℕ → List ℕ) (bel : ℕ → ℕ → ℕ) where
         (λ g. ap (λ x. at x ch) (classes-full (sorts (N - 1)) N (omega arith) n m ln lm s))
         (grow (omega arith) (N - 1))
 
-    -- One round: new class numbers that are the same just where the values are and where the old class numbers of all beliefs are
+    -- One round: new class numbers that are the same just where the values are and where the old class numbers of all
+    -- beliefs are
     pub exact-suc : (k : ℕ) (key key′ : ℕ → ℕ) → Exact N k key
-        → ((n m : ℕ) → n < N → m < N → (key′ n ≡ key′ m) ↔ ((val n ≡ val m) × ((c : ℕ) → c < C → key (bel n c) ≡ key (bel m c))))
+        → ((n m : ℕ) → n < N → m < N
+        → (key′ n ≡ key′ m) ↔ ((val n ≡ val m) × ((c : ℕ) → c < C → key (bel n c) ≡ key (bel m c))))
         → Exact N (suc k) key′
     exact-suc k key key′ ex r n m ln lm =
-        let e : (c : ℕ) → c < C → (key (bel n c) ≡ key (bel m c)) ↔ Same k (bel n c) (bel m c) = λ c h. ex (bel n c) (bel m c) (closed n c ln h) (closed m c lm h) in
-        Iff·trans (r n m ln lm) (Iff·trans ((λ p. (p .0, λ c h. e c h .0 (p .1 c h))), (λ p. (p .0, λ c h. e c h .1 (p .1 c h)))) (Iff·symm (same-suc k n m)))
+        let e : (c : ℕ) → c < C
+        → (key (bel n c) ≡ key (bel m c))
+        ↔ Same k (bel n c) (bel m c) = λ c h. ex (bel n c) (bel m c) (closed n c ln h) (closed m c lm h) in
+        Iff·trans (r n m ln lm) (Iff·trans (
+          (λ p. (p .0, λ c h. e c h .0 (p .1 c h))),
+          (λ p. (p .0, λ c h. e c h .1 (p .1 c h))),
+        ) (Iff·symm (same-suc k n m)))
 
     -- the rounds may stop at k: then the class numbers are the meanings
-    pub exact-all : (k : ℕ) (key : ℕ → ℕ) → Exact N k key → Stable k → (n m : ℕ) → n < N → m < N → (key n ≡ key m) ↔ (at n ≡ at m)
-    exact-all k key ex st n m ln lm =
-        (λ e. fun-ext λ ch. stable-all k st ch n m ln lm (ex n m ln lm .0 e), λ p. ex n m ln lm .1 (λ ch l. ap (λ f. f ch) p))
+    pub exact-all : (k : ℕ) (key : ℕ → ℕ) → Exact N k key → Stable k → (n m : ℕ) → n < N → m < N
+        → (key n ≡ key m) ↔ (at n ≡ at m)
+    exact-all k key ex st n m ln lm = (
+      λ e. fun-ext λ ch. stable-all k st ch n m ln lm (ex n m ln lm .0 e),
+      λ p. ex n m ln lm .1 (λ ch l. ap (λ f. f ch) p),
+    )
 
     -- and before that where one more round, key′, splits no class
     module _ (k : ℕ) (key key′ : ℕ → ℕ) (ex : Exact N k key) (ex′ : Exact N (suc k) key′) where
       -- or by their number: each number below q is used before, and after the round all numbers are below q
-      pub stop-count : (q : ℕ) → ((i : ℕ) → i < q → (n : ℕ) × (n < N) × (key n ≡ i)) → ((n : ℕ) → n < N → key′ n < q) → Stable k
+      pub stop-count : (q : ℕ) → ((i : ℕ) → i < q → (n : ℕ) × (n < N) × (key n ≡ i)) → ((n : ℕ) → n < N → key′ n < q)
+          → Stable k
       stop-count q used below n m ln lm s =
           ex′ n m ln lm .0 (classes-eq (by-key key) (by-key key′) N
           (λ a b la lb e. ex a b la lb .1 (λ ch l. ex′ a b la lb .0 e ch (omega arith)))

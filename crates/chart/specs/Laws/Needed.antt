@@ -1,4 +1,5 @@
--- That a row is met before it is read is needed of a written chart: all else holds of a table with a node that nothing reaches. Assumes nothing.
+-- That a row is met before it is read is needed of a written chart: all else holds of a table with a node that nothing
+-- reaches. Assumes nothing.
 use Prim.Native.Nat.{ℕ, zero, suc, _<_}
 use mathlib.Core.Path.{_≡_, refl, sym, _∙_, ap}
 use mathlib.Core.List.{List, [], _∷_}
@@ -30,7 +31,8 @@ unfolding meaning
 apart i j l h e =
     let x : i ≡ 0 = omega arith in
     let y : j ≡ 1 = omega arith in
-    let z : _≡_ {A = ℕ} 0 1 = ap (λ (s : State). getD (s []) 0 0) (ap (meaning 1 long) (sym x) ∙ e ∙ ap (meaning 1 long) y) in
+    let z : _≡_ {A = ℕ} 0 1 = ap (λ (s : State). getD (s []) 0 0)
+    (ap (meaning 1 long) (sym x) ∙ e ∙ ap (meaning 1 long) y) in
     omega arith
 
 closed : Closed 1 long
@@ -46,7 +48,11 @@ wide (suc (suc n)) h = absurd (omega arith)
 -- the other table is a written chart
 short-written : Written 1 short
 unfolding met meets Fresh
-short-written = record { ordered = record { closed = closed₁; wide = wide₁; known = known₁; fresh = fresh₁; whole = refl }; apart = λ i j l h e. omega arith }
+short-written =
+    record {
+      ordered = record { closed = closed₁; wide = wide₁; known = known₁; fresh = fresh₁; whole = refl };
+      apart = λ i j l h e. omega arith;
+    }
   where
     closed₁ : Closed 1 short
     closed₁ zero c h l = let e : c ≡ 0 = omega arith in rw e (omega arith)

@@ -1,4 +1,5 @@
--- Why Compare asks for one value a fluent in every row: where a node has fewer values than another, no verdict may be true. Assumes nothing.
+-- Why Compare asks for one value a fluent in every row: where a node has fewer values than another, no verdict may be
+-- true. Assumes nothing.
 use Prim.Native.Nat.{ℕ, zero, suc}
 use mathlib.Core.Path.{_≡_, refl, ap}
 use mathlib.Core.List.{List, [], _∷_}

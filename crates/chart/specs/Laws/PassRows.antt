@@ -18,7 +18,8 @@ use Rattle.chart.specs.Laws.Pass.{numbered, Pass, pass-start, pass-row, 
 use Rattle.pack.specs.Contracts.Table.{cells, rowsAt, Below, Above}
 use Rattle.chart.specs.Contracts.Numbers.{keyAt, Numbering, Given, Named, RowFilled}
 use Rattle.pack.specs.Laws.Rows.{cells-at, rows-length}
-use Rattle.chart.specs.Laws.Cells.{cells-length, cells-none, cells-more, cells-same, row-in, rows-none, rows-more, rows-same}
+use Rattle.chart.specs.Laws.Cells.{cells-length, cells-none, cells-more, cells-same}
+use Rattle.chart.specs.Laws.Cells.{row-in, rows-none, rows-more, rows-same}
 use Rattle.chart.specs.Laws.Numbering.{few, numbering-same}
 
 meets-more : (k : ℕ) (bs : List ℕ) (b : ℕ) → meets k (bs ++ (b ∷ [])) ≡ max (meets k bs) (suc b)
@@ -32,7 +33,8 @@ fresh-more k [] b f h = (h, tt)
 fresh-more k (x ∷ bs) b f h = (f .0, fresh-more (max k (suc x)) bs b (f .1) h)
 
 -- Naming beliefs
-pub named-none : (was : List ℕ) (m size count to : ℕ) (slots : ℕ → ℕ) → Numbering was m size count → Named was was m size count count to 0 slots
+pub named-none : (was : List ℕ) (m size count to : ℕ) (slots : ℕ → ℕ) → Numbering was m size count
+    → Named was was m size count count to 0 slots
 unfolding meets Fresh
 named-none was m size count to slots n = record {
   numbering = n;
@@ -47,7 +49,8 @@ named-none was m size count to slots n = record {
 }
 
 -- one more: `mid` is the buffer once the slot has its number r
-module _ {was old mid : List ℕ} {m size count more met to k r x : ℕ} {slots : ℕ → ℕ} (n : Named was old m size count more to k slots) (g : Given old mid m size more x r)
+module _ {was old mid : List ℕ} {m size count more met to k r x : ℕ} {slots : ℕ → ℕ}
+    (n : Named was old m size count more to k slots) (g : Given old mid m size more x r)
     (e : x ≡ slots k) (q : met ≡ max more (suc r)) (after : m + size + size ≤ to) (fits : to + k < length mid) where
   abbrev now : List ℕ
   now = set mid (to + k) r
@@ -68,7 +71,8 @@ module _ {was old mid : List ℕ} {m size count more met to k r x : ℕ} {slots 
   key i l = other (m + size + i) (λ q. omega arith)
 
   below-met : (d : ℕ) → d < k → getD old (to + d) 0 < more
-  below-met d l = omega (arith, n .more-met, cells-at old to k d l, meets-in count (cells old to k) d (omega (arith, cells-length old to k)))
+  below-met d l =
+      omega (arith, n .more-met, cells-at old to k d l, meets-in count (cells old to k) d (omega (arith, cells-length old to k)))
 
   same-cells : cells now to k ≡ cells old to k
   same-cells = cells-same old now to to k before
@@ -78,13 +82,18 @@ module _ {was old mid : List ℕ} {m size count more met to k r x : ℕ} {slots 
 
   pub named-more : Named was now m size count met to (k + 1) slots
   named-more = record {
-    numbering = rw q (numbering-same mid now m size (max more (suc r)) (g .numbering) (λ p a b. other p (λ q. omega arith)));
-    fresh = subst (Fresh count) (sym cells-now) (fresh-more count (cells old to k) r (n .fresh) (omega (arith, n .more-met, g .next)));
-    more-met = ap (meets count) cells-now ∙ meets-more count (cells old to k) r ∙ ap (λ x. max x (suc r)) (n .more-met) ∙ sym q;
+    numbering = rw q
+        (numbering-same mid now m size (max more (suc r)) (g .numbering) (λ p a b. other p (λ q. omega arith)));
+    fresh = subst (Fresh count) (sym cells-now)
+        (fresh-more count (cells old to k) r (n .fresh) (omega (arith, n .more-met, g .next)));
+    more-met = ap (meets count) cells-now ∙ meets-more count (cells old to k) r ∙ ap (λ x. max x (suc r)) (n .more-met)
+        ∙ sym q;
     names = below-more (λ d. keyAt now m size (getD now (to + d) 0) ≡ slots d) k
-        (λ d l. ap (keyAt now m size) (before d l) ∙ key (getD old (to + d) 0) (n .below d l) ∙ g .kept (getD old (to + d) 0) (below-met d l) ∙ n .names d l)
+        (λ d l. ap (keyAt now m size) (before d l) ∙ key (getD old (to + d) 0) (n .below d l)
+        ∙ g .kept (getD old (to + d) 0) (below-met d l) ∙ n .names d l)
         (ap (keyAt now m size) here ∙ key r (g .few) ∙ g .key ∙ e);
-    below = below-more (λ d. getD now (to + d) 0 < size) k (λ d l. omega (arith, before d l, n .below d l)) (omega (arith, here, g .few));
+    below = below-more (λ d. getD now (to + d) 0 < size) k (λ d l. omega (arith, before d l, n .below d l))
+        (omega (arith, here, g .few));
     kept = λ i l. let up : count ≤ more = omega (arith, meets-up count (cells old to k), n .more-met) in
         key i (omega (arith, few-more)) ∙ g .kept i (omega arith) ∙ n .kept i l;
     low = λ p l. other p (λ q. omega arith) ∙ g .low p l ∙ n .low p l;
@@ -94,7 +103,9 @@ module _ {was old mid : List ℕ} {m size count more met to k r x : ℕ} {slots 
 
 -- A row: its values, then its beliefs
 module _ {was mid now : List ℕ} {m size count more to f c : ℕ} {slots : ℕ → ℕ} where
-  pub row-filled : (w : ℕ) (values : List ℕ) (slots′ : ℕ → ℕ) → cells mid to f ≡ values → Below was mid to → Above was mid (to + w) → Named mid now m size count more (to + f) c slots → ((d : ℕ) → d < c → slots d ≡ slots′ d)
+  pub row-filled : (w : ℕ) (values : List ℕ) (slots′ : ℕ → ℕ) → cells mid to f ≡ values → Below was mid to
+      → Above was mid (to + w) → Named mid now m size count more (to + f) c slots
+      → ((d : ℕ) → d < c → slots d ≡ slots′ d)
       → m + size + size ≤ to → f + c ≤ w → count ≤ size → RowFilled was now m size count more to w f c values slots′
   row-filled w values slots′ holds low high n e after wide room = record {
     holds = cells-same mid now to to f (λ q l. n .mid (to + q) (omega arith) (omega arith)) ∙ holds;
@@ -121,7 +132,8 @@ module _ (C : ℕ) {K : Type 0} (Real : K → Type 0) (val : K → List ℕ) (ne
     pub low : Below was now m
     pub high : Above was now (t + size * w)
 
-  pub going-start : (was : List ℕ) (m size t w f : ℕ) → Numbering was m size 1 → Real (of (keyAt was m size 0)) → Going was was m size t w f 0 1
+  pub going-start : (was : List ℕ) (m size t w f : ℕ) → Numbering was m size 1 → Real (of (keyAt was m size 0))
+      → Going was was m size t w f 0 1
   unfolding met
   going-start was m size t w f n r = record {
     pass = rw rows-none (pass-start C Real val next (λ k. of (keyAt was m size k)) r);
@@ -137,8 +149,10 @@ module _ (C : ℕ) {K : Type 0} (Real : K → Type 0) (val : K → List ℕ) (ne
 
   module _ (was old now : List ℕ) (m size t w f i count more : ℕ) (values : List ℕ) (slots : ℕ → ℕ)
       (after : m + size + size ≤ t) (wide : f + C ≤ w) (g : Going was old m size t w f i count) (l : i < count)
-      (r : RowFilled old now m size count more (t + i * w) w f C values slots) (holds : values ≡ val (of (keyAt old m size i)))
-      (names : (d : ℕ) → d < C → of (slots d) ≡ next (of (keyAt old m size i)) d) (real : (d : ℕ) → d < C → Real (next (of (keyAt old m size i)) d)) where
+      (r : RowFilled old now m size count more (t + i * w) w f C values slots)
+      (holds : values ≡ val (of (keyAt old m size i)))
+      (names : (d : ℕ) → d < C → of (slots d) ≡ next (of (keyAt old m size i)) d)
+      (real : (d : ℕ) → d < C → Real (next (of (keyAt old m size i)) d)) where
     abbrev rows : List Node
     rows = rowsAt old w f C t i
 
@@ -149,7 +163,9 @@ module _ (C : ℕ) {K : Type 0} (Real : K → Type 0) (val : K → List ℕ) (ne
     long = rows-length old w f C t i
 
     rows-now : rowsAt now w f C t (i + 1) ≡ rows ++ (row ∷ [])
-    rows-now = rows-more now w f C t i ∙ ap (λ l. l ++ (row ∷ [])) (rows-same old now w f C t t i wide (λ p h. r .mid (t + p) (omega arith) (omega arith)))
+    rows-now = rows-more now w f C t i
+        ∙ ap (λ l. l ++ (row ∷ []))
+        (rows-same old now w f C t t i wide (λ p h. r .mid (t + p) (omega arith) (omega arith)))
 
     met-now : meets (numbered rows) (row .beliefs) ≡ more
     met-now = ap (λ k. meets k (row .beliefs)) (g .count-met) ∙ r .more-met
@@ -159,7 +175,8 @@ module _ (C : ℕ) {K : Type 0} (Real : K → Type 0) (val : K → List ℕ) (ne
 
     real-now : (k : ℕ) → k < more → Real (of (keyAt now m size k))
     real-now k h =
-        ⊎-elim (λ (h : k < count). subst (λ (x : ℕ). Real (of x)) (sym (r .kept k h)) (g .pass .real k (omega (arith, g .count-met))))
+        ⊎-elim (λ (h : k < count).
+        subst (λ (x : ℕ). Real (of x)) (sym (r .kept k h)) (g .pass .real k (omega (arith, g .count-met))))
         (λ (x : (d : ℕ) × (d < length (row .beliefs)) × (getD (row .beliefs) d 0 ≡ k)).
         let d = x .0 in
         let ld : d < C = omega (arith, x .1, cells-length now (t + i * w + f) C) in
@@ -177,7 +194,8 @@ module _ (C : ℕ) {K : Type 0} (Real : K → Type 0) (val : K → List ℕ) (ne
           (r .holds ∙ holds ∙ ap (λ (k : ℕ). val (of (keyAt old m size k))) (sym long))
           (cells-length now (t + i * w + f) C)
           (subst (λ (k : ℕ). Fresh k (row .beliefs)) (sym (g .count-met)) (r .fresh))
-          (λ d ld. ap (λ x. of (keyAt now m size x)) (cells-at now (t + i * w + f) C d ld) ∙ ap of (r .names d ld) ∙ names d ld ∙ ap (λ (k : ℕ). next (of (keyAt old m size k)) d) (sym long)));
+          (λ d ld. ap (λ x. of (keyAt now m size x)) (cells-at now (t + i * w + f) C d ld) ∙ ap of (r .names d ld)
+          ∙ names d ld ∙ ap (λ (k : ℕ). next (of (keyAt old m size k)) d) (sym long)));
       count-met = ap numbered rows-now ∙ pass-count C Real val next rows row ∙ met-now;
       numbering = r .numbering;
       root = r .kept 0 (g .some) ∙ g .root;
@@ -188,9 +206,12 @@ module _ (C : ℕ) {K : Type 0} (Real : K → Type 0) (val : K → List ℕ) (ne
       high = λ p h. let x = row-in size w i (omega (arith, g .room)) in r .high p (omega arith) ∙ g .high p h;
     }
 
-  pub going-end : (sem : K → State) → Family C Real sem val next → (was now : List ℕ) (m size t w f i count : ℕ) → Going was now m size t w f i count → count ≤ i
+  pub going-end : (sem : K → State) → Family C Real sem val next → (was now : List ℕ) (m size t w f i count : ℕ)
+      → Going was now m size t w f i count → count ≤ i
       → Ordered C (rowsAt now w f C t count) × (meaning C (rowsAt now w f C t count) 0 ≡ sem (of (keyAt was m size 0)))
   going-end sem fam was now m size t w f i count g h =
       let e : i ≡ count = omega (arith, g .reach) in
-      let (rows, ordered) = pass-end C Real val next (rowsAt now w f C t i) (λ k. of (keyAt now m size k)) (g .pass) (g .count-met ∙ sym e ∙ sym (rows-length now w f C t i)) in
-      rw (sym e) (ordered, built fam rows 0 (omega (arith, rows-length now w f C t i, g .some)) ∙ ap (λ x. sem (of x)) (g .root))
+      let (rows, ordered) = pass-end C Real val next (rowsAt now w f C t i) (λ k. of (keyAt now m size k)) (g .pass)
+      (g .count-met ∙ sym e ∙ sym (rows-length now w f C t i)) in
+      rw (sym e)
+      (ordered, built fam rows 0 (omega (arith, rows-length now w f C t i, g .some)) ∙ ap (λ x. sem (of x)) (g .root))

@@ -19,7 +19,8 @@ IsTable C t = Closed C t × (0 < length t)
 pub table? : (C : ℕ) (t : List Node) → Dec (IsTable C t)
 table? C t = go (every (λ n. every (λ c. decLt (target t n c) (length t)) C) (length t)) (decLt 0 (length t))
   where
-    go : Dec ((n : ℕ) → n < length t → (c : ℕ) → c < C → target t n c < length t) → Dec (0 < length t) → Dec (IsTable C t)
+    go : Dec ((n : ℕ) → n < length t → (c : ℕ) → c < C → target t n c < length t) → Dec (0 < length t)
+        → Dec (IsTable C t)
     go (yes f) (yes h) = yes (λ n c l g. f n l c g, h)
     go (yes f) (no h) = no (λ r. h (r .1))
     go (no f) h = no (λ r. f (λ n l c g. r .0 n c l g))
@@ -34,11 +35,15 @@ onTable C t f d = dite (table? C t) (λ r. f (tabled C t r)) (λ n. d)
 pub on-table : {B : Type 0} (C : ℕ) (t : List Node) (f : Tabled C (meaning C t 0) → B) (d : B) (P : B → Type 0)
     → IsTable C t → ((x : Tabled C (meaning C t 0)) → P (f x)) → P (onTable C t f d)
 unfolding onTable
-on-table C t f d P r h = elim (table? C t) as (λ q. P (dite q (λ r. f (tabled C t r)) (λ n. d))) [ yes q ↦ h (tabled C t q) | no n ↦ absurd (n r) ]
+on-table C t f d P r h =
+    elim (table? C t) as (λ q. P (dite q (λ r. f (tabled C t r)) (λ n. d)))
+    [ yes q ↦ h (tabled C t q) | no n ↦ absurd (n r) ]
 
 -- what holds of each row's values holds wherever chains lead
-pub everywhere-table : (C : ℕ) (P : List ℕ → Type 0) (t : List Node) → Closed C t → 0 < length t → ((n : ℕ) → n < length t → P (node t n .values)) → Everywhere C P (meaning C t 0)
-everywhere-table C P t closed pos h chain v = subst P (sym (finds-walk C t chain 0 v)) (h (walk t 0 chain) (walk-inside C t closed chain 0 pos v))
+pub everywhere-table : (C : ℕ) (P : List ℕ → Type 0) (t : List Node) → Closed C t → 0 < length t
+    → ((n : ℕ) → n < length t → P (node t n .values)) → Everywhere C P (meaning C t 0)
+everywhere-table C P t closed pos h chain v =
+    subst P (sym (finds-walk C t chain 0 v)) (h (walk t 0 chain) (walk-inside C t closed chain 0 pos v))
 
 pub wide-table : (C F : ℕ) (t : List Node) → IsTable C t → Sized F t → Wide C F (meaning C t 0)
 wide-table C F t r h = everywhere-table C (λ values. length values ≡ F) t (r .0) (r .1) h

@@ -14,11 +14,13 @@ unfolding digits
 least = refl
 
 -- "`ending` on P prints the lines `1 0` and `author 0 5`"
-pub of-P : printed (gives (record { list = 0 ∷ []; before = 0; after = 5 })) ≡ 49 ∷ 32 ∷ 48 ∷ 10 ∷ 97 ∷ 117 ∷ 116 ∷ 104 ∷ 111 ∷ 114 ∷ 32 ∷ 48 ∷ 32 ∷ 53 ∷ 10 ∷ []
+pub of-P : printed (gives (record { list = 0 ∷ []; before = 0; after = 5 }))
+    ≡ 49 ∷ 32 ∷ 48 ∷ 10 ∷ 97 ∷ 117 ∷ 116 ∷ 104 ∷ 111 ∷ 114 ∷ 32 ∷ 48 ∷ 32 ∷ 53 ∷ 10 ∷ []
 unfolding digits line steps
 of-P = refl
 
 -- `refused 13 at 0`
-pub no-ending : printed (refuses 13 0) ≡ 114 ∷ 101 ∷ 102 ∷ 117 ∷ 115 ∷ 101 ∷ 100 ∷ 32 ∷ 49 ∷ 51 ∷ 32 ∷ 97 ∷ 116 ∷ 32 ∷ 48 ∷ 10 ∷ []
+pub no-ending : printed (refuses 13 0)
+    ≡ 114 ∷ 101 ∷ 102 ∷ 117 ∷ 115 ∷ 101 ∷ 100 ∷ 32 ∷ 49 ∷ 51 ∷ 32 ∷ 97 ∷ 116 ∷ 32 ∷ 48 ∷ 10 ∷ []
 unfolding digits line
 no-ending = refl

@@ -7,13 +7,30 @@ use Rattle.export.proofs.pirwodd_explained.Statement.{statement}
 use Rattle.export.proofs.pirwodd_explained.Tie as tie
 
 slice-relend-prefix-judge : tie.Need-slice-relend-prefix-verdict
-slice-relend-prefix-judge c = let a = c .before .before .before .before .before .before .before .before .before .args in lent-within (a .report .now) (a .work .now) _ (c .before .before .before .before .lent .ensures)
+slice-relend-prefix-judge c =
+    let at-lent = c .before .before .before .before in
+    let start = at-lent .before .before .before .before .before in
+    let a = start .args in
+    lent-within (a .report .now) (a .work .now) _ (at-lent .lent .ensures)
 
 slice-aggregate-judge : tie.Need-slice-aggregate-verdict
-slice-aggregate-judge c = let a = c .before .before .before .before .before .before .before .before .before .before .args in sym (length-take-le _ _ (lent-within (a .report .now) (a .work .now) _ (c .before .before .before .before .before .lent .ensures)))
+slice-aggregate-judge c =
+    let at-lent = c .before .before .before .before .before in
+    let start = at-lent .before .before .before .before .before in
+    let a = start .args in
+    sym (length-take-le _ _ (lent-within (a .report .now) (a .work .now) _ (at-lent .lent .ensures)))
 
 returns : tie.Need-returns
-returns c = explained-returned _ _ _ (c .before .before .before .before .before .before .before .before .before .before .before .before .lent .ensures) _ _ _ (c .before .before .before .before .before .work .given .0) (c .before .before .before .before .before .before .before .before .before .before .before .index .ensures) (c .before .before .before .before .before .before .before .before .before .before .index2 .ensures) (c .before .before .before .before .before .before .before .before .before .index3 .ensures) (c .before .before .before .before .before .before .before .before .index4 .ensures) (c .before .before .before .before .before .before .verdict .ensures) (c .before .before .tell-judged .ensures .0) (c .before .before .tell-judged .ensures .1)
+returns c =
+    let at-tell-judged = c .before .before in
+    let at-work = at-tell-judged .before .before .before in
+    let at-verdict = at-work .before in
+    let at-index4 = at-verdict .before .before in
+    let at-index3 = at-index4 .before in
+    let at-index2 = at-index3 .before in
+    let at-index = at-index2 .before in
+    let at-lent = at-index .before in
+    explained-returned _ _ _ (at-lent .lent .ensures) _ _ _ (at-work .work .given .0) (at-index .index .ensures) (at-index2 .index2 .ensures) (at-index3 .index3 .ensures) (at-index4 .index4 .ensures) (at-verdict .verdict .ensures) (at-tell-judged .tell-judged .ensures .0) (at-tell-judged .tell-judged .ensures .1)
 
 pub pirwodd-explained-spec : {M : Type 1} → statement M
 pirwodd-explained-spec =

@@ -10,16 +10,39 @@ use Rattle.export.proofs.pirwodd_query.Statement.{statement}
 use Rattle.export.proofs.pirwodd_query.Tie as tie
 
 slice-relend-prefix-query : tie.Need-slice-relend-prefix-query
-slice-relend-prefix-query c = let a = c .before .before .before .before .before .before .before .args in lent-within (a .report .now) (a .work .now) _ (c .before .lent .ensures)
+slice-relend-prefix-query c =
+    let start = c .before .before .before .before .before .before .before in
+    let a = start .args in
+    lent-within (a .report .now) (a .work .now) _ (c .before .lent .ensures)
 
 slice-aggregate-query : tie.Need-slice-aggregate-query
-slice-aggregate-query c = let a = c .before .before .before .before .before .before .before .before .args in sym (length-take-le _ _ (lent-within (a .report .now) (a .work .now) _ (c .before .before .lent .ensures)))
+slice-aggregate-query c =
+    let at-lent = c .before .before in
+    let start = at-lent .before .before .before .before .before .before in
+    let a = start .args in
+    sym (length-take-le _ _ (lent-within (a .report .now) (a .work .now) _ (at-lent .lent .ensures)))
 
 returns : tie.Need-returns
-returns c = query-returned _ _ _ (c .before .before .before .before .before .before .before .before .before .before .before .before .lent .ensures) _ _ _ (c .before .before .before .before .before .before .before .before .work .given .0) _ (c .before .before .before .before .before .before .before .before .before .before .before .index .ensures) (c .before .before .before .before .before .before .before .before .before .query .ensures) (c .before .before .before .before .before .k .given .1) (sym (c .before .before .tell .ensures .0)) (c .before .before .tell .ensures .1)
+returns c =
+    let at-tell = c .before .before in
+    let at-k = at-tell .before .before .before in
+    let at-work = at-k .before .before .before in
+    let at-query = at-work .before in
+    let at-index = at-query .before .before in
+    let at-lent = at-index .before in
+    query-returned _ _ _ (at-lent .lent .ensures) _ _ _ (at-work .work .given .0) _ (at-index .index .ensures) (at-query .query .ensures) (at-k .k .given .1) (sym (at-tell .tell .ensures .0)) (at-tell .tell .ensures .1)
 
 returns-2 : tie.Need-returns-2
-returns-2 c = query-returned _ _ _ (c .before .before .before .before .before .before .before .before .before .before .before .before .before .lent .ensures) _ _ _ (c .before .before .before .before .before .before .before .before .before .work .given .0) _ (c .before .before .before .before .before .before .before .before .before .before .before .before .index .ensures) (c .before .before .before .before .before .before .before .before .before .before .query .ensures) (c .before .before .before .before .before .before .value .given .1) (sym (c .before .before .tell2 .ensures .0)) (c .before .before .tell2 .ensures .1 ∙ ap (λ (n : ℕ). put (n ∷ []) (c .before .before .before .before .before .before .before .before .before .before .before .before .before .before .before .before .before .before .before .args .report .now)) (sym (c .before .before .before .before .wide-byte .ensures)))
+returns-2 c =
+    let at-tell2 = c .before .before in
+    let at-wide-byte = at-tell2 .before .before in
+    let at-value = at-wide-byte .before .before in
+    let at-work = at-value .before .before .before in
+    let at-query = at-work .before in
+    let at-index = at-query .before .before in
+    let at-lent = at-index .before in
+    let start = at-lent .before .before .before .before .before .before in
+    query-returned _ _ _ (at-lent .lent .ensures) _ _ _ (at-work .work .given .0) _ (at-index .index .ensures) (at-query .query .ensures) (at-value .value .given .1) (sym (at-tell2 .tell2 .ensures .0)) (at-tell2 .tell2 .ensures .1 ∙ ap (λ (n : ℕ). put (n ∷ []) (start .args .report .now)) (sym (at-wide-byte .wide-byte .ensures)))
 
 pub pirwodd-query-spec : {M : Type 1} → statement M
 pirwodd-query-spec =

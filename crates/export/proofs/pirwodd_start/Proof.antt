@@ -7,13 +7,25 @@ use Rattle.export.proofs.pirwodd_start.Statement.{statement}
 use Rattle.export.proofs.pirwodd_start.Tie as tie
 
 slice-relend-prefix-start : tie.Need-slice-relend-prefix-start
-slice-relend-prefix-start c = let a = c .before .before .before .before .before .before .args in lent-within (a .report .now) (a .work .now) _ (c .before .lent .ensures)
+slice-relend-prefix-start c =
+    let start = c .before .before .before .before .before .before in
+    let a = start .args in
+    lent-within (a .report .now) (a .work .now) _ (c .before .lent .ensures)
 
 slice-aggregate-start : tie.Need-slice-aggregate-start
-slice-aggregate-start c = let a = c .before .before .before .before .before .before .before .args in sym (length-take-le _ _ (lent-within (a .report .now) (a .work .now) _ (c .before .before .lent .ensures)))
+slice-aggregate-start c =
+    let at-lent = c .before .before in
+    let start = at-lent .before .before .before .before .before in
+    let a = start .args in
+    sym (length-take-le _ _ (lent-within (a .report .now) (a .work .now) _ (at-lent .lent .ensures)))
 
 returns : tie.Need-returns
-returns c = start-returned _ _ _ (c .before .before .before .before .before .before .before .before .before .before .before .lent .ensures) _ _ _ (c .before .before .before .before .before .work .given .0) (c .before .before .before .before .before .before .before .before .start .ensures) (c .before .before .tell-charted .ensures .0) (c .before .before .tell-charted .ensures .1)
+returns c =
+    let at-tell-charted = c .before .before in
+    let at-work = at-tell-charted .before .before .before in
+    let at-start = at-work .before .before .before in
+    let at-lent = at-start .before .before .before in
+    start-returned _ _ _ (at-lent .lent .ensures) _ _ _ (at-work .work .given .0) (at-start .start .ensures) (at-tell-charted .tell-charted .ensures .0) (at-tell-charted .tell-charted .ensures .1)
 
 pub pirwodd-start-spec : {M : Type 1} → statement M
 pirwodd-start-spec =

@@ -7,13 +7,27 @@ use Rattle.export.proofs.pirwodd_step.Statement.{statement}
 use Rattle.export.proofs.pirwodd_step.Tie as tie
 
 slice-relend-prefix-step : tie.Need-slice-relend-prefix-step
-slice-relend-prefix-step c = let a = c .before .before .before .before .before .before .before .before .args in lent-within (a .report .now) (a .work .now) _ (c .before .before .lent .ensures)
+slice-relend-prefix-step c =
+    let at-lent = c .before .before in
+    let start = at-lent .before .before .before .before .before .before in
+    let a = start .args in
+    lent-within (a .report .now) (a .work .now) _ (at-lent .lent .ensures)
 
 slice-aggregate-step : tie.Need-slice-aggregate-step
-slice-aggregate-step c = let a = c .before .before .before .before .before .before .before .before .before .args in sym (length-take-le _ _ (lent-within (a .report .now) (a .work .now) _ (c .before .before .before .lent .ensures)))
+slice-aggregate-step c =
+    let at-lent = c .before .before .before in
+    let start = at-lent .before .before .before .before .before .before in
+    let a = start .args in
+    sym (length-take-le _ _ (lent-within (a .report .now) (a .work .now) _ (at-lent .lent .ensures)))
 
 returns : tie.Need-returns
-returns c = step-returned _ _ _ (c .before .before .before .before .before .before .before .before .before .before .before .before .lent .ensures) _ _ _ (c .before .before .before .before .before .work .given .0) (c .before .before .before .before .before .before .before .before .before .before .before .index .ensures) (c .before .before .before .before .before .before .before .before .step .ensures) (c .before .before .tell-charted .ensures .0) (c .before .before .tell-charted .ensures .1)
+returns c =
+    let at-tell-charted = c .before .before in
+    let at-work = at-tell-charted .before .before .before in
+    let at-step = at-work .before .before .before in
+    let at-index = at-step .before .before .before in
+    let at-lent = at-index .before in
+    step-returned _ _ _ (at-lent .lent .ensures) _ _ _ (at-work .work .given .0) (at-index .index .ensures) (at-step .step .ensures) (at-tell-charted .tell-charted .ensures .0) (at-tell-charted .tell-charted .ensures .1)
 
 pub pirwodd-step-spec : {M : Type 1} → statement M
 pirwodd-step-spec =

@@ -6,7 +6,9 @@ use Rattle.export.proofs.tell.Statement.{statement}
 use Rattle.export.proofs.tell.Tie as tie
 
 returns : tie.Need-returns
-returns c = (c .wide-number .ensures, c .before .before .before .put-entry .ensures ∙ put-one _ _)
+returns c =
+    let at-put-entry = c .before .before .before in
+    (c .wide-number .ensures, at-put-entry .put-entry .ensures ∙ put-one _ _)
 
 pub tell-spec : {M : Type 1} → statement M
 tell-spec = tie.close (tie.spec (λ c κs. search needs) (λ c κs. search needs) (λ c. search needs) returns)

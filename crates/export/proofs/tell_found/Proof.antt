@@ -8,10 +8,16 @@ use Rattle.export.proofs.tell_found.Statement.{statement}
 use Rattle.export.proofs.tell_found.Tie as tie
 
 returns : tie.Need-returns
-returns c = answer-told searchSaid planNumbers _ _ (c .before .before .before .before .before .answer .given .1) (sym (c .before .before .tell .ensures .0)) (c .before .before .tell .ensures .1)
+returns c =
+    let at-tell = c .before .before in
+    let at-answer = at-tell .before .before .before in
+    answer-told searchSaid planNumbers _ _ (at-answer .answer .given .1) (sym (at-tell .tell .ensures .0)) (at-tell .tell .ensures .1)
 
 returns-2 : tie.Need-returns-2
-returns-2 c = answer-told searchSaid planNumbers _ _ (c .before .before .before .before .before .answer2 .given .1) (sym (c .before .before .tell-three .ensures .0)) (c .before .before .tell-three .ensures .1)
+returns-2 c =
+    let at-tell-three = c .before .before in
+    let at-answer2 = at-tell-three .before .before .before in
+    answer-told searchSaid planNumbers _ _ (at-answer2 .answer2 .given .1) (sym (at-tell-three .tell-three .ensures .0)) (at-tell-three .tell-three .ensures .1)
 
 pub tell-found-spec : {M : Type 1} → statement M
 tell-found-spec =

@@ -11,10 +11,18 @@ use Rattle.export.proofs.tell_judged.Statement.{statement}
 use Rattle.export.proofs.tell_judged.Tie as tie
 
 returns : tie.Need-returns
-returns c = answer-told explainedSaid verdictNumbers _ _ (c .before .before .before .before .before .answer .given .1) (sym (c .before .before .tell .ensures .0)) (c .before .before .tell .ensures .1)
+returns c =
+    let at-tell = c .before .before in
+    let at-answer = at-tell .before .before .before in
+    answer-told explainedSaid verdictNumbers _ _ (at-answer .answer .given .1) (sym (at-tell .tell .ensures .0)) (at-tell .tell .ensures .1)
 
 returns-2 : tie.Need-returns-2
-returns-2 c = answer-told explainedSaid verdictNumbers _ _ (c .before .before .before .before .before .before .answer2 .given .1) (sym (c .before .before .tell2 .ensures .0)) (c .before .before .tell2 .ensures .1 ∙ ap (λ (n : ℕ). put (n ∷ []) (c .before .before .before .before .before .before .before .before .before .args .report .now)) (c .before .before .before .before .bit .ensures))
+returns-2 c =
+    let at-tell2 = c .before .before in
+    let at-bit = at-tell2 .before .before in
+    let at-answer2 = at-bit .before .before in
+    let start = at-answer2 .before .before .before in
+    answer-told explainedSaid verdictNumbers _ _ (at-answer2 .answer2 .given .1) (sym (at-tell2 .tell2 .ensures .0)) (at-tell2 .tell2 .ensures .1 ∙ ap (λ (n : ℕ). put (n ∷ []) (start .args .report .now)) (at-bit .bit .ensures))
 
 pub tell-judged-spec : {M : Type 1} → statement M
 tell-judged-spec =

@@ -69,30 +69,46 @@ said-differ (matched.Differ m g) e = cc
 said-differ (matched.Refused k p) e = never-gives e
 
 -- Compare, whose reply is x
-module _ (x : Reply Verdict) (chain : List ℕ) {chain′ : List ℕ} {r : Matched} (answer : compareSaid r ≡ told difference x) (result : chain′ ≡ resultAfter (told chainOf x) chain) where
+module _ (x : Reply Verdict) (chain : List ℕ) {chain′ : List ℕ} {r : Matched}
+    (answer : compareSaid r ≡ told difference x) (result : chain′ ≡ resultAfter (told chainOf x) chain) where
   pub same-exactly : (r ≡ matched.Same) ↔ (x ≡ gives same)
-  same-exactly = (λ e. let (v, g, d) = gave difference x (sym answer ∙ ap compareSaid e) in g ∙ ap gives (alone v d), λ e. said-same r (answer ∙ ap (told difference) e))
+  same-exactly = (
+    λ e. let (v, g, d) = gave difference x (sym answer ∙ ap compareSaid e) in g ∙ ap gives (alone v d),
+    λ e. said-same r (answer ∙ ap (told difference) e),
+  )
     where
       alone : (v : Verdict) → difference v ≡ nowhere → v ≡ same
       alone same e = refl
       alone (differ ch f) e = let never : _≡_ {A = ℕ} 0 1 = cc in absurd (omega arith)
 
-  pub differ-exactly : (n f : ℕ) → (r ≡ matched.Differ n f) ↔ ((ch : List ℕ) × (length ch ≡ n) × (chain′ ≡ ch ++ drop n chain) × (x ≡ gives (differ ch f)))
+  pub differ-exactly : (n f : ℕ)
+      → (r ≡ matched.Differ n f)
+      ↔ ((ch : List ℕ) × (length ch ≡ n) × (chain′ ≡ ch ++ drop n chain) × (x ≡ gives (differ ch f)))
   unfolding resultAfter
-  differ-exactly n f = (λ e. let (v, g, d) = gave difference x (sym answer ∙ ap compareSaid e) in parts v g d, λ (ch, size, front, e). said-differ r (answer ∙ ap (told difference) e ∙ ap (λ (n : ℕ). gives (after n f)) size))
+  differ-exactly n f = (
+    λ e. let (v, g, d) = gave difference x (sym answer ∙ ap compareSaid e) in parts v g d,
+    λ (ch, size, front, e). said-differ r (answer ∙ ap (told difference) e ∙ ap (λ (n : ℕ). gives (after n f)) size),
+  )
     where
-      parts : (v : Verdict) → x ≡ gives v → difference v ≡ after n f → (ch : List ℕ) × (length ch ≡ n) × (chain′ ≡ ch ++ drop n chain) × (x ≡ gives (differ ch f))
+      parts : (v : Verdict) → x ≡ gives v → difference v ≡ after n f
+          → (ch : List ℕ) × (length ch ≡ n) × (chain′ ≡ ch ++ drop n chain) × (x ≡ gives (differ ch f))
       parts same g d = let never : _≡_ {A = ℕ} 0 1 = cc in absurd (omega arith)
       parts (differ ch h) g d =
           let size : length ch ≡ n = cc in
-          let fluent : h ≡ f = cc in
-          (ch, size, result ∙ ap (λ (y : Reply Verdict). resultAfter (told chainOf y) chain) g ∙ ap (λ (n : ℕ). ch ++ drop n chain) size, g ∙ ap (λ (f : ℕ). gives (differ ch f)) fluent)
+          let fluent : h ≡ f = cc in (
+            ch,
+            size,
+            result ∙ ap (λ (y : Reply Verdict). resultAfter (told chainOf y) chain) g
+                ∙ ap (λ (n : ℕ). ch ++ drop n chain) size,
+            g ∙ ap (λ (f : ℕ). gives (differ ch f)) fluent,
+          )
 
 said-refused : (r : Found) {n p : ℕ} → searchSaid r ≡ refuses n p → r ≡ found.Refused n p
 said-refused (found.Ending c b a) e = never-gives (sym e)
 said-refused (found.Refused k q) e = cc
 
-said-ending : (r : Found) {c b a : ℕ} → searchSaid r ≡ gives (record { count = c; before = b; after = a }) → r ≡ found.Ending c b a
+said-ending : (r : Found) {c b a : ℕ} → searchSaid r ≡ gives (record { count = c; before = b; after = a })
+    → r ≡ found.Ending c b a
 said-ending (found.Ending c′ b′ a′) e =
     let z = same-gift e in
     let x = ap (λ (s : Summary). s .count) z in
@@ -102,20 +118,32 @@ said-ending (found.Ending c′ b′ a′) e =
 said-ending (found.Refused k q) e = never-gives e
 
 -- Search, whose reply is x
-module _ (x : Reply Plan) (list : List ℕ) {list′ : List ℕ} {r : Found} (answer : searchSaid r ≡ told summary x) (result : list′ ≡ resultAfter (told (λ p. p .list) x) list) where
+module _ (x : Reply Plan) (list : List ℕ) {list′ : List ℕ} {r : Found} (answer : searchSaid r ≡ told summary x)
+    (result : list′ ≡ resultAfter (told (λ p. p .list) x) list) where
   pub none-exactly : (n p : ℕ) → (r ≡ found.Refused n p) ↔ (x ≡ refuses n p)
-  none-exactly n p = (λ e. stayed summary x (sym answer ∙ ap searchSaid e), λ e. said-refused r (answer ∙ ap (told summary) e))
+  none-exactly n p =
+      (λ e. stayed summary x (sym answer ∙ ap searchSaid e), λ e. said-refused r (answer ∙ ap (told summary) e))
 
   pub ending-exactly : (n before after : ℕ)
-      → (r ≡ found.Ending n before after) ↔ ((actions : List ℕ) × (length actions ≡ n) × (list′ ≡ actions ++ drop n list) × (x ≡ gives (record { list = actions; before = before; after = after })))
+      → (r ≡ found.Ending n before after)
+      ↔ ((actions : List ℕ) × (length actions ≡ n) × (list′ ≡ actions ++ drop n list)
+      × (x ≡ gives (record { list = actions; before = before; after = after })))
   unfolding resultAfter
   ending-exactly n b a = (
     λ e.
         let (plan, g, d) = gave summary x (sym answer ∙ ap searchSaid e) in
         let size : length (plan .list) ≡ n = ap (λ (s : Summary). s .count) d in
-        let same : _≡_ {A = Plan} plan (record { list = plan .list; before = b; after = a }) = ap₂ (λ (b a : ℕ). record { list = plan .list; before = b; after = a }) (ap (λ (s : Summary). s .before) d) (ap (λ (s : Summary). s .after) d) in
-        (plan .list, size, result ∙ ap (λ (y : Reply Plan). resultAfter (told (λ p. p .list) y) list) g ∙ ap (λ (n : ℕ). plan .list ++ drop n list) size, g ∙ ap gives same),
-    λ (actions, size, front, e). said-ending r (answer ∙ ap (told summary) e ∙ ap (λ (n : ℕ). gives (record { count = n; before = b; after = a })) size),
+        let same : _≡_ {A = Plan} plan (record { list = plan .list; before = b; after = a }) = ap₂
+        (λ (b a : ℕ). record { list = plan .list; before = b; after = a }) (ap (λ (s : Summary). s .before) d)
+        (ap (λ (s : Summary). s .after) d) in (
+          plan .list,
+          size,
+          result ∙ ap (λ (y : Reply Plan). resultAfter (told (λ p. p .list) y) list) g
+              ∙ ap (λ (n : ℕ). plan .list ++ drop n list) size,
+          g ∙ ap gives same,
+        ),
+    λ (actions, size, front, e). said-ending r
+        (answer ∙ ap (told summary) e ∙ ap (λ (n : ℕ). gives (record { count = n; before = b; after = a })) size),
   )
 
 -- a report of three entries or more: the call sees all of the work buffer
@@ -123,8 +151,10 @@ pub seen-all : (report work : List ℕ) → 3 ≤ length report → seen report 
 seen-all report work h = ap (λ (b : Bool). pick b work []) (le-leb 3 (length report) h)
 
 -- what an exported call hands back and leaves, by its reply
-module _ {said : Reply (List ℕ)} {work report work′ report′ : List ℕ} {r : ℕ} (call : Returned said work report work′ report′ r) where
-  pub told-answer : {numbers : List ℕ} → said ≡ gives numbers → (r ≡ 0) × (report′ ≡ put numbers report) × (work′ ≡ cleared work)
+module _ {said : Reply (List ℕ)} {work report work′ report′ : List ℕ} {r : ℕ}
+    (call : Returned said work report work′ report′ r) where
+  pub told-answer : {numbers : List ℕ} → said ≡ gives numbers
+      → (r ≡ 0) × (report′ ≡ put numbers report) × (work′ ≡ cleared work)
   unfolding workAfter
   told-answer e = (
     call .number ∙ ap numberOf e,

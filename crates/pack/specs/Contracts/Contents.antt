@@ -1,12 +1,14 @@
--- What the layers above learn of an accepted pack: its dimensions and counts, and that each part of it is read at the place marked for it.
--- Action i has its places from slot 9 * i on, trigger i from 288 + 2 * i on, the rules of the author and of each character from 320 on.
+-- What the layers above learn of an accepted pack: its dimensions and counts, and that each part of it is read at the
+-- place marked for it. Action i has its places from slot 9 * i on, trigger i from 288 + 2 * i on, the rules of the
+-- author and of each character from 320 on.
 use Prim.Native.Nat.{ℕ, _+_, _*_, _<_, _≤_}
 use mathlib.Core.Path.{_≡_}
 use mathlib.Core.List.{List, []}
 use lib.ListN.{length, getD, take}
 use Rattle.pack.specs.Syntax.{Action, Trigger, Theory, Pack}
 use Rattle.pack.specs.Reading.{done, Reader, bind, mapped, many, Reply, gives, refuses, told}
-use Rattle.pack.specs.Grammar.{Dimensions, nodeAt, nodesAt, packAt, conditionAt, effectsAt, consentersAt, rulesAt, theoryAt, packOf}
+use Rattle.pack.specs.Grammar.{Dimensions, nodeAt, nodesAt, packAt, conditionAt}
+use Rattle.pack.specs.Grammar.{effectsAt, consentersAt, rulesAt, theoryAt, packOf}
 use Rattle.pack.specs.Contracts.Said.{behind, valueOf, shown, forget, after}
 use Rattle.pack.specs.Contracts.Answer.{dims, dimsOf}
 use Rattle.pack.specs.declared.number.Number.{Number}
@@ -27,13 +29,15 @@ pub record ActionStands (d : Dimensions) (s places : List ℕ) (base : ℕ) (a :
   pub condition : Gives (conditionAt d) s (getD places base 0) (a .condition)
   pub effects : Gives (effectsAt d) s (getD places (base + 1) 0) (a .effects)
   pub consenters : Gives (consentersAt d) s (getD places (base + 2) 0) (a .consenters)
-  pub observed : (c : ℕ) → c < d .characters → Gives (conditionAt d) s (getD places ((base + 3) + c) 0) (getD (a .observed) c [])
+  pub observed : (c : ℕ) → c < d .characters
+      → Gives (conditionAt d) s (getD places ((base + 3) + c) 0) (getD (a .observed) c [])
 
 pub record TriggerStands (d : Dimensions) (s places : List ℕ) (base : ℕ) (t : Trigger) : Type 0 where
   pub condition : Gives (conditionAt d) s (getD places base 0) (t .condition)
   pub effects : Gives (effectsAt d) s (getD places (base + 1) 0) (t .effects)
 
--- all of a pack but its head and nodes, with k actions and l triggers; x is what stands for an action or a trigger that isn't there
+-- all of a pack but its head and nodes, with k actions and l triggers; x is what stands for an action or a trigger that
+-- isn't there
 pub record TheoryFound (d : Dimensions) (s places : List ℕ) (t : Theory) (k l : ℕ) : Type 0 where
   pub actions : length (t .actions) ≡ k
   pub triggers : length (t .triggers) ≡ l
@@ -64,12 +68,15 @@ pub record PackFound (s places : List ℕ) (p : Pack) (r : Contents) : Type 0 wh
   pub nodes : length (p .nodes) ≡ r .nodes
   pub someNodes : 1 ≤ r .nodes
   pub mostNodes : r .nodes ≤ 32
-  pub rows : Gives (many (nodeAt (dims (p .theory .characters) (p .theory .domains)) (r .nodes)) (r .nodes)) s (r .first) (p .nodes)
-  pub theory : TheoryFound (dims (p .theory .characters) (p .theory .domains)) s places (p .theory) (r .actions) (r .triggers)
+  pub rows : Gives (many (nodeAt (dims (p .theory .characters) (p .theory .domains)) (r .nodes)) (r .nodes)) s
+      (r .first) (p .nodes)
+  pub theory : TheoryFound (dims (p .theory .characters) (p .theory .domains)) s places (p .theory) (r .actions)
+      (r .triggers)
 
 -- what comes after a head
 unfoldable pub bodyAt : Dimensions → Reader Pack
-bodyAt d s at = bind (nodesAt d s at) (λ nodes n. mapped (λ theory. record { theory = theory; nodes = nodes }) (theoryAt d s n))
+bodyAt d s at =
+    bind (nodesAt d s at) (λ nodes n. mapped (λ theory. record { theory = theory; nodes = nodes }) (theoryAt d s n))
 
 -- what the head, the count of nodes and the rest say together
 abbrev pub contentsOf : Head → (count : Number) → Counts → Contents
@@ -107,7 +114,8 @@ abbrev pub repliedCount : Number → Reply ℕ
 repliedCount (numbers.Is v n) = gives v
 repliedCount (numbers.Refused k p) = refuses k p
 
--- The contract of the pack reader: the bytes are accepted or refused as `packOf` says, and what is accepted is found where the answer says.
+-- The contract of the pack reader: the bytes are accepted or refused as `packOf` says, and what is accepted is found
+-- where the answer says.
 pub record PackRead (s places : List ℕ) (r : Contents) : Type 0 where
   pub answer : told forget (packOf s) ≡ replied (r .answer)
   pub found : (p : Pack) → packOf s ≡ gives p → PackFound s places p r

@@ -37,7 +37,8 @@ pub record RowCopyable (s : List ℕ) (from : ℕ) (buffer : List ℕ) (to fluen
 
 -- the row is the node that is read
 pub record RowCopied (s : List ℕ) (from : ℕ) (was now : List ℕ) (to fluents characters : ℕ) : Type 0 where
-  pub row : (d : Dimensions) → Shaped d fluents characters → (nodes : ℕ) → nodes ≤ 32 → (x : Node) (n : ℕ) → nodeAt d nodes s from ≡ done x n → rowAt now fluents characters to ≡ x
+  pub row : (d : Dimensions) → Shaped d fluents characters → (nodes : ℕ) → nodes ≤ 32 → (x : Node) (n : ℕ)
+      → nodeAt d nodes s from ≡ done x n → rowAt now fluents characters to ≡ x
   pub only : RowOnly was now to (fluents + characters)
 
 pub record TableCopyable (s : List ℕ) (at nodes : ℕ) (buffer : List ℕ) (base fluents characters : ℕ) : Type 0 where
@@ -52,7 +53,9 @@ pub record TableCopyable (s : List ℕ) (at nodes : ℕ) (buffer : List ℕ) (ba
 -- the table behind the count is the nodes that are read
 pub record TableCopied (s : List ℕ) (at nodes : ℕ) (was now : List ℕ) (base fluents characters : ℕ) : Type 0 where
   pub count : getD now base 0 ≡ nodes
-  pub table : (d : Dimensions) → Shaped d fluents characters → (t : List Node) (n : ℕ) → many (nodeAt d nodes) nodes s at ≡ done t n → rowsAt now (fluents + characters) fluents characters (base + 1) nodes ≡ t
+  pub table : (d : Dimensions) → Shaped d fluents characters → (t : List Node) (n : ℕ)
+      → many (nodeAt d nodes) nodes s at ≡ done t n
+      → rowsAt now (fluents + characters) fluents characters (base + 1) nodes ≡ t
   pub long : length now ≡ length was
   pub below : Below was now base
   pub above : Above was now ((base + 1) + nodes * (fluents + characters))

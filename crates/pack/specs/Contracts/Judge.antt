@@ -1,4 +1,5 @@
--- What the functions that judge in place ask and promise: a part of the pack is read at a place, and the answer is what the part's meaning says of the state.
+-- What the functions that judge in place ask and promise: a part of the pack is read at a place, and the answer is what
+-- the part's meaning says of the state.
 use Prim.Native.Nat.{ℕ, _<_, _≤_}
 use mathlib.Core.Path.{_≡_}
 use mathlib.Core.List.{List}
@@ -35,7 +36,8 @@ pub record Readable {A : Type 0} (p : Dimensions → Reader A) (s : List ℕ) (a
   pub reads : p over s at ≡ done value end
 
 -- the same, over a table in a buffer and one of its nodes
-pub record Judged {A : Type 0} (p : Dimensions → Reader A) (s : List ℕ) (at : ℕ) (t : Table) (buffer : List ℕ) (node : ℕ) : Type 0 where
+pub record Judged {A : Type 0} (p : Dimensions → Reader A) (s : List ℕ) (at : ℕ) (t : Table) (buffer : List ℕ)
+    (node : ℕ) : Type 0 where
   pub table : TableFits t buffer
   pub there : node < t .nodes
   pub dimensions : Dimensions

@@ -41,8 +41,8 @@ pub record ObservedRead (d : Dimensions) (s : List ℕ) (at base : ℕ) (was now
   pub marked : whenPassed r (λ n. Marked (conditionAt d) s at now (λ c. base + c) (d .characters))
   pub kept : KeptBelow base was now
 
--- An action's parts: its condition stands at the first place, its effects at the second, its consenters at the third, and each
--- character's observation condition from the fourth on.
+-- An action's parts: its condition stands at the first place, its effects at the second, its consenters at the third,
+-- and each character's observation condition from the fourth on.
 pub record ActionParts (d : Dimensions) (s places : List ℕ) (base : ℕ) : Type 0 where
   pub effects : Ends (conditionAt d) s (getD places base 0) (getD places (base + 1) 0)
   pub consenters : Ends (effectsAt d) s (getD places (base + 1) 0) (getD places (base + 2) 0)

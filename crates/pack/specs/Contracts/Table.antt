@@ -1,4 +1,5 @@
--- A table in the bytes of a lent buffer: rows of `width` bytes, the fluents' values and then the characters' beliefs, one byte each.
+-- A table in the bytes of a lent buffer: rows of `width` bytes, the fluents' values and then the characters' beliefs,
+-- one byte each.
 use Prim.Native.Nat.{ℕ, zero, suc, _+_, _*_, _<_, _≤_}
 use mathlib.Core.Path.{_≡_}
 use mathlib.Core.List.{List, [], _∷_, _++_}

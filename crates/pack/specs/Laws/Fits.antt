@@ -1,4 +1,5 @@
--- What fits the layout: members by their places, the rows of a table, and how long a chart's bytes are. Assumes nothing.
+-- What fits the layout: members by their places, the rows of a table, and how long a chart's bytes are. Assumes
+-- nothing.
 use Prim.Native.Nat.{ℕ, zero, suc, _+_, _*_, _<_, _≤_}
 use mathlib.Core.Path.{_≡_, refl, sym, ap, _∙_}
 use mathlib.Core.List.{List, [], _∷_, _++_, map, append-nil, append-assoc}
@@ -8,7 +9,8 @@ use lib.ListN.{length, getD, set, replicate, length-append}
 use borrow.Author.Tests.{lt-ltb}
 use Rattle.pack.specs.Syntax.{Node}
 use Rattle.pack.specs.State.{nowhere, node, Closed, Sized}
-use Rattle.pack.specs.Layout.{numberBytes, listBytes, nodeBytes, chartBytes, Each, Valued, OfFluent, NodeFits, ChartFits}
+use Rattle.pack.specs.Layout.{numberBytes, listBytes, nodeBytes, chartBytes}
+use Rattle.pack.specs.Layout.{Each, Valued, OfFluent, NodeFits, ChartFits}
 
 -- Members by their places
 pub each-in : {A : Type 0} (P : A → Type 0) (x : A) (l : List A) → Each P l → (i : ℕ) → i < length l → P (getD l i x)
@@ -17,7 +19,8 @@ each-in P x [] e i h = absurd (omega arith)
 each-in P x (a ∷ l) e zero h = e .0
 each-in P x (a ∷ l) e (suc i) h = each-in P x l (e .1) i (omega arith)
 
-pub each-from : {A : Type 0} (P : A → Type 0) (x : A) (l : List A) → ((i : ℕ) → i < length l → P (getD l i x)) → Each P l
+pub each-from : {A : Type 0} (P : A → Type 0) (x : A) (l : List A) → ((i : ℕ) → i < length l → P (getD l i x))
+    → Each P l
 unfolding Each
 each-from P x [] h = tt
 each-from P x (a ∷ l) h = (h 0 (omega arith), each-from P x l (λ i g. h (suc i) (omega arith)))
@@ -35,7 +38,8 @@ each-weak P Q f [] e = tt
 each-weak P Q f (a ∷ l) e = (f a (e .0), each-weak P Q f l (e .1))
 
 pub sizes-small : (ds : List ℕ) → Each (λ d. (1 ≤ d) × (d ≤ 128)) ds → (f : ℕ) → getD ds f 0 ≤ 128
-sizes-small ds h f = each-at (λ d. d ≤ 128) 0 (omega arith) ds (each-weak (λ d. (1 ≤ d) × (d ≤ 128)) (λ d. d ≤ 128) (λ d g. g .1) ds h) f
+sizes-small ds h f =
+    each-at (λ d. d ≤ 128) 0 (omega arith) ds (each-weak (λ d. (1 ≤ d) × (d ≤ 128)) (λ d. d ≤ 128) (λ d g. g .1) ds h) f
 
 pub valued-length : (ds values : List ℕ) → Valued ds values → length values ≡ length ds
 unfolding Valued
@@ -59,7 +63,9 @@ module _ (C : ℕ) (D : List ℕ) (t : List Node) (h : ChartFits C D t) where
   fits-node = each-in (NodeFits C D (length t)) nowhere t (h .2)
 
   pub fits-closed : Closed C t
-  fits-closed n c l g = let r = fits-node n l in each-in (λ b. b < length t) 0 (node t n .beliefs) (r .beliefs) c (omega (arith, r .believers))
+  fits-closed n c l g =
+      let r = fits-node n l in
+      each-in (λ b. b < length t) 0 (node t n .beliefs) (r .beliefs) c (omega (arith, r .believers))
 
   pub fits-sized : Sized (length D) t
   fits-sized n l = valued-length D (node t n .values) (fits-node n l .values)
@@ -86,17 +92,20 @@ unfolding listBytes
 list-snoc f [] a = append-nil (f a)
 list-snoc f (b ∷ l) a = ap (λ (x : List ℕ). f b ++ x) (list-snoc f l a) ∙ sym (append-assoc (f b) (listBytes f l) (f a))
 
-list-length : {A : Type 0} (f : A → List ℕ) (k : ℕ) (l : List A) → Each (λ a. length (f a) ≡ k) l → length (listBytes f l) ≡ length l * k
+list-length : {A : Type 0} (f : A → List ℕ) (k : ℕ) (l : List A) → Each (λ a. length (f a) ≡ k) l
+    → length (listBytes f l) ≡ length l * k
 unfolding Each listBytes
 list-length f k [] e = omega (arith, zero-mul k)
-list-length f k (a ∷ l) e = omega (arith, length-append (f a) (listBytes f l), e .0, list-length f k l (e .1), suc-mul (length l) k)
+list-length f k (a ∷ l) e =
+    omega (arith, length-append (f a) (listBytes f l), e .0, list-length f k l (e .1), suc-mul (length l) k)
 
 pub values-small : (ds values : List ℕ) → ((f : ℕ) → getD ds f 0 ≤ 128) → Valued ds values → Each (λ v. v < 128) values
 unfolding Valued Each
 values-small [] [] small h = tt
 values-small [] (v ∷ values) small h = absurd h
 values-small (d ∷ ds) [] small h = absurd h
-values-small (d ∷ ds) (v ∷ values) small h = (omega (arith, h .0, small 0), values-small ds values (λ f. small (suc f)) (h .1))
+values-small (d ∷ ds) (v ∷ values) small h =
+    (omega (arith, h .0, small 0), values-small ds values (λ f. small (suc f)) (h .1))
 
 module _ (C : ℕ) (D : List ℕ) (small : (f : ℕ) → getD D f 0 ≤ 128) where
   node-length : (nodes : ℕ) → nodes ≤ 32 → (n : Node) → NodeFits C D nodes n → length (nodeBytes n) ≡ length D + C
@@ -104,8 +113,11 @@ module _ (C : ℕ) (D : List ℕ) (small : (f : ℕ) → getD D f 0 ≤ 128) whe
       omega (
         arith,
         length-append (listBytes numberBytes (n .values)) (listBytes (λ b. numberBytes (suc b)) (n .beliefs)),
-        list-length numberBytes 1 (n .values) (each-weak (λ v. v < 128) (λ v. length (numberBytes v) ≡ 1) (λ v l. one-byte v l) (n .values) (values-small D (n .values) small (h .values))),
-        list-length (λ b. numberBytes (suc b)) 1 (n .beliefs) (each-weak (λ b. b < nodes) (λ b. length (numberBytes (suc b)) ≡ 1) (λ b l. one-byte (suc b) (omega arith)) (n .beliefs) (h .beliefs)),
+        list-length numberBytes 1 (n .values) (each-weak (λ v. v < 128) (λ v. length (numberBytes v) ≡ 1)
+            (λ v l. one-byte v l) (n .values) (values-small D (n .values) small (h .values))),
+        list-length (λ b. numberBytes (suc b)) 1 (n .beliefs)
+            (each-weak (λ b. b < nodes) (λ b. length (numberBytes (suc b)) ≡ 1) (λ b l. one-byte (suc b) (omega arith))
+            (n .beliefs) (h .beliefs)),
         valued-length D (n .values) (h .values),
         h .believers,
       )
@@ -117,7 +129,8 @@ module _ (C : ℕ) (D : List ℕ) (small : (f : ℕ) → getD D f 0 ≤ 128) whe
         arith,
         length-append (numberBytes (length t)) (listBytes nodeBytes t),
         one-byte (length t) (omega (arith, h .1)),
-        list-length nodeBytes (length D + C) t (each-weak (NodeFits C D (length t)) (λ n. length (nodeBytes n) ≡ length D + C) (node-length (length t) (h .1)) t (h .2)),
+        list-length nodeBytes (length D + C) t (each-weak (NodeFits C D (length t))
+            (λ n. length (nodeBytes n) ≡ length D + C) (node-length (length t) (h .1)) t (h .2)),
       )
 
   -- "It has at most 961 bytes"
@@ -140,11 +153,18 @@ unfolding Valued
 valued-widest [] [] small h = tt
 valued-widest [] (v ∷ values) small h = absurd h
 valued-widest (d ∷ D) [] small h = absurd h
-valued-widest (d ∷ D) (v ∷ values) small h = (omega (arith, h .0, small 0), valued-widest D values (λ f. small (suc f)) (h .1))
+valued-widest (d ∷ D) (v ∷ values) small h =
+    (omega (arith, h .0, small 0), valued-widest D values (λ f. small (suc f)) (h .1))
 
-pub fits-widest : (C : ℕ) (D : List ℕ) → ((f : ℕ) → getD D f 0 ≤ 128) → (t : List Node) → ChartFits C D t → ChartFits C (widest D) t
+pub fits-widest : (C : ℕ) (D : List ℕ) → ((f : ℕ) → getD D f 0 ≤ 128) → (t : List Node) → ChartFits C D t
+    → ChartFits C (widest D) t
 fits-widest C D small t h = (
   h .0,
   h .1,
-  each-weak (NodeFits C D (length t)) (NodeFits C (widest D) (length t)) (λ n f. record { values = valued-widest D (n .values) small (f .values); believers = f .believers; beliefs = f .beliefs }) t (h .2),
+  each-weak (NodeFits C D (length t)) (NodeFits C (widest D) (length t))
+      (λ n f. record {
+        values = valued-widest D (n .values) small (f .values);
+        believers = f .believers;
+        beliefs = f .beliefs;
+      }) t (h .2),
 )

@@ -18,7 +18,8 @@ use Rattle.pack.specs.Laws.Reading.{mapped-mapped, mapped-bind, bind-map
 use Rattle.pack.specs.Laws.Runs.{runs-none, many-forget}
 use Rattle.pack.specs.Laws.Bounded.{Bounds, many-bounded, ends-within}
 
-pub many-suc : {A : Type 0} (p : Reader A) (k : ℕ) (s : List ℕ) (at : ℕ) → mapped forget (many p (suc k) s at) ≡ bind (mapped forget (p s at)) (λ u n. mapped forget (many p k s n))
+pub many-suc : {A : Type 0} (p : Reader A) (k : ℕ) (s : List ℕ) (at : ℕ)
+    → mapped forget (many p (suc k) s at) ≡ bind (mapped forget (p s at)) (λ u n. mapped forget (many p k s n))
 unfolding runs
 many-suc p k s at = simp (mapped-bind, bind-mapped, mapped-mapped)
 
@@ -27,19 +28,27 @@ unfolding runs
 many-zero p s at = refl
 
 -- where i of them end and one more begins
-ends-suc : {A : Type 0} (p : Reader A) (i : ℕ) (s : List ℕ) (at n m : ℕ) → Ends (many p i) s at n → Ends p s n m → Ends (many p (suc i)) s at m
+ends-suc : {A : Type 0} (p : Reader A) (i : ℕ) (s : List ℕ) (at n m : ℕ) → Ends (many p i) s at n → Ends p s n m
+    → Ends (many p (suc i)) s at m
 ends-suc p zero s at n m e f =
     let same : at ≡ n = same-place (sym (many-zero p s at) ∙ e) in
-    many-suc p zero s at ∙ ap (λ (x : Reading (Unit {0})). bind x (λ u n. mapped forget (many p zero s n))) (ap (λ (k : ℕ). mapped forget (p s k)) same ∙ f) ∙ many-zero p s m
+    many-suc p zero s at
+    ∙ ap (λ (x : Reading (Unit {0})). bind x (λ u n. mapped forget (many p zero s n)))
+    (ap (λ (k : ℕ). mapped forget (p s k)) same ∙ f)
+    ∙ many-zero p s m
 ends-suc p (suc i) s at n m e f =
     let b = both (mapped forget (p s at)) (λ u n. mapped forget (many p i s n)) tt n (sym (many-suc p i s at) ∙ e) in
-    many-suc p (suc i) s at ∙ ap (λ (x : Reading (Unit {0})). bind x (λ u n. mapped forget (many p (suc i) s n))) (b .left) ∙ ends-suc p i s (b .place) n m (b .right) f
+    many-suc p (suc i) s at
+    ∙ ap (λ (x : Reading (Unit {0})). bind x (λ u n. mapped forget (many p (suc i) s n))) (b .left)
+    ∙ ends-suc p i s (b .place) n m (b .right) f
 
-pub ends-more : {A : Type 0} (p : Reader A) (i : ℕ) (s : List ℕ) (at n m : ℕ) → Ends (many p i) s at n → Ends p s n m → Ends (many p (i + 1)) s at m
+pub ends-more : {A : Type 0} (p : Reader A) (i : ℕ) (s : List ℕ) (at n m : ℕ) → Ends (many p i) s at n → Ends p s n m
+    → Ends (many p (i + 1)) s at m
 ends-more p i s at n m e f = subst (λ (k : ℕ). Ends (many p k) s at m) (sym (add-one i)) (ends-suc p i s at n m e f)
 
 -- i of k things are read and marked, and left are left, from n on
-pub record Marking {A : Type 0} (p : Reader A) (s : List ℕ) (first : ℕ) (slot : ℕ → ℕ) (low : ℕ) (was now : List ℕ) (k i n left : ℕ) : Type 0 where
+pub record Marking {A : Type 0} (p : Reader A) (s : List ℕ) (first : ℕ) (slot : ℕ → ℕ) (low : ℕ) (was now : List ℕ)
+    (k i n left : ℕ) : Type 0 where
   pub counts : i + left ≡ k
   pub whole : mapped forget (many p k s first) ≡ mapped forget (many p left s n)
   pub read : Ends (many p i) s first n
@@ -48,19 +57,30 @@ pub record Marking {A : Type 0} (p : Reader A) (s : List ℕ) (first : ℕ) (slo
 
 module _ {A : Type 0} (p : Reader A) (s : List ℕ) (first : ℕ) (slot : ℕ → ℕ) (low : ℕ) where
   pub marking-start : (was : List ℕ) (k : ℕ) → Marking p s first slot low was was k 0 first k
-  marking-start was k = record { counts = omega arith; whole = refl; read = many-zero p s first; marked = λ j h. absurd (omega arith); kept = λ j h. refl }
+  marking-start was k =
+      record {
+        counts = omega arith;
+        whole = refl;
+        read = many-zero p s first;
+        marked = λ j h. absurd (omega arith);
+        kept = λ j h. refl;
+      }
 
   -- the next begins at n, and is marked there
   pub marking-more : (was now : List ℕ) (k i n left : ℕ) → Marking p s first slot low was now k i n left → 0 < left
-      → (then : List ℕ) → getD then (slot i) 0 ≡ n → ((j : ℕ) → j < i → getD then (slot j) 0 ≡ getD now (slot j) 0) → KeptBelow low now then
+      → (then : List ℕ) → getD then (slot i) 0 ≡ n → ((j : ℕ) → j < i → getD then (slot j) 0 ≡ getD now (slot j) 0)
+      → KeptBelow low now then
       → (m : ℕ) → Ends p s n m → Marking p s first slot low was then k (i + 1) m (left - 1)
   marking-more was now k i n left g h then here before below m e = record {
     counts = omega (arith, g .counts);
-    whole = g .whole ∙ many-forget p left s n h ∙ ap (λ (x : Reading (Unit {0})). bind x (λ u n. mapped forget (many p (left - 1) s n))) e;
+    whole = g .whole ∙ many-forget p left s n h
+        ∙ ap (λ (x : Reading (Unit {0})). bind x (λ u n. mapped forget (many p (left - 1) s n))) e;
     read = ends-more p i s first n m (g .read) e;
     marked = λ j l. by-cases (decLt j i)
         (λ lt. subst (λ (x : ℕ). Ends (many p j) s first x) (sym (before j lt)) (g .marked j lt))
-        (λ ge. let same : i ≡ j = omega arith in subst (λ (j : ℕ). Ends (many p j) s first (getD then (slot j) 0)) same (subst (λ (x : ℕ). Ends (many p i) s first x) (sym here) (g .read)));
+        (λ ge. let same : i ≡ j = omega arith in
+        subst (λ (j : ℕ). Ends (many p j) s first (getD then (slot j) 0)) same
+        (subst (λ (x : ℕ). Ends (many p i) s first x) (sym here) (g .read)));
     kept = λ j l. below j l ∙ g .kept j l;
   }
 
@@ -70,21 +90,29 @@ module _ {A : Type 0} (p : Reader A) (s : List ℕ) (first : ℕ) (slot : ℕ �
       → (m : ℕ) → Ends p s n m → Marking p s first slot low was (set now (slot i) n) k (i + 1) m (left - 1)
   marking-set was now k i n left g h inside rises from m e =
       marking-more was now k i n left g h (set now (slot i) n) (getD-set-same now (slot i) n 0 inside)
-      (λ j l. getD-set-other now (slot i) (slot j) n 0 (omega (arith, rises j l))) (λ j l. getD-set-other now (slot i) j n 0 (omega arith)) m e
+      (λ j l. getD-set-other now (slot i) (slot j) n 0 (omega (arith, rises j l)))
+      (λ j l. getD-set-other now (slot i) j n 0 (omega arith)) m e
 
   -- the next begins within the bytes
-  pub marking-within : Bounds p → (was now : List ℕ) (k i n left : ℕ) → Marking p s first slot low was now k i n left → Within s first → Within s n
+  pub marking-within : Bounds p → (was now : List ℕ) (k i n left : ℕ) → Marking p s first slot low was now k i n left
+      → Within s first → Within s n
   marking-within h was now k i n left g w = ends-within s first w n (many p i) (many-bounded p h i) (g .read)
 
   pub marking-refused : (was now : List ℕ) (k i n left : ℕ) → Marking p s first slot low was now k i n left → 0 < left
-      → (number place : ℕ) → mapped forget (p s n) ≡ refused number place → mapped forget (many p k s first) ≡ refused number place
-  marking-refused was now k i n left g h number place e = g .whole ∙ many-forget p left s n h ∙ ap (λ (x : Reading (Unit {0})). bind x (λ u n. mapped forget (many p (left - 1) s n))) e
+      → (number place : ℕ) → mapped forget (p s n) ≡ refused number place
+      → mapped forget (many p k s first) ≡ refused number place
+  marking-refused was now k i n left g h number place e =
+      g .whole ∙ many-forget p left s n h
+      ∙ ap (λ (x : Reading (Unit {0})). bind x (λ u n. mapped forget (many p (left - 1) s n))) e
 
-  pub marking-whole : (was now : List ℕ) (k i n left : ℕ) → Marking p s first slot low was now k i n left → left ≤ 0 → mapped forget (many p k s first) ≡ done tt n
+  pub marking-whole : (was now : List ℕ) (k i n left : ℕ) → Marking p s first slot low was now k i n left → left ≤ 0
+      → mapped forget (many p k s first) ≡ done tt n
   marking-whole was now k i n left g h = g .whole ∙ runs-none _ _ _ forget left s n h
 
-  pub marking-all : (was now : List ℕ) (k i n left : ℕ) → Marking p s first slot low was now k i n left → left ≤ 0 → Marked p s first now slot k
-  marking-all was now k i n left g h = let same : i ≡ k = omega (arith, g .counts) in subst (λ (k : ℕ). Marked p s first now slot k) same (g .marked)
+  pub marking-all : (was now : List ℕ) (k i n left : ℕ) → Marking p s first slot low was now k i n left → left ≤ 0
+      → Marked p s first now slot k
+  marking-all was now k i n left g h =
+      let same : i ≡ k = omega (arith, g .counts) in subst (λ (k : ℕ). Marked p s first now slot k) same (g .marked)
 
 -- a store at a place leaves those below it
 pub set-below : (l : List ℕ) (i v low : ℕ) → low ≤ i → KeptBelow low l (set l i v)
@@ -130,7 +158,9 @@ module _ (was : List ℕ) (b at e q : ℕ) (inside : b + 1 < length was) where
 
   -- a trigger has the first two
   pub trigger-parts : (d : Dimensions) (s : List ℕ) → Ends (conditionAt d) s at e → TriggerParts d s two b
-  trigger-parts d s f = subst (λ (x : ℕ). Ends (conditionAt d) s x (getD two (b + 1) 0)) (sym first-two) (subst (λ (x : ℕ). Ends (conditionAt d) s at x) (sym second-two) f)
+  trigger-parts d s f =
+      subst (λ (x : ℕ). Ends (conditionAt d) s x (getD two (b + 1) 0)) (sym first-two)
+      (subst (λ (x : ℕ). Ends (conditionAt d) s at x) (sym second-two) f)
 
   module _ (now : List ℕ) (kept : KeptBelow (b + 3) three now) where
     pub action-first : getD now b 0 ≡ at
@@ -139,15 +169,18 @@ module _ (was : List ℕ) (b at e q : ℕ) (inside : b + 1 < length was) where
     pub action-kept : KeptBelow b was now
     action-kept k l = kept k (omega arith) ∙ kept-three k l
 
-    pub action-parts : b + 2 < length was → (d : Dimensions) (s : List ℕ) (n : ℕ) → Ends (conditionAt d) s at e → Ends (effectsAt d) s e q → Ends (consentersAt d) s q n
+    pub action-parts : b + 2 < length was → (d : Dimensions) (s : List ℕ) (n : ℕ) → Ends (conditionAt d) s at e
+        → Ends (effectsAt d) s e q → Ends (consentersAt d) s q n
         → Marked (conditionAt d) s n now (λ c. (b + 3) + c) (d .characters) → ActionParts d s now b
     action-parts more d s n f g h m =
         let first = action-first in
         let second : getD now (b + 1) 0 ≡ e = kept (b + 1) (omega arith) ∙ second-three in
         let third : getD now (b + 2) 0 ≡ q = kept (b + 2) (omega arith) ∙ third-three more in
         record {
-          effects = subst (λ (x : ℕ). Ends (conditionAt d) s x (getD now (b + 1) 0)) (sym first) (subst (λ (x : ℕ). Ends (conditionAt d) s at x) (sym second) f);
-          consenters = subst (λ (x : ℕ). Ends (effectsAt d) s x (getD now (b + 2) 0)) (sym second) (subst (λ (x : ℕ). Ends (effectsAt d) s e x) (sym third) g);
+          effects = subst (λ (x : ℕ). Ends (conditionAt d) s x (getD now (b + 1) 0)) (sym first)
+              (subst (λ (x : ℕ). Ends (conditionAt d) s at x) (sym second) f);
+          consenters = subst (λ (x : ℕ). Ends (effectsAt d) s x (getD now (b + 2) 0)) (sym second)
+              (subst (λ (x : ℕ). Ends (effectsAt d) s e x) (sym third) g);
           first = n;
           ended = subst (λ (x : ℕ). Ends (consentersAt d) s x n) (sym third) h;
           observed = m;
@@ -167,30 +200,39 @@ pub when-given : (r : Checked) (n : ℕ) (P : ℕ → Type 0) → r ≡ Passed n
 when-given r n P e h = subst (λ (r : Checked). whenPassed r P) e h
 
 -- the parts that were marked stay where the places below a slot are kept
-pub action-stays : (d : Dimensions) (s was now : List ℕ) (b low : ℕ) → d .characters ≤ 6 → b + 9 ≤ low → KeptBelow low was now → ActionParts d s was b → ActionParts d s now b
+pub action-stays : (d : Dimensions) (s was now : List ℕ) (b low : ℕ) → d .characters ≤ 6 → b + 9 ≤ low
+    → KeptBelow low was now → ActionParts d s was b → ActionParts d s now b
 action-stays d s was now b low few h kept a =
     let e0 = kept b (omega arith) in
     let e1 = kept (b + 1) (omega arith) in
     let e2 = kept (b + 2) (omega arith) in
     record {
-      effects = subst (λ (x : ℕ). Ends (conditionAt d) s x (getD now (b + 1) 0)) (sym e0) (subst (λ (x : ℕ). Ends (conditionAt d) s (getD was b 0) x) (sym e1) (a .effects));
-      consenters = subst (λ (x : ℕ). Ends (effectsAt d) s x (getD now (b + 2) 0)) (sym e1) (subst (λ (x : ℕ). Ends (effectsAt d) s (getD was (b + 1) 0) x) (sym e2) (a .consenters));
+      effects = subst (λ (x : ℕ). Ends (conditionAt d) s x (getD now (b + 1) 0)) (sym e0)
+          (subst (λ (x : ℕ). Ends (conditionAt d) s (getD was b 0) x) (sym e1) (a .effects));
+      consenters = subst (λ (x : ℕ). Ends (effectsAt d) s x (getD now (b + 2) 0)) (sym e1)
+          (subst (λ (x : ℕ). Ends (effectsAt d) s (getD was (b + 1) 0) x) (sym e2) (a .consenters));
       first = a .first;
       ended = subst (λ (x : ℕ). Ends (consentersAt d) s x (a .first)) (sym e2) (a .ended);
-      observed = λ c l. subst (λ (x : ℕ). Ends (many (conditionAt d) c) s (a .first) x) (sym (kept ((b + 3) + c) (omega arith))) (a .observed c l);
+      observed = λ c l.
+          subst (λ (x : ℕ). Ends (many (conditionAt d) c) s (a .first) x) (sym (kept ((b + 3) + c) (omega arith)))
+          (a .observed c l);
     }
 
-pub actions-more : (d : Dimensions) (s was now : List ℕ) (i : ℕ) → d .characters ≤ 6 → KeptBelow (9 * i) was now → ((j : ℕ) → j < i → ActionParts d s was (9 * j)) → ActionParts d s now (9 * i)
+pub actions-more : (d : Dimensions) (s was now : List ℕ) (i : ℕ) → d .characters ≤ 6 → KeptBelow (9 * i) was now
+    → ((j : ℕ) → j < i → ActionParts d s was (9 * j)) → ActionParts d s now (9 * i)
     → (j : ℕ) → j < i + 1 → ActionParts d s now (9 * j)
 actions-more d s was now i few kept before here j l = by-cases (decLt j i)
     (λ lt. action-stays d s was now (9 * j) (9 * i) few (omega arith) kept (before j lt))
     (λ ge. let same : i ≡ j = omega arith in subst (λ (j : ℕ). ActionParts d s now (9 * j)) same here)
 
-pub trigger-stays : (d : Dimensions) (s was now : List ℕ) (b low : ℕ) → b + 2 ≤ low → KeptBelow low was now → TriggerParts d s was b → TriggerParts d s now b
+pub trigger-stays : (d : Dimensions) (s was now : List ℕ) (b low : ℕ) → b + 2 ≤ low → KeptBelow low was now
+    → TriggerParts d s was b → TriggerParts d s now b
 trigger-stays d s was now b low h kept a =
-    subst (λ (x : ℕ). Ends (conditionAt d) s x (getD now (b + 1) 0)) (sym (kept b (omega arith))) (subst (λ (x : ℕ). Ends (conditionAt d) s (getD was b 0) x) (sym (kept (b + 1) (omega arith))) a)
+    subst (λ (x : ℕ). Ends (conditionAt d) s x (getD now (b + 1) 0)) (sym (kept b (omega arith)))
+    (subst (λ (x : ℕ). Ends (conditionAt d) s (getD was b 0) x) (sym (kept (b + 1) (omega arith))) a)
 
-pub triggers-more : (d : Dimensions) (s was now : List ℕ) (i : ℕ) → KeptBelow (288 + 2 * i) was now → ((j : ℕ) → j < i → TriggerParts d s was (288 + 2 * j)) → TriggerParts d s now (288 + 2 * i)
+pub triggers-more : (d : Dimensions) (s was now : List ℕ) (i : ℕ) → KeptBelow (288 + 2 * i) was now
+    → ((j : ℕ) → j < i → TriggerParts d s was (288 + 2 * j)) → TriggerParts d s now (288 + 2 * i)
     → (j : ℕ) → j < i + 1 → TriggerParts d s now (288 + 2 * j)
 triggers-more d s was now i kept before here j l = by-cases (decLt j i)
     (λ lt. trigger-stays d s was now (288 + 2 * j) (288 + 2 * i) (omega arith) kept (before j lt))

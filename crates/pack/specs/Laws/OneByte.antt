@@ -28,7 +28,10 @@ pub record ByteAt (s : List ℕ) (at v n : ℕ) : Type 0 where
 abbrev One : ℕ → ℕ → ℕ → ℕ → ℕ → Type 0
 One l a at v n = (n ≡ at + 1) × (a ≡ v) × (at < l)
 
-third : (a b d at v n : ℕ) (x y z : Bool) → eqb d 0 ≡ y → ltb 3 d ≡ z → v < 128 → (l : ℕ) → pick x (refused 1 l) (pick y (refused 2 at) (pick z (refused 2 at) (done (a % 128 + 128 * (b % 128) + 16384 * (d % 128)) (at + 3)))) ≡ done v n → One l a at v n
+third : (a b d at v n : ℕ) (x y z : Bool) → eqb d 0 ≡ y → ltb 3 d ≡ z → v < 128 → (l : ℕ)
+    → pick x (refused 1 l) (pick y (refused 2 at)
+    (pick z (refused 2 at) (done (a % 128 + 128 * (b % 128) + 16384 * (d % 128)) (at + 3)))) ≡ done v n
+    → One l a at v n
 third a b d at v n true y z p q h l e = never e
 third a b d at v n false true z p q h l e = never e
 third a b d at v n false false true p q h l e = never e
@@ -38,8 +41,10 @@ third a b d at v n false false false p q h l e =
     let k = ltb-false 3 d q in
     absurd (omega arith)
 
-second : (a b at v n l : ℕ) (x y z : Bool) → eqb b 0 ≡ y → ltb b 128 ≡ z → v < 128 → (r : Reading ℕ) → (r ≡ done v n → One l a at v n)
-    → pick x (refused 1 l) (pick y (refused 2 at) (pick z (done (a % 128 + 128 * (b % 128)) (at + 2)) r)) ≡ done v n → One l a at v n
+second : (a b at v n l : ℕ) (x y z : Bool) → eqb b 0 ≡ y → ltb b 128 ≡ z → v < 128 → (r : Reading ℕ)
+    → (r ≡ done v n → One l a at v n)
+    → pick x (refused 1 l) (pick y (refused 2 at) (pick z (done (a % 128 + 128 * (b % 128)) (at + 2)) r)) ≡ done v n
+    → One l a at v n
 second a b at v n l true y z p q h r f e = never e
 second a b at v n l false true z p q h r f e = never e
 second a b at v n l false false true p q h r f e =
@@ -49,7 +54,8 @@ second a b at v n l false false true p q h r f e =
     absurd (omega arith)
 second a b at v n l false false false p q h r f e = f e
 
-first : (a at v n l : ℕ) (x y : Bool) → leb l at ≡ x → ltb a 128 ≡ y → v < 128 → (r : Reading ℕ) → (r ≡ done v n → One l a at v n)
+first : (a at v n l : ℕ) (x y : Bool) → leb l at ≡ x → ltb a 128 ≡ y → v < 128 → (r : Reading ℕ)
+    → (r ≡ done v n → One l a at v n)
     → pick x (refused 1 l) (pick y (done (a % 128) (at + 1)) r) ≡ done v n → One l a at v n
 first a at v n l true y w p h r f e = never e
 first a at v n l false true w p h r f e =
@@ -73,13 +79,17 @@ one-byte s at v n e h =
     e in
     record { next = o .0; value = o .1; inside = o .2 }
 
-pub between-byte : (low limit number : ℕ) (s : List ℕ) (at v n : ℕ) → limit ≤ 128 → between low limit number s at ≡ done v n → ByteAt s at v n
+pub between-byte : (low limit number : ℕ) (s : List ℕ) (at v n : ℕ) → limit ≤ 128
+    → between low limit number s at ≡ done v n → ByteAt s at v n
 unfolding between
 between-byte low limit number s at v n h e =
-    let b = both (numberAt s at) (λ v n. pick (ltb v low) (refused number at) (pick (ltb v limit) (done v n) (refused number at))) v n e in
-    let (under, rest) = failed (ltb (b .value) low) number at (pick (ltb (b .value) limit) (done (b .value) (b .place)) (refused number at)) v n (b .right) in
+    let b = both (numberAt s at)
+    (λ v n. pick (ltb v low) (refused number at) (pick (ltb v limit) (done v n) (refused number at))) v n e in
+    let (under, rest) = failed (ltb (b .value) low) number at
+    (pick (ltb (b .value) limit) (done (b .value) (b .place)) (refused number at)) v n (b .right) in
     let (below, given) = passed (ltb (b .value) limit) number at (done (b .value) (b .place)) v n rest in
-    one-byte s at v n (b .left ∙ given) (let q = ltb-true (b .value) limit below in let same = same-value given in omega arith)
+    one-byte s at v n (b .left ∙ given)
+    (let q = ltb-true (b .value) limit below in let same = same-value given in omega arith)
 
 pub bytes-one : (s : List ℕ) (n left : ℕ) → 0 < left → bytesAt s n left ≡ getD s n 0 ∷ bytesAt s (n + 1) (left - 1)
 unfolding bytesAt
@@ -97,9 +107,11 @@ pub record Chain (C : ℕ) (s : List ℕ) (at k : ℕ) (chain : List ℕ) (n : �
   pub ends : n ≡ at + k
   pub valid : Valid C (bytesAt s at k)
 
-pub chain-bytes : (C : ℕ) (s : List ℕ) (at k : ℕ) (chain : List ℕ) (n : ℕ) → C ≤ 128 → many (item C) k s at ≡ done chain n → Chain C s at k chain n
+pub chain-bytes : (C : ℕ) (s : List ℕ) (at k : ℕ) (chain : List ℕ) (n : ℕ) → C ≤ 128
+    → many (item C) k s at ≡ done chain n → Chain C s at k chain n
 unfolding runs bytesAt Valid
-chain-bytes C s at zero chain n h e = record { bytes = sym (same-value e); ends = sym (same-place e) ∙ sym (add-zero at); valid = tt }
+chain-bytes C s at zero chain n h e =
+    record { bytes = sym (same-value e); ends = sym (same-place e) ∙ sym (add-zero at); valid = tt }
 chain-bytes C s at (suc k) chain n h e =
     let b = both (item C s at) (λ a n. mapped (λ rest. a ∷ rest) (many (item C) k s n)) chain n e in
     let u = unmapped (λ rest. b .value ∷ rest) (many (item C) k s (b .place)) chain n (b .right) in
@@ -107,7 +119,8 @@ chain-bytes C s at (suc k) chain n h e =
     let o = between-byte 0 C 4 s at (b .value) (b .place) h (b .left) in
     let r = chain-bytes C s (at + 1) k (u .value) n h (ap (many (item C) k s) (sym (o .next)) ∙ u .left) in
     record {
-      bytes = sym (u .right) ∙ ap (λ (v : ℕ). v ∷ u .value) (sym (o .value)) ∙ ap (λ (l : List ℕ). getD s at 0 ∷ l) (r .bytes);
+      bytes = sym (u .right) ∙ ap (λ (v : ℕ). v ∷ u .value) (sym (o .value))
+          ∙ ap (λ (l : List ℕ). getD s at 0 ∷ l) (r .bytes);
       ends = r .ends ∙ (let x : (at + 1) + k ≡ at + suc k = omega arith in x);
       valid = (let y = o .value in let z = w .1 in omega arith, r .valid);
     }
@@ -124,15 +137,19 @@ pub record TestBytes (d : Dimensions) (s : List ℕ) (at : ℕ) (x : Test) (n : 
   pub ends : n ≡ ((at + 1) + getD s at 0) + 3
   pub inside : ((at + 1) + getD s at 0) + 2 < length s
 
-pub test-bytes : (d : Dimensions) → Small d → (s : List ℕ) (at : ℕ) (x : Test) (n : ℕ) → testAt d s at ≡ done x n → TestBytes d s at x n
+pub test-bytes : (d : Dimensions) → Small d → (s : List ℕ) (at : ℕ) (x : Test) (n : ℕ) → testAt d s at ≡ done x n
+    → TestBytes d s at x n
 unfolding testAt
 test-bytes d small s at x n e =
     let b0 = both (counted 0 5 (item (d .characters)) s at) _ x n e in
     let c0 = both (between 0 5 3 s at) (λ k n. many (item (d .characters)) k s n) (b0 .value) (b0 .place) (b0 .left) in
     let o0 = between-byte 0 5 3 s at (c0 .value) (c0 .place) (omega arith) (c0 .left) in
     let k = getD s at 0 in
-    let chain0 : many (item (d .characters)) k s (at + 1) ≡ done (b0 .value) (b0 .place) = ap (λ (v : ℕ). many (item (d .characters)) v s (at + 1)) (o0 .value) ∙ ap (many (item (d .characters)) (c0 .value) s) (sym (o0 .next)) ∙ c0 .right in
-    let ch = chain-bytes (d .characters) s (at + 1) k (b0 .value) (b0 .place) (let q = small .characters in omega arith) chain0 in
+    let chain0 : many (item (d .characters)) k s (at + 1)
+    ≡ done (b0 .value) (b0 .place) = ap (λ (v : ℕ). many (item (d .characters)) v s (at + 1)) (o0 .value)
+    ∙ ap (many (item (d .characters)) (c0 .value) s) (sym (o0 .next)) ∙ c0 .right in
+    let ch = chain-bytes (d .characters) s (at + 1) k (b0 .value) (b0 .place)
+    (let q = small .characters in omega arith) chain0 in
     let m = (at + 1) + k in
     let b1 = both (item 3 s (b0 .place)) _ x n (b0 .right) in
     let e1 : item 3 s m ≡ done (b1 .value) (b1 .place) = ap (item 3 s) (sym (ch .ends)) ∙ b1 .left in
@@ -140,11 +157,15 @@ test-bytes d small s at x n e =
     let w1 = between-within 0 3 4 s m (b1 .value) (b1 .place) e1 in
     let b2 = both (fluentAt d s (b1 .place)) _ x n (b1 .right) in
     let e2 : fluentAt d s (m + 1) ≡ done (b2 .value) (b2 .place) = ap (fluentAt d s) (sym (o1 .next)) ∙ b2 .left in
-    let o2 = between-byte 0 (length (d .domains)) 4 s (m + 1) (b2 .value) (b2 .place) (let q = small .fluents in omega arith) e2 in
+    let o2 = between-byte 0 (length (d .domains)) 4 s (m + 1) (b2 .value) (b2 .place)
+    (let q = small .fluents in omega arith) e2 in
     let w2 = between-within 0 (length (d .domains)) 4 s (m + 1) (b2 .value) (b2 .place) e2 in
-    let u = unmapped (λ value. record { chain = b0 .value; kind = kindOf (b1 .value); fluent = b2 .value; value = value }) (valueAt d (b2 .value) s (b2 .place)) x n (b2 .right) in
+    let u = unmapped (λ value.
+    record { chain = b0 .value; kind = kindOf (b1 .value); fluent = b2 .value; value = value })
+    (valueAt d (b2 .value) s (b2 .place)) x n (b2 .right) in
     let two : (m + 1) + 1 ≡ m + 2 = omega arith in
-    let e3 : valueAt d (b2 .value) s (m + 2) ≡ done (u .value) n = ap (valueAt d (b2 .value) s) (sym (o2 .next ∙ two)) ∙ u .left in
+    let e3 : valueAt d (b2 .value) s (m + 2) ≡ done (u .value) n = ap (valueAt d (b2 .value) s) (sym (o2 .next ∙ two))
+    ∙ u .left in
     let o3 = between-byte 0 (getD (d .domains) (b2 .value) 0) 4 s (m + 2) (u .value) n (small .sizes (b2 .value)) e3 in
     record {
       chain = ap (λ (y : Test). y .chain) (sym (u .right)) ∙ ch .bytes;
@@ -164,7 +185,8 @@ unfolding bytesAt Valid
 valid-first C s n zero h v = absurd (omega arith)
 valid-first C s n (suc left) h v = v .0
 
-pub valid-rest : (C : ℕ) (s : List ℕ) (n left : ℕ) → 0 < left → Valid C (bytesAt s n left) → Valid C (bytesAt s (n + 1) (left - 1))
+pub valid-rest : (C : ℕ) (s : List ℕ) (n left : ℕ) → 0 < left → Valid C (bytesAt s n left)
+    → Valid C (bytesAt s (n + 1) (left - 1))
 unfolding bytesAt Valid
 valid-rest C s n zero h v = absurd (omega arith)
 valid-rest C s n (suc left) h v = rw sub-one (v .1)
@@ -176,10 +198,17 @@ pub record TestIn (d : Dimensions) (C F : ℕ) (s : List ℕ) (at k : ℕ) : Typ
   pub below : getD s (((at + 1) + k) + 1) 0 < F
   pub inside : ((at + 1) + k) + 2 < length s
 
-pub test-in : (d : Dimensions) (C F : ℕ) → Small d → d .characters ≡ C → length (d .domains) ≡ F → (s : List ℕ) (at : ℕ) (x : Test) (n : ℕ) → testAt d s at ≡ done x n → (k : ℕ) → getD s at 0 ≡ k → TestIn d C F s at k
+pub test-in : (d : Dimensions) (C F : ℕ) → Small d → d .characters ≡ C → length (d .domains) ≡ F
+    → (s : List ℕ) (at : ℕ) (x : Test) (n : ℕ) → testAt d s at ≡ done x n → (k : ℕ) → getD s at 0 ≡ k
+    → TestIn d C F s at k
 test-in d C F small ec ef s at x n e k q =
     let b = test-bytes d small s at x n e in
-    subst (TestIn d C F s at) q (record { valid = subst (λ (c : ℕ). Valid c (bytesAt s (at + 1) (getD s at 0))) ec (b .valid); known = b .known; below = let p = b .below in omega arith; inside = b .inside })
+    subst (TestIn d C F s at) q (record {
+      valid = subst (λ (c : ℕ). Valid c (bytesAt s (at + 1) (getD s at 0))) ec (b .valid);
+      known = b .known;
+      below = let p = b .below in omega arith;
+      inside = b .inside;
+    })
 
 -- an effect, byte by byte: whom, the fluent and the value
 pub record EffectBytes (d : Dimensions) (s : List ℕ) (at : ℕ) (x : Effect) (n : ℕ) : Type 0 where
@@ -190,18 +219,23 @@ pub record EffectBytes (d : Dimensions) (s : List ℕ) (at : ℕ) (x : Effect) (
   pub ends : n ≡ at + 3
   pub inside : at + 2 < length s
 
-pub effect-bytes : (d : Dimensions) → Small d → (s : List ℕ) (at : ℕ) (x : Effect) (n : ℕ) → effectAt d s at ≡ done x n → EffectBytes d s at x n
+pub effect-bytes : (d : Dimensions) → Small d → (s : List ℕ) (at : ℕ) (x : Effect) (n : ℕ) → effectAt d s at ≡ done x n
+    → EffectBytes d s at x n
 unfolding effectAt
 effect-bytes d small s at x n e =
     let b1 = both (item (d .characters + 1) s at) _ x n e in
-    let o1 = between-byte 0 (d .characters + 1) 4 s at (b1 .value) (b1 .place) (let q = small .characters in omega arith) (b1 .left) in
+    let o1 = between-byte 0 (d .characters + 1) 4 s at (b1 .value) (b1 .place)
+    (let q = small .characters in omega arith) (b1 .left) in
     let b2 = both (fluentAt d s (b1 .place)) _ x n (b1 .right) in
     let e2 : fluentAt d s (at + 1) ≡ done (b2 .value) (b2 .place) = ap (fluentAt d s) (sym (o1 .next)) ∙ b2 .left in
-    let o2 = between-byte 0 (length (d .domains)) 4 s (at + 1) (b2 .value) (b2 .place) (let q = small .fluents in omega arith) e2 in
+    let o2 = between-byte 0 (length (d .domains)) 4 s (at + 1) (b2 .value) (b2 .place)
+    (let q = small .fluents in omega arith) e2 in
     let w2 = between-within 0 (length (d .domains)) 4 s (at + 1) (b2 .value) (b2 .place) e2 in
-    let u = unmapped (λ value. record { whom = b1 .value; fluent = b2 .value; value = value }) (valueAt d (b2 .value) s (b2 .place)) x n (b2 .right) in
+    let u = unmapped (λ value. record { whom = b1 .value; fluent = b2 .value; value = value })
+    (valueAt d (b2 .value) s (b2 .place)) x n (b2 .right) in
     let two : (at + 1) + 1 ≡ at + 2 = omega arith in
-    let e3 : valueAt d (b2 .value) s (at + 2) ≡ done (u .value) n = ap (valueAt d (b2 .value) s) (sym (o2 .next ∙ two)) ∙ u .left in
+    let e3 : valueAt d (b2 .value) s (at + 2) ≡ done (u .value) n = ap (valueAt d (b2 .value) s) (sym (o2 .next ∙ two))
+    ∙ u .left in
     let o3 = between-byte 0 (getD (d .domains) (b2 .value) 0) 4 s (at + 2) (u .value) n (small .sizes (b2 .value)) e3 in
     record {
       whom = ap (λ (y : Effect). y .whom) (sym (u .right)) ∙ sym (o1 .value);
@@ -220,38 +254,50 @@ rising-byte C least s at v n h e =
     between-byte 0 C 4 s at v n h (b .left ∙ given)
 
 -- consenters, byte by byte
-pub rising-bytes : (C : ℕ) (s : List ℕ) (k least at : ℕ) (cs : List ℕ) (n : ℕ) → C ≤ 128 → runs (risingAt C) (λ least v. v + 1) least k s at ≡ done cs n
+pub rising-bytes : (C : ℕ) (s : List ℕ) (k least at : ℕ) (cs : List ℕ) (n : ℕ) → C ≤ 128
+    → runs (risingAt C) (λ least v. v + 1) least k s at ≡ done cs n
     → (length cs ≡ k) × ((i : ℕ) → i < k → (getD cs i 0 ≡ getD s (at + i) 0) × (at + i < length s))
 unfolding runs
 rising-bytes C s zero least at cs n h e = (ap length (sym (same-value e)), λ i l. absurd (omega arith))
 rising-bytes C s (suc k) least at cs n h e =
-    let b = both (risingAt C least s at) (λ a n. mapped (λ rest. a ∷ rest) (runs (risingAt C) (λ least v. v + 1) (a + 1) k s n)) cs n e in
-    let u = unmapped (λ rest. b .value ∷ rest) (runs (risingAt C) (λ least v. v + 1) (b .value + 1) k s (b .place)) cs n (b .right) in
+    let b = both (risingAt C least s at)
+    (λ a n. mapped (λ rest. a ∷ rest) (runs (risingAt C) (λ least v. v + 1) (a + 1) k s n)) cs n e in
+    let u = unmapped (λ rest. b .value ∷ rest) (runs (risingAt C) (λ least v. v + 1) (b .value + 1) k s (b .place)) cs n
+    (b .right) in
     let o = rising-byte C least s at (b .value) (b .place) h (b .left) in
-    let (long, rest) = rising-bytes C s k (b .value + 1) (at + 1) (u .value) n h (ap (runs (risingAt C) (λ least v. v + 1) (b .value + 1) k s) (sym (o .next)) ∙ u .left) in
+    let (long, rest) = rising-bytes C s k (b .value + 1) (at + 1) (u .value) n h
+    (ap (runs (risingAt C) (λ least v. v + 1) (b .value + 1) k s) (sym (o .next)) ∙ u .left) in
     (ap length (sym (u .right)) ∙ ap suc long, go (b .value) (u .value) (u .right) (o .value) (o .inside) rest)
   where
-    go : (v : ℕ) (vs : List ℕ) → v ∷ vs ≡ cs → getD s at 0 ≡ v → at < length s → ((i : ℕ) → i < k → (getD vs i 0 ≡ getD s ((at + 1) + i) 0) × ((at + 1) + i < length s))
+    go : (v : ℕ) (vs : List ℕ) → v ∷ vs ≡ cs → getD s at 0 ≡ v → at < length s
+        → ((i : ℕ) → i < k → (getD vs i 0 ≡ getD s ((at + 1) + i) 0) × ((at + 1) + i < length s))
         → (i : ℕ) → i < suc k → (getD cs i 0 ≡ getD s (at + i) 0) × (at + i < length s)
-    go v vs same value inside rest zero l = (ap (λ (c : List ℕ). getD c 0 0) (sym same) ∙ sym value ∙ ap (λ (j : ℕ). getD s j 0) (sym (add-zero at)), omega arith)
+    go v vs same value inside rest zero l = (
+      ap (λ (c : List ℕ). getD c 0 0) (sym same) ∙ sym value ∙ ap (λ (j : ℕ). getD s j 0) (sym (add-zero at)),
+      omega arith,
+    )
     go v vs same value inside rest (suc i) l =
         let r = rest i (omega arith) in
-        let e : (at + 1) + i ≡ at + suc i = omega arith in
-        (ap (λ (c : List ℕ). getD c (suc i) 0) (sym same) ∙ r .0 ∙ ap (λ (j : ℕ). getD s j 0) e, let m = r .1 in omega arith)
+        let e : (at + 1) + i ≡ at + suc i = omega arith in (
+          ap (λ (c : List ℕ). getD c (suc i) 0) (sym same) ∙ r .0 ∙ ap (λ (j : ℕ). getD s j 0) e,
+          let m = r .1 in omega arith,
+        )
 
 pub record ConsenterBytes (s : List ℕ) (at : ℕ) (cs : List ℕ) : Type 0 where
   pub inside : at < length s
   pub long : length cs ≡ getD s at 0
   pub each : (i : ℕ) → i < getD s at 0 → (getD cs i 0 ≡ getD s ((at + 1) + i) 0) × ((at + 1) + i < length s)
 
-pub consenter-bytes : (d : Dimensions) → Small d → (s : List ℕ) (at : ℕ) (cs : List ℕ) (n : ℕ) → consentersAt d s at ≡ done cs n → ConsenterBytes s at cs
+pub consenter-bytes : (d : Dimensions) → Small d → (s : List ℕ) (at : ℕ) (cs : List ℕ) (n : ℕ)
+    → consentersAt d s at ≡ done cs n → ConsenterBytes s at cs
 unfolding consentersAt
 consenter-bytes d small s at cs n e =
     let b = both (between 0 7 3 s at) (λ k n. runs (risingAt (d .characters)) (λ least v. v + 1) 0 k s n) cs n e in
     let o = between-byte 0 7 3 s at (b .value) (b .place) (omega arith) (b .left) in
     let k = getD s at 0 in
     let run : runs (risingAt (d .characters)) (λ least v. v + 1) 0 k s (at + 1) ≡ done cs n
-    = ap (λ (v : ℕ). runs (risingAt (d .characters)) (λ least v. v + 1) 0 v s (at + 1)) (o .value) ∙ ap (runs (risingAt (d .characters)) (λ least v. v + 1) 0 (b .value) s) (sym (o .next)) ∙ b .right in
+    = ap (λ (v : ℕ). runs (risingAt (d .characters)) (λ least v. v + 1) 0 v s (at + 1)) (o .value)
+    ∙ ap (runs (risingAt (d .characters)) (λ least v. v + 1) 0 (b .value) s) (sym (o .next)) ∙ b .right in
     let r = rising-bytes (d .characters) s k 0 (at + 1) cs n (let q = small .characters in omega arith) run in
     record { inside = o .inside; long = r .0; each = r .1 }
 
@@ -268,5 +314,7 @@ bytes-length s at zero = refl
 bytes-length s at (suc k) = let e = bytes-length s (at + 1) k in omega (arith, e)
 
 -- the chain of a test is as long as its first byte says
-pub chain-length : (d : Dimensions) → Small d → (s : List ℕ) (at : ℕ) (x : Test) (n : ℕ) → testAt d s at ≡ done x n → getD s at 0 ≡ length (x .chain)
-chain-length d small s at x n e = sym (ap length (test-bytes d small s at x n e .chain) ∙ bytes-length s (at + 1) (getD s at 0))
+pub chain-length : (d : Dimensions) → Small d → (s : List ℕ) (at : ℕ) (x : Test) (n : ℕ) → testAt d s at ≡ done x n
+    → getD s at 0 ≡ length (x .chain)
+chain-length d small s at x n e =
+    sym (ap length (test-bytes d small s at x n e .chain) ∙ bytes-length s (at + 1) (getD s at 0))

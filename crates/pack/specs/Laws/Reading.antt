@@ -7,19 +7,23 @@ use lib.Dec.{eqb}
 use borrow.Author.Tests.{eqb-true}
 use Rattle.pack.specs.Reading.{Reading, done, refused, pick, bind, mapped, Reply, gives, refuses, ended}
 
-pub mapped-mapped : {A B C : Type 0} (f : B → C) (g : A → B) (x : Reading A) → mapped f (mapped g x) ≡ mapped (λ a. f (g a)) x
+pub mapped-mapped : {A B C : Type 0} (f : B → C) (g : A → B) (x : Reading A)
+    → mapped f (mapped g x) ≡ mapped (λ a. f (g a)) x
 mapped-mapped f g (done a n) = refl
 mapped-mapped f g (refused k p) = refl
 
-pub mapped-bind : {A B C : Type 0} (f : B → C) (x : Reading A) (h : A → ℕ → Reading B) → mapped f (bind x h) ≡ bind x (λ a n. mapped f (h a n))
+pub mapped-bind : {A B C : Type 0} (f : B → C) (x : Reading A) (h : A → ℕ → Reading B)
+    → mapped f (bind x h) ≡ bind x (λ a n. mapped f (h a n))
 mapped-bind f (done a n) h = refl
 mapped-bind f (refused k p) h = refl
 
-pub bind-mapped : {A B C : Type 0} (g : A → B) (x : Reading A) (h : B → ℕ → Reading C) → bind (mapped g x) h ≡ bind x (λ a n. h (g a) n)
+pub bind-mapped : {A B C : Type 0} (g : A → B) (x : Reading A) (h : B → ℕ → Reading C)
+    → bind (mapped g x) h ≡ bind x (λ a n. h (g a) n)
 bind-mapped g (done a n) h = refl
 bind-mapped g (refused k p) h = refl
 
-pub bind-bind : {A B C : Type 0} (x : Reading A) (f : A → ℕ → Reading B) (h : B → ℕ → Reading C) → bind (bind x f) h ≡ bind x (λ a n. bind (f a n) h)
+pub bind-bind : {A B C : Type 0} (x : Reading A) (f : A → ℕ → Reading B) (h : B → ℕ → Reading C)
+    → bind (bind x f) h ≡ bind x (λ a n. bind (f a n) h)
 bind-bind (done a n) f h = refl
 bind-bind (refused k p) f h = refl
 
@@ -63,11 +67,13 @@ unmapped g (done a m) b n e = record { value = a; left = ap (done a) (same-place
 unmapped g (refused k p) b n e = never e
 
 -- a test that was passed, whose other side is a refusal
-pub passed : {A : Type 0} (b : Bool) (k p : ℕ) (x : Reading A) (a : A) (n : ℕ) → pick b x (refused k p) ≡ done a n → (b ≡ true) × (x ≡ done a n)
+pub passed : {A : Type 0} (b : Bool) (k p : ℕ) (x : Reading A) (a : A) (n : ℕ) → pick b x (refused k p) ≡ done a n
+    → (b ≡ true) × (x ≡ done a n)
 passed true k p x a n e = (refl, e)
 passed false k p x a n e = never e
 
-pub failed : {A : Type 0} (b : Bool) (k p : ℕ) (x : Reading A) (a : A) (n : ℕ) → pick b (refused k p) x ≡ done a n → (b ≡ false) × (x ≡ done a n)
+pub failed : {A : Type 0} (b : Bool) (k p : ℕ) (x : Reading A) (a : A) (n : ℕ) → pick b (refused k p) x ≡ done a n
+    → (b ≡ false) × (x ≡ done a n)
 failed true k p x a n e = never e
 failed false k p x a n e = (refl, e)
 

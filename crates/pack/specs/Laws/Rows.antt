@@ -40,13 +40,21 @@ rows-at bytes w f c a n i h = upto-at (λ i. rowAt bytes f c (a + i * w)) n i no
 
 module _ (t : Table) (buffer : List ℕ) where
   -- a value, and a belief, of a node
-  pub value-at : (i k : ℕ) → i < t .nodes → k < t .fluents → getD (node (tableOf t buffer) i .values) k 0 ≡ getD buffer ((t .rows + i * t .width) + k) 0
+  pub value-at : (i k : ℕ) → i < t .nodes → k < t .fluents
+      → getD (node (tableOf t buffer) i .values) k 0 ≡ getD buffer ((t .rows + i * t .width) + k) 0
   unfolding rowAt
-  value-at i k h g = ap (λ (x : Node). getD (x .values) k 0) (rows-at buffer (t .width) (t .fluents) (t .characters) (t .rows) (t .nodes) i h) ∙ cells-at buffer (t .rows + i * t .width) (t .fluents) k g
+  value-at i k h g =
+      ap (λ (x : Node). getD (x .values) k 0) (rows-at buffer (t .width) (t .fluents) (t .characters) (t .rows)
+      (t .nodes) i h)
+      ∙ cells-at buffer (t .rows + i * t .width) (t .fluents) k g
 
-  pub belief-at : (i k : ℕ) → i < t .nodes → k < t .characters → target (tableOf t buffer) i k ≡ getD buffer (((t .rows + i * t .width) + t .fluents) + k) 0
+  pub belief-at : (i k : ℕ) → i < t .nodes → k < t .characters
+      → target (tableOf t buffer) i k ≡ getD buffer (((t .rows + i * t .width) + t .fluents) + k) 0
   unfolding rowAt
-  belief-at i k h g = ap (λ (x : Node). getD (x .beliefs) k 0) (rows-at buffer (t .width) (t .fluents) (t .characters) (t .rows) (t .nodes) i h) ∙ cells-at buffer ((t .rows + i * t .width) + t .fluents) (t .characters) k g
+  belief-at i k h g =
+      ap (λ (x : Node). getD (x .beliefs) k 0)
+      (rows-at buffer (t .width) (t .fluents) (t .characters) (t .rows) (t .nodes) i h)
+      ∙ cells-at buffer ((t .rows + i * t .width) + t .fluents) (t .characters) k g
 
   module _ (fits : TableFits t buffer) where
     -- each byte of a row is in the buffer
@@ -54,7 +62,8 @@ module _ (t : Table) (buffer : List ℕ) where
     cell-in i k h g = let e : i * t .width + k < t .nodes * t .width = digits-lt h g in omega (arith, fits .inside)
 
     -- each belief is a node
-    pub belief-in-table : (i k : ℕ) → i < t .nodes → k < t .characters → getD buffer (((t .rows + i * t .width) + t .fluents) + k) 0 < t .nodes
+    pub belief-in-table : (i k : ℕ) → i < t .nodes → k < t .characters
+        → getD buffer (((t .rows + i * t .width) + t .fluents) + k) 0 < t .nodes
     belief-in-table i k h g =
         let e = belief-at i k h g in
         let l = rows-length buffer (t .width) (t .fluents) (t .characters) (t .rows) (t .nodes) in
@@ -62,6 +71,8 @@ module _ (t : Table) (buffer : List ℕ) where
         omega arith
 
     -- one step of a walk
-    pub walk-one : (i c : ℕ) (rest : List ℕ) → i < t .nodes → c < t .characters → walk (tableOf t buffer) i (c ∷ rest) ≡ walk (tableOf t buffer) (getD buffer (((t .rows + i * t .width) + t .fluents) + c) 0) rest
+    pub walk-one : (i c : ℕ) (rest : List ℕ) → i < t .nodes → c < t .characters
+        → walk (tableOf t buffer) i (c ∷ rest)
+        ≡ walk (tableOf t buffer) (getD buffer (((t .rows + i * t .width) + t .fluents) + c) 0) rest
     unfolding walk
     walk-one i c rest h g = ap (λ (j : ℕ). walk (tableOf t buffer) j rest) (belief-at i c h g)

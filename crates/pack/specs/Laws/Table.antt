@@ -28,13 +28,15 @@ module _ (C : ℕ) (t : List Node) where
   pub after-walk : (chain : List ℕ) (n : ℕ) → Valid C chain → after (meaning C t n) chain ≡ meaning C t (walk t n chain)
   unfolding after walk Valid
   after-walk [] n v = refl
-  after-walk (c ∷ chain) n v = ap (λ (s : State). after s chain) (belief-in n c (v .0)) ∙ after-walk chain (target t n c) (v .1)
+  after-walk (c ∷ chain) n v =
+      ap (λ (s : State). after s chain) (belief-in n c (v .0)) ∙ after-walk chain (target t n c) (v .1)
 
   -- what a chain finds
   pub finds-walk : (chain : List ℕ) (n : ℕ) → Valid C chain → meaning C t n chain ≡ node t (walk t n chain) .values
   unfolding walk Valid meaning
   finds-walk [] n v = refl
-  finds-walk (c ∷ chain) n v = ap (λ (s : State). s chain) (belief-in n c (v .0)) ∙ finds-walk chain (target t n c) (v .1)
+  finds-walk (c ∷ chain) n v =
+      ap (λ (s : State). s chain) (belief-in n c (v .0)) ∙ finds-walk chain (target t n c) (v .1)
 
   pub walk-inside : Closed C t → (chain : List ℕ) (n : ℕ) → n < length t → Valid C chain → walk t n chain < length t
   unfolding walk Valid
@@ -48,7 +50,8 @@ module _ (C : ℕ) (t : List Node) where
     pub beliefs : (n c : ℕ) → n < length t → c < C → sem (target t n c) ≡ belief (sem n) c
     pub outside : (n c : ℕ) → n < length t → C ≤ c → (chain : List ℕ) → sem n (c ∷ chain) ≡ []
 
-  finds : (sem : ℕ → State) → Matches sem → (n : ℕ) → n < length t → (chain : List ℕ) → meaning C t n chain ≡ sem n chain
+  finds : (sem : ℕ → State) → Matches sem → (n : ℕ) → n < length t → (chain : List ℕ)
+      → meaning C t n chain ≡ sem n chain
   unfolding meaning
   finds sem m n h [] = m .values n h
   finds sem m n h (c ∷ chain) = go (λ lt. finds sem m (target t n c) (m .inside n c h lt) chain) (decLt c C)
@@ -64,14 +67,19 @@ module _ (C : ℕ) (t : List Node) where
   means sem m n h = fun-ext (finds sem m n h)
 
 -- two nodes mean the same exactly when the chains of characters that are there find the same
-pub same-valid : (C : ℕ) (t u : List Node) (n m : ℕ) → (meaning C t n ≡ meaning C u m) ↔ ((chain : List ℕ) → Valid C chain → meaning C t n chain ≡ meaning C u m chain)
+pub same-valid : (C : ℕ) (t u : List Node) (n m : ℕ)
+    → (meaning C t n ≡ meaning C u m) ↔ ((chain : List ℕ) → Valid C chain → meaning C t n chain ≡ meaning C u m chain)
 unfolding Valid meaning
 same-valid C t u n m = (λ e chain v. ap (λ (s : State). s chain) e, λ h. fun-ext (λ chain. go chain n m h))
   where
-    go : (chain : List ℕ) (n m : ℕ) → ((chain : List ℕ) → Valid C chain → meaning C t n chain ≡ meaning C u m chain) → meaning C t n chain ≡ meaning C u m chain
+    go : (chain : List ℕ) (n m : ℕ) → ((chain : List ℕ) → Valid C chain → meaning C t n chain ≡ meaning C u m chain)
+        → meaning C t n chain ≡ meaning C u m chain
     go [] n m h = h [] tt
     go (c ∷ chain) n m h =
         by-cases (decLt c C)
         (λ l. let x = belief-in C t n c l in let y = belief-in C u m c l in
-        ap (λ (s : State). s chain) x ∙ go chain (target t n c) (target u m c) (λ ch v. ap (λ (s : State). s ch) (sym x) ∙ h (c ∷ ch) (l, v) ∙ ap (λ (s : State). s ch) y) ∙ ap (λ (s : State). s chain) (sym y))
+        ap (λ (s : State). s chain) x
+        ∙ go chain (target t n c) (target u m c)
+        (λ ch v. ap (λ (s : State). s ch) (sym x) ∙ h (c ∷ ch) (l, v) ∙ ap (λ (s : State). s ch) y)
+        ∙ ap (λ (s : State). s chain) (sym y))
         (λ x. ap (λ (s : State). s chain) (belief-out C t n c (omega arith) ∙ sym (belief-out C u m c (omega arith))))

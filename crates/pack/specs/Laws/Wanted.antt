@@ -15,7 +15,8 @@ use Rattle.pack.specs.declared.effects.Wanted.{Wanted}
 use Rattle.pack.specs.declared.effects.Wanted.the-variants.{For, Belief, Sets}
 use Rattle.pack.specs.Laws.OneByte.{EffectBytes, effect-bytes}
 
-module _ (s : List ℕ) (at : ℕ) (d : Dimensions) (small : Small d) (x : Effect) (n : ℕ) (e : effectAt d s at ≡ done x n) (w : Wanted) where
+module _ (s : List ℕ) (at : ℕ) (d : Dimensions) (small : Small d) (x : Effect) (n : ℕ) (e : effectAt d s at ≡ done x n)
+    (w : Wanted) where
   bytes : EffectBytes d s at x n
   bytes = effect-bytes d small s at x n e
 

@@ -26,36 +26,56 @@ unfolding cells
 cells-length bytes a k = upto-length (λ i. getD bytes (a + i) 0) k
 
 -- a store into a row is a store into its values
-pub cells-set : (bytes : List ℕ) (row k f v : ℕ) → f < k → row + k ≤ length bytes → cells (set bytes (row + f) v) row k ≡ set (cells bytes row k) f v
-cells-set bytes row k f v h g = ext-getD 0 _ _ (cells-length (set bytes (row + f) v) row k ∙ sym (length-set (cells bytes row k) f v ∙ cells-length bytes row k))
-    (λ i l. let m : i < k = (let q = cells-length (set bytes (row + f) v) row k in omega arith) in cells-at (set bytes (row + f) v) row k i m ∙ at i m)
+pub cells-set : (bytes : List ℕ) (row k f v : ℕ) → f < k → row + k ≤ length bytes
+    → cells (set bytes (row + f) v) row k ≡ set (cells bytes row k) f v
+cells-set bytes row k f v h g =
+    ext-getD 0 _ _
+    (cells-length (set bytes (row + f) v) row k ∙ sym (length-set (cells bytes row k) f v ∙ cells-length bytes row k))
+    (λ i l. let m : i < k = (let q = cells-length (set bytes (row + f) v) row k in omega arith) in
+    cells-at (set bytes (row + f) v) row k i m ∙ at i m)
   where
     at : (i : ℕ) → i < k → getD (set bytes (row + f) v) (row + i) 0 ≡ getD (set (cells bytes row k) f v) i 0
     at i m = by-cases (decLt i f)
-        (λ lt. getD-set-other bytes (row + f) (row + i) v 0 (omega arith) ∙ sym (getD-set-other (cells bytes row k) f i v 0 (omega arith) ∙ cells-at bytes row k i m))
+        (λ lt. getD-set-other bytes (row + f) (row + i) v 0 (omega arith)
+        ∙ sym (getD-set-other (cells bytes row k) f i v 0 (omega arith) ∙ cells-at bytes row k i m))
         (λ ge. by-cases (decLt f i)
-        (λ gt. getD-set-other bytes (row + f) (row + i) v 0 (omega arith) ∙ sym (getD-set-other (cells bytes row k) f i v 0 (omega arith) ∙ cells-at bytes row k i m))
+        (λ gt. getD-set-other bytes (row + f) (row + i) v 0 (omega arith)
+        ∙ sym (getD-set-other (cells bytes row k) f i v 0 (omega arith) ∙ cells-at bytes row k i m))
         (λ le. let e : f ≡ i = omega arith in
         subst (λ (i : ℕ). getD (set bytes (row + f) v) (row + i) 0 ≡ getD (set (cells bytes row k) f v) i 0) e
-        (getD-set-same bytes (row + f) v 0 (omega arith) ∙ sym (getD-set-same (cells bytes row k) f v 0 (let q = cells-length bytes row k in omega arith)))))
+        (getD-set-same bytes (row + f) v 0 (omega arith)
+        ∙ sym (getD-set-same (cells bytes row k) f v 0 (let q = cells-length bytes row k in omega arith)))))
 
 pub only-none : (bytes : List ℕ) (row k : ℕ) → RowOnly bytes bytes row k
 only-none bytes row k = record { long = refl; below = λ p h. refl; above = λ p h. refl }
 
 pub only-set : (bytes : List ℕ) (row k f v : ℕ) → f < k → RowOnly bytes (set bytes (row + f) v) row k
-only-set bytes row k f v h = record { long = length-set bytes (row + f) v; below = λ p l. getD-set-other bytes (row + f) p v 0 (omega arith); above = λ p l. getD-set-other bytes (row + f) p v 0 (omega arith) }
+only-set bytes row k f v h =
+    record {
+      long = length-set bytes (row + f) v;
+      below = λ p l. getD-set-other bytes (row + f) p v 0 (omega arith);
+      above = λ p l. getD-set-other bytes (row + f) p v 0 (omega arith);
+    }
 
 pub only-then : (a b c : List ℕ) (row k : ℕ) → RowOnly a b row k → RowOnly b c row k → RowOnly a c row k
-only-then a b c row k x y = record { long = y .long ∙ x .long; below = λ p l. y .below p l ∙ x .below p l; above = λ p l. y .above p l ∙ x .above p l }
+only-then a b c row k x y =
+    record {
+      long = y .long ∙ x .long;
+      below = λ p l. y .below p l ∙ x .below p l;
+      above = λ p l. y .above p l ∙ x .above p l;
+    }
 
 -- an effect that is meant for whom, and one that is not
 module _ (s : List ℕ) (at whom : ℕ) (bytes : List ℕ) (row k : ℕ) where
-  pub effect-meant : (f v w : ℕ) → getD s at 0 ≡ w → w ≡ whom → getD s (at + 1) 0 ≡ f → getD s (at + 2) 0 ≡ v → f < k → row + k ≤ length bytes → EffectWritten s at whom bytes (set bytes (row + f) v) row k
+  pub effect-meant : (f v w : ℕ) → getD s at 0 ≡ w → w ≡ whom → getD s (at + 1) 0 ≡ f → getD s (at + 2) 0 ≡ v → f < k
+      → row + k ≤ length bytes → EffectWritten s at whom bytes (set bytes (row + f) v) row k
   effect-meant f v w q m ef ev h g = record {
     values = λ d small wide e n r.
         let b = effect-bytes d small s at e n r in
         let meant : e .whom ≡ whom = b .whom ∙ q ∙ m in
-        rw (eq-eqb (e .whom) whom meant) (cells-set bytes row k f v h g ∙ ap (λ (i : ℕ). set (cells bytes row k) i v) (sym (b .fluent ∙ ef)) ∙ ap (set (cells bytes row k) (e .fluent)) (sym (b .value ∙ ev)));
+        rw (eq-eqb (e .whom) whom meant) (cells-set bytes row k f v h g
+        ∙ ap (λ (i : ℕ). set (cells bytes row k) i v) (sym (b .fluent ∙ ef))
+        ∙ ap (set (cells bytes row k) (e .fluent)) (sym (b .value ∙ ev)));
     only = only-set bytes row k f v h;
   }
 
@@ -82,21 +102,38 @@ pub record Due (d : Dimensions) (s : List ℕ) (n left whom : ℕ) (values b : L
   pub more : many (effectAt d) (left - 1) s place ≡ done rest end
   pub same : b ≡ write whom (item ∷ rest) values
 
-pub owed-one : (d : Dimensions) (s : List ℕ) (n left whom : ℕ) (values b : List ℕ) (end : ℕ) → Owed d s n left whom values b end → 0 < left → Due d s n left whom values b end
+pub owed-one : (d : Dimensions) (s : List ℕ) (n left whom : ℕ) (values b : List ℕ) (end : ℕ)
+    → Owed d s n left whom values b end → 0 < left → Due d s n left whom values b end
 unfolding runs
 owed-one d s n zero whom values b end l h = absurd (omega arith)
 owed-one d s n (suc left) whom values b end l h =
     let p = effectAt d in
     let w = both (p s n) (λ a n. mapped (λ rest. a ∷ rest) (many p left s n)) (l .rest) end (l .reads) in
     let u = unmapped (λ rest. w .value ∷ rest) (many p left s (w .place)) (l .rest) end (w .right) in
-    record { item = w .value; place = w .place; rest = u .value; here = w .left; more = ap (λ (k : ℕ). many p k s (w .place)) (sub-one (suc left)) ∙ u .left; same = l .same ∙ ap (λ (r : List Effect). write whom r values) (sym (u .right)) }
+    record {
+      item = w .value;
+      place = w .place;
+      rest = u .value;
+      here = w .left;
+      more = ap (λ (k : ℕ). many p k s (w .place)) (sub-one (suc left)) ∙ u .left;
+      same = l .same ∙ ap (λ (r : List Effect). write whom r values) (sym (u .right));
+    }
 
-pub owed-next : (d : Dimensions) (s : List ℕ) (n left whom : ℕ) (values b : List ℕ) (end : ℕ) (x : Due d s n left whom values b end) (m : ℕ) (now : List ℕ)
-    → x .place ≡ m → now ≡ cond (eqb (x .item .whom) whom) (set values (x .item .fluent) (x .item .value)) values → Owed d s m (left - 1) whom now b end
+pub owed-next : (d : Dimensions) (s : List ℕ) (n left whom : ℕ) (values b : List ℕ) (end : ℕ)
+    (x : Due d s n left whom values b end) (m : ℕ) (now : List ℕ)
+    → x .place ≡ m → now ≡ cond (eqb (x .item .whom) whom) (set values (x .item .fluent) (x .item .value)) values
+    → Owed d s m (left - 1) whom now b end
 unfolding write
-owed-next d s n left whom values b end x m now e g = record { rest = x .rest; reads = ap (many (effectAt d) (left - 1) s) (sym e) ∙ x .more; same = x .same ∙ ap (write whom (x .rest)) (sym g) }
+owed-next d s n left whom values b end x m now e g =
+    record {
+      rest = x .rest;
+      reads = ap (many (effectAt d) (left - 1) s) (sym e) ∙ x .more;
+      same = x .same ∙ ap (write whom (x .rest)) (sym g);
+    }
 
-pub owed-none : (d : Dimensions) (s : List ℕ) (n left whom : ℕ) (values b : List ℕ) (end : ℕ) → Owed d s n left whom values b end → left ≤ 0 → b ≡ values
+pub owed-none : (d : Dimensions) (s : List ℕ) (n left whom : ℕ) (values b : List ℕ) (end : ℕ)
+    → Owed d s n left whom values b end → left ≤ 0 → b ≡ values
 unfolding runs write
-owed-none d s n zero whom values b end l h = l .same ∙ ap (λ (r : List Effect). write whom r values) (sym (same-value (l .reads)))
+owed-none d s n zero whom values b end l h =
+    l .same ∙ ap (λ (r : List Effect). write whom r values) (sym (same-value (l .reads)))
 owed-none d s n (suc left) whom values b end l h = absurd (omega arith)

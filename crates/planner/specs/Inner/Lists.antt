@@ -1,4 +1,5 @@
--- Lists of actions that are looked for, a character's and the author's, and the slots that states stand in. Assumes nothing.
+-- Lists of actions that are looked for, a character's and the author's, and the slots that states stand in. Assumes
+-- nothing.
 use mathlib.Core.Path.{_≡_}
 use mathlib.Core.List.{List, _∷_}
 use Prim.Native.Nat.{ℕ, _+_, _<_}
@@ -13,7 +14,14 @@ use Rattle.planner.specs.Laws.Explaining as explaining
 
 -- a table of n rows in a slot
 abbrev pub counted : Shape → (slot n : ℕ) → Table
-counted h slot n = record { rows = slot + 1; nodes = n; fluents = h .fluents; characters = h .characters; width = h .fluents + h .characters }
+counted h slot n =
+    record {
+      rows = slot + 1;
+      nodes = n;
+      fluents = h .fluents;
+      characters = h .characters;
+      width = h .fluents + h .characters;
+    }
 
 -- the table in a slot
 abbrev pub slotTable : Shape → List ℕ → ℕ → Table
@@ -29,7 +37,9 @@ Above p K e c base n s = explaining.Near p (Other c) (Explained p K e) (λ s′.
 
 -- action x first
 abbrev pub AboveBy : (p : Theory) (foresight nesting c base n x : ℕ) → State → Type 0
-AboveBy p K e c base n x s = explaining.Reaches p (Other c) (Explained p K e) s x (λ t. explaining.Near p (Other c) (Explained p K e) (λ s′. base < utilityTo p c s′) n t)
+AboveBy p K e c base n x s =
+    explaining.Reaches p (Other c) (Explained p K e) s x
+    (λ t. explaining.Near p (Other c) (Explained p K e) (λ s′. base < utilityTo p c s′) n t)
 
 -- some action first
 abbrev pub AboveBySome : (p : Theory) (foresight nesting c base n : ℕ) → State → Type 0
@@ -49,4 +59,5 @@ Ends p K e base s list r = explaining.Led p All (Explained p K e) (λ s′. (aut
 
 -- action x first
 abbrev pub EndsBy : (p : Theory) (foresight nesting base x : ℕ) → State → List ℕ → ℕ → Type 0
-EndsBy p K e base x s list r = (rest : List ℕ) × (list ≡ x ∷ rest) × explaining.Reaches p All (Explained p K e) s x (λ t. Ends p K e base t rest r)
+EndsBy p K e base x s list r =
+    (rest : List ℕ) × (list ≡ x ∷ rest) × explaining.Reaches p All (Explained p K e) s x (λ t. Ends p K e base t rest r)

@@ -47,16 +47,20 @@ pub record Looking (p : Theory) (pack places : List ℕ) (triggers a : ℕ) (wor
   pub some : 0 < t .nodes
 
 -- a part of the pack is read at a place
-pub record Lookable {A : Type 0} (part : Dimensions → Reader A) (pack places : List ℕ) (triggers a at : ℕ) (work : List ℕ) (t : Table) : Type 0 where
+pub record Lookable {A : Type 0} (part : Dimensions → Reader A) (pack places : List ℕ) (triggers a at : ℕ)
+    (work : List ℕ) (t : Table) : Type 0 where
   pub theory : Theory
   pub looking : Looking theory pack places triggers a work t
   pub value : A
   pub stands : Gives (part (dimensions theory)) pack at value
 
 -- the flag r says of it what `could` says, where what is moved is open
-abbrev pub Looked : {A : Type 0} (part : Dimensions → Reader A) (could : (ℕ → Bool) → State → A → Bool) (pack places : List ℕ) (triggers a at : ℕ) (work : List ℕ) (t : Table) (r : Bool) → Type 0
+abbrev pub Looked : {A : Type 0} (part : Dimensions → Reader A) (could : (ℕ → Bool) → State → A → Bool)
+    (pack places : List ℕ) (triggers a at : ℕ) (work : List ℕ) (t : Table) (r : Bool)
+    → Type 0
 Looked part could pack places triggers a at work t r =
-    (p : Theory) → Looking p pack places triggers a work t → (value : _) → Gives (part (dimensions p)) pack at value → r ≡ could (movedBy p a) (stateOf t work 0) value
+    (p : Theory) → Looking p pack places triggers a work t → (value : _) → Gives (part (dimensions p)) pack at value
+    → r ≡ could (movedBy p a) (stateOf t work 0) value
 
 -- whose utility it is: the author's is the first, then each character's
 pub record Tryable (pack places : List ℕ) (triggers a : ℕ) (work : List ℕ) (t : Table) (whose : ℕ) : Type 0 where
@@ -67,7 +71,8 @@ pub record Tryable (pack places : List ℕ) (triggers a : ℕ) (work : List ℕ)
 -- if the action plays at all, it is the last one and leaves no utility above base
 abbrev pub Hopeless : (pack places : List ℕ) (triggers a : ℕ) (work : List ℕ) (t : Table) (whose left base : ℕ) → Type 0
 Hopeless pack places triggers a work t whose left base =
-    (p : Theory) → Looking p pack places triggers a work t → (s : State) → Plays p (stateOf t work 0) a s → (left ≡ 0) × (utility s (getD (p .utilities) whose []) ≤ base)
+    (p : Theory) → Looking p pack places triggers a work t → (s : State) → Plays p (stateOf t work 0) a s
+    → (left ≡ 0) × (utility s (getD (p .utilities) whose []) ≤ base)
 
 -- every action may be tried in the state in a slot
 pub record Trying (pack places : List ℕ) (h : Shape) (work : List ℕ) (slot whose : ℕ) : Type 0 where
@@ -80,4 +85,5 @@ pub record Trying (pack places : List ℕ) (h : Shape) (work : List ℕ) (slot w
 pub record Skipped (pack places : List ℕ) (h : Shape) (work : List ℕ) (slot whose left base x r : ℕ) : Type 0 where
   pub from : x ≤ r
   pub few : r ≤ h .actions
-  pub hopeless : (a : ℕ) → x ≤ a → a < r → Hopeless pack places (h .triggers) a work (slotTable h work slot) whose left base
+  pub hopeless : (a : ℕ) → x ≤ a → a < r
+      → Hopeless pack places (h .triggers) a work (slotTable h work slot) whose left base

@@ -1,5 +1,5 @@
--- What is known of states, behind a step's scratch: tables that are kept, each under a number that is its name, and what is known of steps and lists by these names. Every entry is true, whatever it is
--- replaced by. Assumes nothing.
+-- What is known of states, behind a step's scratch: tables that are kept, each under a number that is its name, and
+-- what is known of steps and lists by these names. Every entry is true, whatever it is replaced by. Assumes nothing.
 use mathlib.Core.Path.{_≡_}
 use mathlib.Core.Logic.{_≢_}
 use mathlib.Core.List.{List}
@@ -18,7 +18,8 @@ use Rattle.planner.specs.Ending.{Explained}
 use Rattle.planner.specs.Inner.Lists.{slotTable, Above, Ends}
 use Rattle.transition.specs.Contracts.Stage.{slotRoom, scratchAt}
 
--- where it begins, with the name of the table in each slot; how many blocks of 12 bytes are taken; behind that are names found by a hash, of which nothing is asked; then steps, lists and tables
+-- where it begins, with the name of the table in each slot; how many blocks of 12 bytes are taken; behind that are
+-- names found by a hash, of which nothing is asked; then steps, lists and tables
 abbrev pub memoryAt : ℕ
 memoryAt = 43470
 
@@ -45,7 +46,8 @@ keptTable h work n = slotTable h work (keptAt n)
 pub record Kept (h : Shape) (work : List ℕ) (n : ℕ) : Type 0 where
   pub some : 0 < n
   pub few : getD work (keptAt n) 0 ≤ 32
-  pub inside : keptAt n + 1 + getD work (keptAt n) 0 * (h .fluents + h .characters) ≤ tablesAt + 12 * getD work takenAt 0
+  pub inside : keptAt n + 1 + getD work (keptAt n) 0 * (h .fluents + h .characters)
+      ≤ tablesAt + 12 * getD work takenAt 0
 
 -- n is the name of a table
 pub record Named (h : Shape) (work : List ℕ) (t : Table) (n : ℕ) : Type 0 where
@@ -57,30 +59,48 @@ pub record Named (h : Shape) (work : List ℕ) (t : Table) (n : ℕ) : Type 0 wh
 pub record StepFact (p : Theory) (h : Shape) (work : List ℕ) (n root a next : ℕ) : Type 0 where
   pub kept : Kept h work n
   pub none : next ≡ 0 → (s : State) → Plays p (table.stateOf (keptTable h work n) work root) a s → ⊥
-  pub left : 0 < next → Kept h work next × ((s : State) × Plays p (table.stateOf (keptTable h work n) work root) a s × Starts (h .characters) s (table.tableOf (keptTable h work next) work))
+  pub left : 0 < next
+      → Kept h work next
+      × ((s : State) × Plays p (table.stateOf (keptTable h work n) work root) a s
+      × Starts (h .characters) s (table.tableOf (keptTable h work next) work))
 
--- what a mark says of the state that the first row of a table means: of a character's lists 1 that there is none and 2 that there is one, of the author's 3 that there is none of exactly so many actions;
--- and of the state of row `base`, whether the action `left` is explained to the character, 4 no and 5 yes
+-- what a mark says of the state that the first row of a table means: of a character's lists 1 that there is none and 2
+-- that there is one, of the author's 3 that there is none of exactly so many actions; and of the state of row `base`,
+-- whether the action `left` is explained to the character, 4 no and 5 yes
 pub record Fact (p : Theory) (foresight mark : ℕ) (k : Key) (s : ℕ → State) : Type 0 where
   pub no : mark ≡ 1 → Above p foresight (k .nesting) (k .who) (k .base) (suc (k .left)) (s 0) → ⊥
   pub yes : mark ≡ 2 → Above p foresight (k .nesting) (k .who) (k .base) (suc (k .left)) (s 0)
-  pub none : mark ≡ 3 → (list : List ℕ) (v : ℕ) → length list ≡ k .left → Ends p foresight (k .nesting) (k .base) (s 0) list v → ⊥
+  pub none : mark ≡ 3 → (list : List ℕ) (v : ℕ) → length list ≡ k .left
+      → Ends p foresight (k .nesting) (k .base) (s 0) list v → ⊥
   pub unexplained : mark ≡ 4 → Explained p foresight (k .nesting) (k .who) (k .left) (s (k .base)) → ⊥
   pub explained : mark ≡ 5 → Explained p foresight (k .nesting) (k .who) (k .left) (s (k .base))
 
 -- a byte for the mark and five for the key
 abbrev pub keyAt : List ℕ → ℕ → Key
-keyAt work a = record { who = getD work (a + 1) 0; nesting = getD work (a + 2) 0; left = getD work (a + 3) 0; base = getD work (a + 4) 0 + 256 * getD work (a + 5) 0 }
+keyAt work a =
+    record {
+      who = getD work (a + 1) 0;
+      nesting = getD work (a + 2) 0;
+      left = getD work (a + 3) 0;
+      base = getD work (a + 4) 0 + 256 * getD work (a + 5) 0;
+    }
 
 -- entries, each empty or true: the name of the table in slot i, a step at a, a fact at a with its name behind it
 abbrev pub SlotEntry : (h : Shape) (work : List ℕ) (i : ℕ) → Type 0
-SlotEntry h work i = 0 < getD work (memoryAt + i) 0 → Named h work (slotTable h work (slotRoom * i)) (getD work (memoryAt + i) 0)
+SlotEntry h work i =
+    0 < getD work (memoryAt + i) 0 → Named h work (slotTable h work (slotRoom * i)) (getD work (memoryAt + i) 0)
 
 abbrev pub StepEntry : (p : Theory) (h : Shape) (work : List ℕ) (a : ℕ) → Type 0
-StepEntry p h work a = 0 < getD work a 0 → StepFact p h work (getD work a 0) (getD work (a + 1) 0) (getD work (a + 2) 0) (getD work (a + 3) 0)
+StepEntry p h work a =
+    0 < getD work a 0
+    → StepFact p h work (getD work a 0) (getD work (a + 1) 0) (getD work (a + 2) 0) (getD work (a + 3) 0)
 
 abbrev pub FactEntry : (p : Theory) (foresight : ℕ) (h : Shape) (work : List ℕ) (a : ℕ) → Type 0
-FactEntry p foresight h work a = 0 < getD work (a + 6) 0 → Kept h work (getD work (a + 6) 0) × Fact p foresight (getD work a 0) (keyAt work a) (λ root. table.stateOf (keptTable h work (getD work (a + 6) 0)) work root)
+FactEntry p foresight h work a =
+    0 < getD work (a + 6) 0
+    → Kept h work (getD work (a + 6) 0)
+    × Fact p foresight (getD work a 0) (keyAt work a)
+    (λ root. table.stateOf (keptTable h work (getD work (a + 6) 0)) work root)
 
 -- all are true; of slots, those before a place
 pub record Memory (p : Theory) (foresight : ℕ) (h : Shape) (limit : ℕ) (work : List ℕ) : Type 0 where
@@ -122,13 +142,15 @@ pub record Stored (h : Shape) (t : Table) (was now : List ℕ) (r : ℕ) : Type 
   pub small : r < 256
   pub named : 0 < r → Named h now t r
   pub only : Only was now
-  pub memory : (p : Theory) (foresight limit : ℕ) → limit ≤ memoryAt → Memory p foresight h limit was → Memory p foresight h limit now
+  pub memory : (p : Theory) (foresight limit : ℕ) → limit ≤ memoryAt → Memory p foresight h limit was
+      → Memory p foresight h limit now
 
 -- the same of a table in a slot, where what is known is true
 pub record Naming (h : Shape) (t : Table) (was now : List ℕ) (r : ℕ) : Type 0 where
   pub small : r < 256
   pub only : Only was now
-  pub told : (p : Theory) (foresight limit : ℕ) → limit ≤ memoryAt → InSlot was t limit → Memory p foresight h limit was → Memory p foresight h limit now × (0 < r → Named h now t r)
+  pub told : (p : Theory) (foresight limit : ℕ) → limit ≤ memoryAt → InSlot was t limit → Memory p foresight h limit was
+      → Memory p foresight h limit now × (0 < r → Named h now t r)
 
 -- a name is one, and each number of the key fits a byte or two
 pub record Storable (name : ℕ) (k : Key) : Type 0 where
@@ -148,12 +170,15 @@ pub record KeyPut (was now : List ℕ) (a mark : ℕ) (k : Key) : Type 0 where
 -- what the mark r says of the state is true where what is known is
 pub record Recalled (h : Shape) (t : Table) (k : Key) (was now : List ℕ) (r : ℕ) : Type 0 where
   pub only : Only was now
-  pub told : (p : Theory) (foresight limit : ℕ) → limit ≤ memoryAt → InSlot was t limit → Memory p foresight h limit was → Memory p foresight h limit now × Fact p foresight r k (λ root. table.stateOf t was root)
+  pub told : (p : Theory) (foresight limit : ℕ) → limit ≤ memoryAt → InSlot was t limit → Memory p foresight h limit was
+      → Memory p foresight h limit now × Fact p foresight r k (λ root. table.stateOf t was root)
 
 -- what is put down is true where what it says is
 pub record Remembered (h : Shape) (t : Table) (mark : ℕ) (k : Key) (was now : List ℕ) : Type 0 where
   pub only : Only was now
-  pub memory : (p : Theory) (foresight limit : ℕ) → limit ≤ memoryAt → InSlot was t limit → Memory p foresight h limit was → Fact p foresight mark k (λ root. table.stateOf t was root) → Memory p foresight h limit now
+  pub memory : (p : Theory) (foresight limit : ℕ) → limit ≤ memoryAt → InSlot was t limit
+      → Memory p foresight h limit was → Fact p foresight mark k (λ root. table.stateOf t was root)
+      → Memory p foresight h limit now
 
 -- an entry of a step
 pub record StepRead (work : List ℕ) (a name root action : ℕ) : Type 0 where
@@ -174,7 +199,9 @@ pub record StepPut (was now : List ℕ) (a name root action next : ℕ) : Type 0
 -- true where what it says is, of every name of the table
 pub record Noted (h : Shape) (t : Table) (root action next : ℕ) (was now : List ℕ) : Type 0 where
   pub only : Only was now
-  pub memory : (p : Theory) (foresight limit : ℕ) → limit ≤ memoryAt → InSlot was t limit → Memory p foresight h limit was → ((n : ℕ) → Named h was t n → StepFact p h was n root action next) → Memory p foresight h limit now
+  pub memory : (p : Theory) (foresight limit : ℕ) → limit ≤ memoryAt → InSlot was t limit
+      → Memory p foresight h limit was → ((n : ℕ) → Named h was t n → StepFact p h was n root action next)
+      → Memory p foresight h limit now
 
 -- a slot, before the scratch of a step
 pub record Slot (h : Shape) (work : List ℕ) (slot : ℕ) : Type 0 where
@@ -187,12 +214,18 @@ pub record Slot (h : Shape) (work : List ℕ) (slot : ℕ) : Type 0 where
 -- the table of a name stands in it, as after a step that plays
 pub record Again (h : Shape) (next slot : ℕ) (was now : List ℕ) (r : ℕ) : Type 0 where
   pub refused : r ≢ 0 → next ≡ 0
-  pub played : r ≡ 0 → (0 < next) × (table.tableOf (slotTable h now slot) now ≡ table.tableOf (keptTable h was next) was) × (getD now slot 0 ≤ 32)
+  pub played : r ≡ 0
+      → (0 < next) × (table.tableOf (slotTable h now slot) now ≡ table.tableOf (keptTable h was next) was)
+      × (getD now slot 0 ≤ 32)
   pub low : table.Below was now slot
   pub high : table.Above was now workRoom
-  pub memory : (p : Theory) (foresight : ℕ) → Memory p foresight h slot was → Memory p foresight h slot now × (r ≡ 0 → Memory p foresight h (slot + slotRoom) now)
+  pub memory : (p : Theory) (foresight : ℕ) → Memory p foresight h slot was
+      → Memory p foresight h slot now × (r ≡ 0 → Memory p foresight h (slot + slotRoom) now)
 
 -- what a step has left in it is known
 pub record LeftNoted (h : Shape) (t : Table) (root a slot : ℕ) (was now : List ℕ) : Type 0 where
   pub only : Only was now
-  pub memory : (p : Theory) (foresight : ℕ) → InSlot was t slot → Memory p foresight h slot was → ((s : State) × Plays p (table.stateOf t was root) a s × Starts (h .characters) s (table.tableOf (slotTable h was slot) was)) → Memory p foresight h (slot + slotRoom) now
+  pub memory : (p : Theory) (foresight : ℕ) → InSlot was t slot → Memory p foresight h slot was
+      → ((s : State) × Plays p (table.stateOf t was root) a s
+      × Starts (h .characters) s (table.tableOf (slotTable h was slot) was))
+      → Memory p foresight h (slot + slotRoom) now

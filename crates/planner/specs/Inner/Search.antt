@@ -36,9 +36,11 @@ pub record Chosen (Good : List ℕ → ℕ → Type 0) (n : ℕ) (list : List �
   pub good : Good list r
   pub earliest : (other : List ℕ) (v : ℕ) → length other ≡ n → Good other v → ¬ Before other list
 
--- the earliest of the good lists of n actions is put down, and the utility at its end is r; or r is 0, there is none, and nothing is put down. Bytes of the work buffer
--- before the free slots, and behind the memory, are as they were, and of what is in the memory M holds
-pub record Best (M : List ℕ → Type 0) (Good : List ℕ → ℕ → Type 0) (n : ℕ) (was now : List ℕ) (done : ℕ) (slot : ℕ) (work work′ : List ℕ) (r : ℕ) : Type 0 where
+-- the earliest of the good lists of n actions is put down, and the utility at its end is r; or r is 0, there is none,
+-- and nothing is put down. Bytes of the work buffer before the free slots, and behind the memory, are as they were, and
+-- of what is in the memory M holds
+pub record Best (M : List ℕ → Type 0) (Good : List ℕ → ℕ → Type 0) (n : ℕ) (was now : List ℕ) (done : ℕ) (slot : ℕ)
+    (work work′ : List ℕ) (r : ℕ) : Type 0 where
   pub none : r ≡ 0 → (now ≡ was) × ((list : List ℕ) (v : ℕ) → length list ≡ n → ¬ Good list v)
   pub some : 0 < r → (list : List ℕ) × Chosen Good n list r × Put was now done list
   pub low : Below work work′ slot
@@ -53,43 +55,61 @@ Dry Good n = (list : List ℕ) (v : ℕ) → length list < n → ¬ Good list v
 abbrev pub OnPath : (h : Shape) (work : List ℕ) (n : ℕ) → Type 0
 OnPath h work n = (i : ℕ) → i ≤ n → Written (h .characters) (tableOf (slotTable h work (i * slotRoom)) work)
 
--- the author's path: n states in the slots before s; from each of them, and from s, no list of fewer actions than are left to it is good;
--- in each slot stands the written chart of its state, so that two are one exactly where no chain tells them apart
-pub record Trail (p : Theory) (foresight nesting base : ℕ) (h : Shape) (work : List ℕ) (n left : ℕ) (s : State) : Type 0 where
-  pub before : (i : ℕ) → i < n → Dry (Ends p foresight nesting base (stateOf (slotTable h work (i * slotRoom)) work 0)) (left + (n - i))
+-- the author's path: n states in the slots before s; from each of them, and from s, no list of fewer actions than are
+-- left to it is good; in each slot stands the written chart of its state, so that two are one exactly where no chain
+-- tells them apart
+pub record Trail (p : Theory) (foresight nesting base : ℕ) (h : Shape) (work : List ℕ) (n left : ℕ)
+    (s : State) : Type 0 where
+  pub before : (i : ℕ) → i < n
+      → Dry (Ends p foresight nesting base (stateOf (slotTable h work (i * slotRoom)) work 0)) (left + (n - i))
   pub here : Dry (Ends p foresight nesting base s) left
   pub written : OnPath h work n
   pub small : (i : ℕ) → i ≤ n → 1 + getD work (i * slotRoom) 0 * (h .fluents + h .characters) ≤ slotRoom
 
 -- a stage, a memory and a path
-abbrev pub Underway : (foresight nesting base : ℕ) (pack places : List ℕ) (h : Shape) (work : List ℕ) (slot n left : ℕ) → Type 0
+abbrev pub Underway : (foresight nesting base : ℕ) (pack places : List ℕ) (h : Shape) (work : List ℕ) (slot n left : ℕ)
+    → Type 0
 Underway K e base pack places h work slot n left =
-    (p : Theory) × ((T : List Node) × (Stage p T pack places h work (slotTable h work slot) (slot + slotRoom) × Memory p K h (slot + slotRoom) work × Trail p K e base h work n left (meaning (h .characters) T 0)))
+    (p : Theory) × ((T : List Node)
+    × (Stage p T pack places h work (slotTable h work slot) (slot + slotRoom) × Memory p K h (slot + slotRoom) work
+    × Trail p K e base h work n left (meaning (h .characters) T 0)))
 
--- asked of the state in a slot, the last of the path, where what is known is true: r is the utility at the end of the earliest good list of `left` actions, which is put down
-abbrev pub Finds : (foresight nesting base : ℕ) (pack places : List ℕ) (h : Shape) (slot n left : ℕ) (was now work work′ : List ℕ) (r : ℕ) (Good : Theory → State → List ℕ → ℕ → Type 0) → Type 0
+-- asked of the state in a slot, the last of the path, where what is known is true: r is the utility at the end of the
+-- earliest good list of `left` actions, which is put down
+abbrev pub Finds : (foresight nesting base : ℕ) (pack places : List ℕ) (h : Shape) (slot n left : ℕ)
+    (was now work work′ : List ℕ) (r : ℕ) (Good : Theory → State → List ℕ → ℕ → Type 0)
+    → Type 0
 Finds K e base pack places h slot n left was now work work′ r Good =
-    (th : Theory) (T : List Node) → Stage th T pack places h work (slotTable h work slot) (slot + slotRoom) → Memory th K h (slot + slotRoom) work
+    (th : Theory) (T : List Node) → Stage th T pack places h work (slotTable h work slot) (slot + slotRoom)
+    → Memory th K h (slot + slotRoom) work
     → Trail th K e base h work n left (meaning (h .characters) T 0)
-    → Best (Memory th K h (slot + slotRoom)) (Good th (meaning (h .characters) T 0)) left was now n (slot + slotRoom) work work′ r
+    → Best (Memory th K h (slot + slotRoom)) (Good th (meaning (h .characters) T 0)) left was now n
+    (slot + slotRoom) work work′ r
 
 -- the author's utility in the state in a slot where it is above base, or 0
 abbrev pub EndsHere : (base : ℕ) (pack places : List ℕ) (h : Shape) (slot : ℕ) (work : List ℕ) (r : ℕ) → Type 0
 EndsHere base pack places h slot work r =
     (th : Theory) (T : List Node) → Stage th T pack places h work (slotTable h work slot) (slot + slotRoom)
-    → (base < authorUtility th (meaning (h .characters) T 0) → r ≡ authorUtility th (meaning (h .characters) T 0)) × (authorUtility th (meaning (h .characters) T 0) ≤ base → r ≡ 0)
+    → (base < authorUtility th (meaning (h .characters) T 0) → r ≡ authorUtility th (meaning (h .characters) T 0))
+    × (authorUtility th (meaning (h .characters) T 0) ≤ base → r ≡ 0)
 
 -- a stage with a written chart and a memory, and the author's utility there is at most base
 abbrev pub Outset : (foresight base : ℕ) (pack places : List ℕ) (h : Shape) (work : List ℕ) → Type 0
-Outset K base pack places h work = (p : Theory) × ((T : List Node) × (Stage p T pack places h work (slotTable h work 0) slotRoom × Memory p K h slotRoom work × Written (h .characters) T × (authorUtility p (meaning (h .characters) T 0) ≤ base)))
+Outset K base pack places h work =
+    (p : Theory) × ((T : List Node)
+    × (Stage p T pack places h work (slotTable h work 0) slotRoom × Memory p K h slotRoom work
+    × Written (h .characters) T × (authorUtility p (meaning (h .characters) T 0) ≤ base)))
 
 -- the state in a slot is one of those before it
 abbrev pub Repeated : (h : Shape) (work : List ℕ) (slot n : ℕ) → Type 0
-Repeated h work slot n = (i : ℕ) × (i < n) × (stateOf (slotTable h work (i * slotRoom)) work 0 ≡ stateOf (slotTable h work slot) work 0)
+Repeated h work slot n =
+    (i : ℕ) × (i < n) × (stateOf (slotTable h work (i * slotRoom)) work 0 ≡ stateOf (slotTable h work slot) work 0)
 
--- the shortest of the good lists of 1 to T actions, and of those the earliest, is put down; or its length is 0, there is none, and nothing is put down
+-- the shortest of the good lists of 1 to T actions, and of those the earliest, is put down; or its length is 0, there
+-- is none, and nothing is put down
 pub record Shortest (Good : List ℕ → ℕ → Type 0) (story : ℕ) (was now work work′ : List ℕ) (r : Ended) : Type 0 where
-  pub none : r .count ≡ 0 → (now ≡ was) × ((list : List ℕ) (v : ℕ) → 0 < length list → length list ≤ story → ¬ Good list v)
+  pub none : r .count ≡ 0
+      → (now ≡ was) × ((list : List ℕ) (v : ℕ) → 0 < length list → length list ≤ story → ¬ Good list v)
   pub some : 0 < r .count → (list : List ℕ) × Chosen Good (r .count) list (r .after) × Put was now 0 list
   pub within : r .count ≤ story
   pub shortest : (other : List ℕ) (v : ℕ) → 0 < length other → length other < r .count → ¬ Good other v
@@ -97,10 +117,14 @@ pub record Shortest (Good : List ℕ → ℕ → Type 0) (story : ℕ) (was now 
   pub high : Above work work′ workRoom
 
 -- of the state in the first slot
-abbrev pub ShortestFrom : (story foresight nesting base : ℕ) (pack places : List ℕ) (h : Shape) (was now work work′ : List ℕ) (r : Ended) → Type 0
+abbrev pub ShortestFrom : (story foresight nesting base : ℕ) (pack places : List ℕ) (h : Shape)
+    (was now work work′ : List ℕ) (r : Ended)
+    → Type 0
 ShortestFrom T K e base pack places h was now work work′ r =
-    (th : Theory) (table : List Node) → Stage th table pack places h work (slotTable h work 0) slotRoom → Memory th K h slotRoom work → Written (h .characters) table
-    → authorUtility th (meaning (h .characters) table 0) ≤ base → Shortest (Ends th K e base (meaning (h .characters) table 0)) T was now work work′ r
+    (th : Theory) (table : List Node) → Stage th table pack places h work (slotTable h work 0) slotRoom
+    → Memory th K h slotRoom work → Written (h .characters) table
+    → authorUtility th (meaning (h .characters) table 0) ≤ base
+    → Shortest (Ends th K e base (meaning (h .characters) table 0)) T was now work work′ r
 
 -- the nodes that are read from a place on, and room
 pub record Laying (T : List Node) (pack : List ℕ) (first nodes : ℕ) (h : Shape) (work : List ℕ) : Type 0 where
@@ -119,7 +143,8 @@ pub record LaidStart (T : List Node) (h : Shape) (was now : List ℕ) : Type 0 w
   pub high : Above was now workRoom
 
 -- what the search from a pack's nodes is lent: a theory, found in the pack, its nodes, and room
-pub record Seeking (th : Theory) (T : List Node) (pack places : List ℕ) (h : Shape) (first nodes story foresight nesting : ℕ) (list work : List ℕ) : Type 0 where
+pub record Seeking (th : Theory) (T : List Node) (pack places : List ℕ) (h : Shape)
+    (first nodes story foresight nesting : ℕ) (list work : List ℕ) : Type 0 where
   pub theorized : Theorized th pack places (h .actions) (h .triggers)
   pub end : ℕ
   pub read : NodesFrom pack first end nodes (h .fluents) (h .characters) T
@@ -131,11 +156,14 @@ pub record Seeking (th : Theory) (T : List Node) (pack places : List ℕ) (h : S
   pub list-room : listRoom ≤ length list
   pub room : workRoom ≤ length work
 
-abbrev pub Seekable : (pack places : List ℕ) (h : Shape) (first nodes story foresight nesting : ℕ) (list work : List ℕ) → Type 0
-Seekable pack places h first nodes story foresight nesting list work = (th : Theory) × ((T : List Node) × Seeking th T pack places h first nodes story foresight nesting list work)
+abbrev pub Seekable : (pack places : List ℕ) (h : Shape) (first nodes story foresight nesting : ℕ) (list work : List ℕ)
+    → Type 0
+Seekable pack places h first nodes story foresight nesting list work =
+    (th : Theory) × ((T : List Node) × Seeking th T pack places h first nodes story foresight nesting list work)
 
 -- the answer that is true of the state is given, its list put down, and the work buffer cleared
-pub record SearchPut (th : Theory) (story foresight nesting : ℕ) (s : State) (list list′ work work′ : List ℕ) (r : Found) : Type 0 where
+pub record SearchPut (th : Theory) (story foresight nesting : ℕ) (s : State) (list list′ work work′ : List ℕ)
+    (r : Found) : Type 0 where
   pub answer : Answer
   pub is-so : Searched th story foresight nesting s answer
   pub said : searchSaid r ≡ told summary (answerReply answer)
@@ -143,7 +171,9 @@ pub record SearchPut (th : Theory) (story foresight nesting : ℕ) (s : State) (
   pub scratch : work′ ≡ cleared work
 
 -- the same, from what node 0 means of the nodes that are read from a place on
-abbrev pub SearchPutFrom : (pack places : List ℕ) (h : Shape) (first nodes story foresight nesting : ℕ) (list list′ work work′ : List ℕ) (r : Found) → Type 0
+abbrev pub SearchPutFrom : (pack places : List ℕ) (h : Shape) (first nodes story foresight nesting : ℕ)
+    (list list′ work work′ : List ℕ) (r : Found)
+    → Type 0
 SearchPutFrom pack places h first nodes story foresight nesting list list′ work work′ r =
     (th : Theory) (T : List Node) → Seeking th T pack places h first nodes story foresight nesting list work
     → SearchPut th story foresight nesting (meaning (h .characters) T 0) list list′ work work′ r

@@ -35,17 +35,22 @@ leaves-inj {t} {u} e = leaves-only (leaves t) u e
 
 -- a list is playable exactly where Step after Step gives a chart, and then that of the state it leaves
 pub played-iff : (p : Theory) (list : List ℕ) (t : List Node) → IsTable (p .characters) t → (u : List Node)
-    → (playTable p t list ≡ leaves u) ↔ (Written (p .characters) u × Playable p (meaning (p .characters) t 0) list (meaning (p .characters) u 0))
+    → (playTable p t list ≡ leaves u)
+    ↔ (Written (p .characters) u × Playable p (meaning (p .characters) t 0) list (meaning (p .characters) u 0))
 unfolding Leads playTable then IsLeaves
 played-iff p [] t r u = (
   λ e. let (w, x) = start-table-iff (p .characters) t r u .1 (leaves-inj e) in (w, sym x),
   λ x. ap leaves (start-table-iff (p .characters) t r u .0 (x .0, sym (x .1))),
 )
-played-iff p (a ∷ list) t r u = (λ e. there (played-iff p list) (stepTable p t a) refl e, λ x. back (played-iff p list) (stepTable p t a) (step-table-iff p t r a (stepTable p t a) .1 refl) x)
+played-iff p (a ∷ list) t r u = (
+  λ e. there (played-iff p list) (stepTable p t a) refl e,
+  λ x. back (played-iff p list) (stepTable p t a) (step-table-iff p t r a (stepTable p t a) .1 refl) x,
+)
   where
     Rest : Type 0
     Rest = (t : List Node) → IsTable (p .characters) t → (u : List Node)
-        → (playTable p t list ≡ leaves u) ↔ (Written (p .characters) u × Playable p (meaning (p .characters) t 0) list (meaning (p .characters) u 0))
+        → (playTable p t list ≡ leaves u)
+        ↔ (Written (p .characters) u × Playable p (meaning (p .characters) t 0) list (meaning (p .characters) u 0))
 
     Goal : Type 0
     Goal = Written (p .characters) u × Playable p (meaning (p .characters) t 0) (a ∷ list) (meaning (p .characters) u 0)
@@ -57,8 +62,10 @@ played-iff p (a ∷ list) t r u = (λ e. there (played-iff p list) (stepTable p 
         (z, (meaning (p .characters) v 0, x, λ c m q. tt, l))
     there ih (refused n) e f = absurd (leaves-only (refused n) u f)
 
-    back : Rest → (o : Outcome) → Steps p (meaning (p .characters) t 0) a o → Goal → then o (λ v. playTable p v list) ≡ leaves u
+    back : Rest → (o : Outcome) → Steps p (meaning (p .characters) t 0) a o → Goal
+        → then o (λ v. playTable p v list) ≡ leaves u
     back ih o (Steps.left {rows = v} w y) (z, (s, x, q, l)) =
-        ih v (written-table (p .characters) v w) u .1 (z, subst (λ (s : State). Playable p s list (meaning (p .characters) u 0)) (plays-one x y) l)
+        ih v (written-table (p .characters) v w) u .1
+        (z, subst (λ (s : State). Playable p s list (meaning (p .characters) u 0)) (plays-one x y) l)
     back ih o (Steps.failed h y) (z, (s, x, q, l)) = absurd (plays-refuses x y)
     back ih o (Steps.missing h) (z, (s, x, q, l)) = absurd (omega (arith, x .there))

@@ -38,7 +38,9 @@ P = record {
   domains = 3 ∷ [];
   actions = act0 ∷ [];
   triggers = [];
-  utilities = (record { condition = valued 1; utility = 5 } ∷ []) ∷ (record { condition = valued 1; utility = 5 } ∷ []) ∷ [] ∷ [];
+  utilities =
+      (record { condition = valued 1; utility = 5 } ∷ []) ∷ (record { condition = valued 1; utility = 5 } ∷ []) ∷ []
+      ∷ [];
 }
 
 abbrev row : ℕ → ℕ → ℕ → Node
@@ -77,7 +79,8 @@ pub written-first : Written 2 first
 unfolding met meets Fresh
 written-first = record {
   ordered = record {
-    closed = λ n c h g. one (λ n. target first n c < 1) (two (λ c. target first 0 c < 1) (omega arith) (omega arith) c g) n h;
+    closed = λ n c h g.
+        one (λ n. target first n c < 1) (two (λ c. target first 0 c < 1) (omega arith) (omega arith) c g) n h;
     wide = one (λ n. length (node first n .beliefs) ≡ 2) refl;
     known = one (λ n. n < met first n) (omega arith);
     fresh = one (λ n. Fresh (met first n) (node first n .beliefs)) (omega arith, (omega arith, tt));
@@ -90,10 +93,13 @@ pub written-second : Written 2 second
 unfolding met meets Fresh meaning
 written-second = record {
   ordered = record {
-    closed = λ n c h g. two (λ n. target second n c < 2) (two (λ c. target second 0 c < 2) (omega arith) (omega arith) c g) (two (λ c. target second 1 c < 2) (omega arith) (omega arith) c g) n h;
+    closed = λ n c h g.
+        two (λ n. target second n c < 2) (two (λ c. target second 0 c < 2) (omega arith) (omega arith) c g)
+        (two (λ c. target second 1 c < 2) (omega arith) (omega arith) c g) n h;
     wide = two (λ n. length (node second n .beliefs) ≡ 2) refl refl;
     known = two (λ n. n < met second n) (omega arith) (omega arith);
-    fresh = two (λ n. Fresh (met second n) (node second n .beliefs)) (omega arith, (omega arith, tt)) (omega arith, (omega arith, tt));
+    fresh = two (λ n. Fresh (met second n) (node second n .beliefs)) (omega arith, (omega arith, tt))
+        (omega arith, (omega arith, tt));
     whole = refl;
   };
   apart = λ i j l h e.
@@ -110,9 +116,15 @@ unfolding act change write atRoot meaning holds allPass
 acts = sym (means 2 second sem (record {
   values = two (λ n. node second n .values ≡ sem n []) refl refl;
   inside = λ n c h g. written-second .ordered .closed n c h g;
-  beliefs = λ n c h g. two (λ n. sem (target second n c) ≡ belief (sem n) c) (two (λ c. sem (target second 0 c) ≡ belief (sem 0) c) (fun-ext observed) (fun-ext unseen) c g)
+  beliefs = λ n c h g.
+      two (λ n. sem (target second n c) ≡ belief (sem n) c)
+      (two (λ c. sem (target second 0 c) ≡ belief (sem 0) c) (fun-ext observed) (fun-ext unseen) c g)
       (two (λ c. sem (target second 1 c) ≡ belief (sem 1) c) refl refl c g) n h;
-  outside = λ n c h g chain. ap (λ (s : State). s chain) (two (λ n. belief (sem n) c ≡ (λ chain. [])) (changed (λ s. act0 .effects) (observes act0) 2 first (λ m d. true) (all-told (λ s. act0 .effects) (observes act0) 2 first) .outside (Member.acted 0) tt c g) (belief-out 2 first 0 c g) n h);
+  outside = λ n c h g chain.
+      ap (λ (s : State). s chain) (two (λ n. belief (sem n) c ≡ (λ chain. []))
+      (changed (λ s. act0 .effects) (observes act0) 2 first (λ m d. true)
+      (all-told (λ s. act0 .effects) (observes act0) 2 first) .outside (Member.acted 0) tt c g)
+      (belief-out 2 first 0 c g) n h);
 }) 0 (omega arith))
   where
     sem : ℕ → State
@@ -132,13 +144,18 @@ unfolding Quiet firing holds allPass passes compares meaning
 plays = record {
   there = omega arith;
   may = refl;
-  settles = rw acts (Settles.still (at-most 2 second (ordered-reached 2 second (written-second .ordered)) (written-second .ordered .closed) (omega arith) 32 (omega arith)) (λ chain v. refl));
+  settles = rw acts (Settles.still (at-most 2 second (ordered-reached 2 second (written-second .ordered))
+      (written-second .ordered .closed) (omega arith) 32 (omega arith)) (λ chain v. refl));
 }
 
 pub parts : Differ 2 (state second) (state ones) (1 ∷ []) 0
 unfolding meaning Valid Before
 parts = record {
-  first = record { good = ((omega arith, tt), λ e. here (ap (λ (v : List ℕ). getD v 0 0) e)); shortest = shortest; earliest = earliest };
+  first = record {
+    good = ((omega arith, tt), λ e. here (ap (λ (v : List ℕ). getD v 0 0) e));
+    shortest = shortest;
+    earliest = earliest;
+  };
   here = here;
   lowest = λ f l. absurd (omega arith);
 }
@@ -150,16 +167,20 @@ parts = record {
     shortest [] g = absurd (g .1 refl)
     shortest (c ∷ other) g = omega arith
 
-    earliest : (other : List ℕ) → Valid 2 other × (state second other ≢ state ones other) → length other ≡ 1 → ¬ Before other (1 ∷ [])
+    earliest : (other : List ℕ) → Valid 2 other × (state second other ≢ state ones other) → length other ≡ 1
+        → ¬ Before other (1 ∷ [])
     earliest [] g l b = b
-    earliest (c ∷ []) g l b = ⊎-elim (λ (h : c < 1). g .1 (one (λ c. state second (c ∷ []) ≡ state ones (c ∷ [])) refl c h)) (λ r. r .1) b
+    earliest (c ∷ []) g l b =
+        ⊎-elim (λ (h : c < 1). g .1 (one (λ c. state second (c ∷ []) ≡ state ones (c ∷ [])) refl c h)) (λ r. r .1) b
     earliest (c ∷ d ∷ other) g l b = omega arith
 
 pub agree : state first ≡ state twice
 unfolding meaning
 agree = sym (means 2 twice (λ n. state first) (record {
   values = two (λ n. node twice n .values ≡ 0 ∷ []) refl refl;
-  inside = λ n c h g. two (λ n. target twice n c < 2) (two (λ c. target twice 0 c < 2) (omega arith) (omega arith) c g) (two (λ c. target twice 1 c < 2) (omega arith) (omega arith) c g) n h;
+  inside = λ n c h g.
+      two (λ n. target twice n c < 2) (two (λ c. target twice 0 c < 2) (omega arith) (omega arith) c g)
+      (two (λ c. target twice 1 c < 2) (omega arith) (omega arith) c g) n h;
   beliefs = λ n c h g. two (λ c. state first ≡ belief (state first) c) refl refl c g;
   outside = λ n c h g chain. ap (λ (s : State). s chain) (belief-out 2 first 0 c g);
 }) 0 (omega arith))
@@ -174,14 +195,20 @@ ending = record {
   some = omega arith;
   within = omega arith;
   end = state second;
-  leads = (state second, plays, λ c m _. subst (λ (c : ℕ). Explained P 1 1 c 0 (state first)) (sym (List·Memᴰ·eq-of-singleton m)) explained, refl);
+  leads = (
+    state second,
+    plays,
+    λ c m _. subst (λ (c : ℕ). Explained P 1 1 c 0 (state first)) (sym (List·Memᴰ·eq-of-singleton m)) explained,
+    refl,
+  );
   better = omega arith;
 }
 
 pub misses-all : (k t : ℕ) (list : List ℕ) → ¬ Ending P k t 0 (state first) list
 unfolding Leads Explained
 misses-all k t [] x = omega (arith, x .some)
-misses-all k t (a ∷ list) x = x .leads .2 0 (one (λ a. List·Memᴰ 0 (actionOf P a .consenters)) (List·Memᴰ·head refl) a (x .leads .1 .there)) tt
+misses-all k t (a ∷ list) x =
+    x .leads .2 0 (one (λ a. List·Memᴰ 0 (actionOf P a .consenters)) (List·Memᴰ·head refl) a (x .leads .1 .there)) tt
 
 not-before : (list : List ℕ) → ¬ Before list (0 ∷ [])
 unfolding Before
@@ -190,4 +217,8 @@ not-before (c ∷ list) b = ⊎-elim (λ (h : c < 0). omega arith) (λ r. r .1) 
 
 pub sought : Sought P 1 1 1 (state first) (0 ∷ []) 0 5
 unfolding holds allPass passes compares meaning utility ending
-sought = record { first = record { good = ending; shortest = λ other x. x .some; earliest = λ other x l b. not-before other b }; atStart = refl; atEnd = refl }
+sought = record {
+  first = record { good = ending; shortest = λ other x. x .some; earliest = λ other x l b. not-before other b };
+  atStart = refl;
+  atEnd = refl;
+}

@@ -1,4 +1,5 @@
--- Search is decided on a state that a table means: the shortest ending, then the earliest, or none; and it gives one answer. Assumes nothing.
+-- Search is decided on a state that a table means: the shortest ending, then the earliest, or none; and it gives one
+-- answer. Assumes nothing.
 use Prim.Native.Nat.{ℕ, _<_, _≤_}
 use mathlib.Core.Path.{_≡_, refl, sym, subst}
 use mathlib.Core.Logic.{_⊎_, ⊎-elim, _↔_}
@@ -18,12 +19,16 @@ use Rattle.planner.specs.Laws.Leads.{sought-one, leads-low}
 module _ (p : Theory) (T K E : ℕ) where
   -- a given list
   pub ending? : (list : List ℕ) (s : State) → Tabled (p .characters) s → Dec (Ending p T K E s list)
-  ending? list s x = go (decLt 0 (length list)) (decLe (length list) T) (along? p (λ d. Unit {0}) (λ d. yes tt) (Explained p K E) (explained? p K E) Better (λ s′. decLt (authorUtility p s) (authorUtility p s′)) list s x)
+  ending? list s x =
+      go (decLt 0 (length list)) (decLe (length list) T)
+      (along? p (λ d. Unit {0}) (λ d. yes tt) (Explained p K E) (explained? p K E) Better
+      (λ s′. decLt (authorUtility p s) (authorUtility p s′)) list s x)
     where
       Better : State → Type 0
       Better s′ = authorUtility p s < authorUtility p s′
 
-      go : Dec (0 < length list) → Dec (length list ≤ T) → Dec (Led p (λ d. Unit {0}) (Explained p K E) Better list s) → Dec (Ending p T K E s list)
+      go : Dec (0 < length list) → Dec (length list ≤ T) → Dec (Led p (λ d. Unit {0}) (Explained p K E) Better list s)
+          → Dec (Ending p T K E s list)
       go (yes a) (yes b) (yes (s′, l, w)) = yes (record { some = a; within = b; end = s′; leads = l; better = w })
       go (no a) b c = no (λ r. a (r .some))
       go (yes a) (no b) c = no (λ r. b (r .within))
@@ -32,8 +37,12 @@ module _ (p : Theory) (T K E : ℕ) where
   search : {s : State} → Tabled (p .characters) s → (r : Answer) × Searched p T K E s r
   search {s} x =
       ⊎-elim (λ (f : (l : List ℕ) → length l ≤ T → ¬ Ending p T K E s l). (none, λ l z. f l (z .within) z))
-      (λ (r : (l : List ℕ) × (length l ≤ T) × Earliest (Ending p T K E s) l). (ending (r .0) (authorUtility p s) (authorUtility p (r .2 .good .end)), record { first = r .2; atStart = refl; atEnd = refl }))
-      (seek (length (p .actions)) (Ending p T K E s) (λ l. ending? l s x) (λ l r. leads-low p (λ d. Unit {0}) (Explained p K E) l s (r .end) (r .leads)) T)
+      (λ (r : (l : List ℕ) × (length l ≤ T) × Earliest (Ending p T K E s) l). (
+        ending (r .0) (authorUtility p s) (authorUtility p (r .2 .good .end)),
+        record { first = r .2; atStart = refl; atEnd = refl },
+      ))
+      (seek (length (p .actions)) (Ending p T K E s) (λ l. ending? l s x)
+      (λ l r. leads-low p (λ d. Unit {0}) (Explained p K E) l s (r .end) (r .leads)) T)
 
   pub searchOf : {s : State} → Tabled (p .characters) s → Answer
   searchOf x = search x .0

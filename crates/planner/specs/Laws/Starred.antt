@@ -9,7 +9,8 @@ use borrow.Author.Tests.{ltb-true}
 use Rattle.pack.specs.Syntax.{Node, Theory, Pack}
 use Rattle.pack.specs.Reading.{Reply, gives, refuses, runs}
 use Rattle.pack.specs.Number.{numberAt, between, beliefAt, risingAt}
-use Rattle.pack.specs.Grammar.{packOf, chartOf, packAt, headAt, nodesAt, nodeAt, theoryAt, actionAt, triggerAt, rulesAt, ruleAt, conditionAt, testAt, effectsAt, effectAt, consentersAt}
+use Rattle.pack.specs.Grammar.{packOf, chartOf, packAt, headAt, nodesAt, nodeAt, theoryAt, actionAt, triggerAt}
+use Rattle.pack.specs.Grammar.{rulesAt, ruleAt, conditionAt, testAt, effectsAt, effectAt, consentersAt}
 use Rattle.pack.specs.Condition.{compares, passes, allPass, holds, utility}
 use Rattle.pack.specs.State.{meaning}
 use Rattle.pack.specs.Layout.{numberBytes, listBytes, Each}
@@ -28,7 +29,8 @@ use Rattle.planner.specs.Replies.{explainedReply, searchReply}
 use Rattle.planner.specs.Readings as row
 use Rattle.planner.specs.Readings.{starred, Says}
 use Rattle.planner.specs.Laws.Replies.{explained-says, explained-denies, search-says}
-use Rattle.planner.specs.Laws.Readings.{P, first, second, ones, twice, written-first, written-second, plays, parts, agree, explained, sought, misses-all}
+use Rattle.planner.specs.Laws.Readings.{P, first, second, ones, twice, written-first, written-second}
+use Rattle.planner.specs.Laws.Readings.{plays, parts, agree, explained, sought, misses-all}
 
 -- a list is of bytes where a test that is computed says so
 and-left : (a b : Bool) → (a && b) ≡ true → a ≡ true
@@ -78,37 +80,54 @@ start-row out work h g = start-says given out work h g first (written-first, ref
 
 step-row : Says (row.step row.started 0 (gives row.stepped))
 unfolding numberBytes listBytes
-step-row out work h g = step-says given row.started first started 0 (omega arith) out work h g (leaves second) (Steps.left written-second plays)
+step-row out work h g =
+    step-says given row.started first started 0 (omega arith) out work h g (leaves second)
+    (Steps.left written-second plays)
 
 forbidden-row : Says (row.step row.ones 0 (refuses 10 0))
 unfolding holds allPass passes compares meaning
-forbidden-row out work h g = step-says given row.ones ones alike 0 (omega arith) out work h g (refused 10) (Steps.failed (omega arith) (Refuses.forbidden refl))
+forbidden-row out work h g =
+    step-says given row.ones ones alike 0 (omega arith) out work h g (refused 10)
+    (Steps.failed (omega arith) (Refuses.forbidden refl))
 
 differ-row : Says (row.compare row.stepped row.ones (gives (differ (1 ∷ []) 0)))
-differ-row chain work h g = compare-says given row.stepped row.ones chain work second ones stepped alike h g (differ (1 ∷ []) 0) .0 parts
+differ-row chain work h g =
+    compare-says given row.stepped row.ones chain work second ones stepped alike h g (differ (1 ∷ []) 0) .0 parts
 
 same-row : Says (row.compare row.started row.doubled (gives same))
-same-row chain work h g = compare-says given row.started row.doubled chain work first twice started doubled h g same .0 agree
+same-row chain work h g =
+    compare-says given row.started row.doubled chain work first twice started doubled h g same .0 agree
 
 explained-row : Says (row.explained 0 0 1 1 (gives true))
-explained-row work g = explained-says given row.started first started 0 0 1 1 (omega arith) (omega arith) (omega arith) (omega arith) (omega arith) work g .1 explained
+explained-row work g =
+    explained-says given row.started first started 0 0 1 1 (omega arith) (omega arith) (omega arith) (omega arith)
+    (omega arith) work g .1 explained
 
 other-row : Says (row.explained 1 0 1 1 (gives false))
 unfolding Explained utility holds allPass passes compares meaning
-other-row work g = explained-denies given row.started first started 1 0 1 1 (omega arith) (omega arith) (omega arith) (omega arith) (omega arith) work g .1 (λ x. omega (arith, x .6))
+other-row work g =
+    explained-denies given row.started first started 1 0 1 1 (omega arith) (omega arith) (omega arith) (omega arith)
+    (omega arith) work g .1 (λ x. omega (arith, x .6))
 
 zero-row : Says (row.explained 0 0 1 0 (gives false))
 unfolding Explained
-zero-row work g = explained-denies given row.started first started 0 0 1 0 (omega arith) (omega arith) (omega arith) (omega arith) (omega arith) work g .1 (λ x. x)
+zero-row work g =
+    explained-denies given row.started first started 0 0 1 0 (omega arith) (omega arith) (omega arith) (omega arith)
+    (omega arith) work g .1 (λ x. x)
 
 ending-row : Says (row.search 1 1 1 (gives (record { list = 0 ∷ []; before = 0; after = 5 })))
-ending-row list work h g = search-says given 1 1 1 (omega arith) (omega arith) (omega arith) (omega arith) (omega arith) list work h g (ending (0 ∷ []) 0 5) .1 sought
+ending-row list work h g =
+    search-says given 1 1 1 (omega arith) (omega arith) (omega arith) (omega arith) (omega arith) list work h g
+    (ending (0 ∷ []) 0 5) .1 sought
 
 none-row : Says (row.search 1 1 0 (refuses 13 0))
-none-row list work h g = search-says given 1 1 0 (omega arith) (omega arith) (omega arith) (omega arith) (omega arith) list work h g none .1 (misses-all 1 1)
+none-row list work h g =
+    search-says given 1 1 0 (omega arith) (omega arith) (omega arith) (omega arith) (omega arith) list work h g none .1
+    (misses-all 1 1)
 
 -- the first refusal stays
-refused-call : {A : Type 0} (bytes : List ℕ) (charts : List (List ℕ)) (enough : Bool) (inRange : Theory → Bool) (rest : Pack → List (List Node) → Reply A) {n q : ℕ}
+refused-call : {A : Type 0} (bytes : List ℕ) (charts : List (List ℕ)) (enough : Bool) (inRange : Theory → Bool)
+    (rest : Pack → List (List Node) → Reply A) {n q : ℕ}
     → packOf bytes ≡ refuses n q → call bytes charts enough inRange rest ≡ refuses n q
 unfolding call
 refused-call bytes charts enough inRange rest e = rw e
@@ -135,5 +154,16 @@ blank-row = refusing (row.P-with 0x00) refl
 
 pub readings : Each Says starred
 unfolding Each
-readings =
-    (start-row, (step-row, (forbidden-row, (differ-row, (same-row, (explained-row, (other-row, (zero-row, (ending-row, (none-row, (empty-row, (blank-row, tt))))))))))))
+readings = (
+  start-row,
+  (
+    step-row,
+    (
+      forbidden-row,
+      (
+        differ-row,
+        (same-row, (explained-row, (other-row, (zero-row, (ending-row, (none-row, (empty-row, (blank-row, tt)))))))),
+      ),
+    ),
+  ),
+)

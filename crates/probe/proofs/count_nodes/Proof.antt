@@ -17,19 +17,29 @@ enum-told : tie.Need-enum-told
 enum-told c = search needs
 
 array-share-prefix-sizes : tie.Need-array-share-prefix-sizes
-array-share-prefix-sizes c = fluents-within _ _ _ (accepted _ _ _ _ (c .before .before .before .before .read-pack .ensures) (c .before .enum-told .given .1))
+array-share-prefix-sizes c =
+    let at-read-pack = c .before .before .before .before in
+    fluents-within _ _ _ (accepted _ _ _ _ (at-read-pack .read-pack .ensures) (c .before .enum-told .given .1))
 
 slice-aggregate-check-chart : tie.Need-slice-aggregate-check-chart
-slice-aggregate-check-chart c = fluents-taken _ _ _ (accepted _ _ _ _ (c .before .before .before .before .before .read-pack .ensures) (c .before .before .enum-told .given .1))
+slice-aggregate-check-chart c =
+    let at-enum-told = c .before .before in
+    let at-read-pack = at-enum-told .before .before .before in
+    fluents-taken _ _ _ (accepted _ _ _ _ (at-read-pack .read-pack .ensures) (at-enum-told .enum-told .given .1))
 
 check-chart-requires : tie.Need-check-chart-requires
 check-chart-requires c κs = search needs
 
 returns : tie.Need-returns
-returns c = count-refused _ _ _ _ (refused-told _ _ _ _ (c .before .before .before .before .read-pack .ensures .answer) (c .before .answer .given .1))
+returns c =
+    let at-read-pack = c .before .before .before .before in
+    count-refused _ _ _ _ (refused-told _ _ _ _ (at-read-pack .read-pack .ensures .answer) (c .before .answer .given .1))
 
 returns-2 : tie.Need-returns-2
-returns-2 c = count-read _ _ _ (accepted _ _ _ _ (c .before .before .before .before .before .before .read-pack .ensures) (c .before .before .before .enum-told .given .1)) _ _ (c .check-chart .ensures)
+returns-2 c =
+    let at-enum-told = c .before .before .before in
+    let at-read-pack = at-enum-told .before .before .before in
+    count-read _ _ _ (accepted _ _ _ _ (at-read-pack .read-pack .ensures) (at-enum-told .enum-told .given .1)) _ _ (c .check-chart .ensures)
 
 pub count-nodes-spec : {M : Type 1} → statement M
 count-nodes-spec =

@@ -37,13 +37,21 @@ same-length : tie.Need-same-length
 same-length c = search needs
 
 returns-2 : tie.Need-returns-2
-returns-2 c = chart-refused _ _ _ _ _ _ _ (c .before .before .before .before .before .before .if1 .left) (c .before .before .before .before .before .count-nodes .ensures ∙ ap repliedCount (c .before .before .before .k .given .1)) (c .wide-number .ensures) (c .before .wide-place .ensures)
+returns-2 c =
+    let at-k = c .before .before .before in
+    let at-count-nodes = at-k .before .before in
+    let at-if1 = at-count-nodes .before in
+    chart-refused _ _ _ _ _ _ _ (at-if1 .if1 .left) (at-count-nodes .count-nodes .ensures ∙ ap repliedCount (at-k .k .given .1)) (c .wide-number .ensures) (c .before .wide-place .ensures)
 
 same-length-2 : tie.Need-same-length-2
 same-length-2 c = search needs
 
 returns-3 : tie.Need-returns-3
-returns-3 c = chart-counted _ _ _ _ _ (c .before .before .before .before .before .if1 .left) (c .before .before .before .before .count-nodes .ensures ∙ ap repliedCount (c .before .before .nodes .given .1)) (c .wide-place2 .ensures)
+returns-3 c =
+    let at-nodes = c .before .before in
+    let at-count-nodes = at-nodes .before .before in
+    let at-if1 = at-count-nodes .before in
+    chart-counted _ _ _ _ _ (at-if1 .if1 .left) (at-count-nodes .count-nodes .ensures ∙ ap repliedCount (at-nodes .nodes .given .1)) (c .wide-place2 .ensures)
 
 pub pirwodd-probe-chart-spec : {M : Type 1} → statement M
 pirwodd-probe-chart-spec =

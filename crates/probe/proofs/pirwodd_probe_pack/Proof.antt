@@ -36,13 +36,22 @@ same-length : tie.Need-same-length
 same-length c = search needs
 
 returns-2 : tie.Need-returns-2
-returns-2 c = pack-refused _ _ _ _ _ _ (c .before .before .before .before .before .before .before .before .if1 .left) (refused-told _ _ _ _ (c .before .before .before .before .before .before .read-pack .ensures .answer) (c .before .before .before .answer .given .1)) (c .wide-number .ensures) (c .before .wide-place .ensures)
+returns-2 c =
+    let at-answer = c .before .before .before in
+    let at-read-pack = at-answer .before .before .before in
+    let at-if1 = at-read-pack .before .before in
+    pack-refused _ _ _ _ _ _ (at-if1 .if1 .left) (refused-told _ _ _ _ (at-read-pack .read-pack .ensures .answer) (at-answer .answer .given .1)) (c .wide-number .ensures) (c .before .wide-place .ensures)
 
 same-length-2 : tie.Need-same-length-2
 same-length-2 c = search needs
 
 returns-3 : tie.Need-returns-3
-returns-3 c = pack-accepted _ _ _ _ _ (c .before .before .before .before .before .before .before .before .before .if1 .left) (accepted _ _ _ _ (c .before .before .before .before .before .before .before .read-pack .ensures) (c .before .before .before .before .enum-told .given .1)) (c .before .before .put-counts .ensures)
+returns-3 c =
+    let at-put-counts = c .before .before in
+    let at-enum-told = at-put-counts .before .before in
+    let at-read-pack = at-enum-told .before .before .before in
+    let at-if1 = at-read-pack .before .before in
+    pack-accepted _ _ _ _ _ (at-if1 .if1 .left) (accepted _ _ _ _ (at-read-pack .read-pack .ensures) (at-enum-told .enum-told .given .1)) (at-put-counts .put-counts .ensures)
 
 pub pirwodd-probe-pack-spec : {M : Type 1} → statement M
 pirwodd-probe-pack-spec =

@@ -40,7 +40,11 @@ same-length : tie.Need-same-length
 same-length c = search needs
 
 returns : tie.Need-returns
-returns c = rw (sym (c .before .before .before .before .wide-place .ensures), sym (c .before .before .before .wide-place2 .ensures), sym (c .before .before .wide-place3 .ensures), sym (c .before .wide-place4 .ensures), sym (c .wide-place5 .ensures))
+returns c =
+    let at-wide-place3 = c .before .before in
+    let at-wide-place2 = at-wide-place3 .before in
+    let at-wide-place = at-wide-place2 .before in
+    rw (sym (at-wide-place .wide-place .ensures), sym (at-wide-place2 .wide-place2 .ensures), sym (at-wide-place3 .wide-place3 .ensures), sym (c .before .wide-place4 .ensures), sym (c .wide-place5 .ensures))
 
 pub put-counts-spec : {M : Type 1} → statement M
 put-counts-spec =

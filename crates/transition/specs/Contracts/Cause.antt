@@ -45,16 +45,19 @@ pub record Tellable (pack : List ℕ) (at : ℕ) (work : List ℕ) (row fluents 
 
 -- the values of a row are what the effects at a place write, if they are meant for whom
 pub record ToldWritten (pack : List ℕ) (at whom : ℕ) (was now : List ℕ) (row fluents : ℕ) : Type 0 where
-  pub values : (d : Dimensions) → Small d → length (d .domains) ≡ fluents → (es : List Effect) → EffectsAt d pack at es → cells now row fluents ≡ write whom es (cells was row fluents)
+  pub values : (d : Dimensions) → Small d → length (d .domains) ≡ fluents → (es : List Effect) → EffectsAt d pack at es
+      → cells now row fluents ≡ write whom es (cells was row fluents)
   pub only : RowOnly was now row fluents
 
--- who takes part: everyone, or each character whose observation condition holds; these are found from place `observed` on
+-- who takes part: everyone, or each character whose observation condition holds; these are found from place `observed`
+-- on
 pub record Observes (d : Dimensions) (pack places : List ℕ) (observed C : ℕ) (takes : State → ℕ → Bool) : Type 0 where
   pub everyone : observed ≡ 327 → (z : State) (c : ℕ) → takes z c ≡ true
   pub few : observed ≤ 327
   pub inside : observed ≢ 327 → observed + C ≤ length places
   pub condition : observed ≢ 327 → (c : ℕ) → c < C → Condition
-  pub stands : (h : observed ≢ 327) (c : ℕ) (l : c < C) → Gives (conditionAt d) pack (getD places (observed + c) 0) (condition h c l)
+  pub stands : (h : observed ≢ 327) (c : ℕ) (l : c < C)
+      → Gives (conditionAt d) pack (getD places (observed + c) 0) (condition h c l)
   pub judged : (h : observed ≢ 327) (c : ℕ) (l : c < C) (z : State) → takes z c ≡ holds z (condition h c l)
 
 -- a table in a buffer, over the dimensions d
@@ -78,4 +81,5 @@ pub record Watched (pack places : List ℕ) (observed : ℕ) (work : List ℕ) (
 -- whether it does
 abbrev pub Took : (pack places : List ℕ) (observed : ℕ) (work : List ℕ) (t : Table) (m c : ℕ) → Bool → Type 0
 Took pack places observed work t m c r =
-    (d : Dimensions) (table : List Node) (takes : State → ℕ → Bool) → Tabled d table work t → Observes d pack places observed (t .characters) takes → r ≡ takes (meaning (t .characters) table m) c
+    (d : Dimensions) (table : List Node) (takes : State → ℕ → Bool) → Tabled d table work t
+    → Observes d pack places observed (t .characters) takes → r ≡ takes (meaning (t .characters) table m) c

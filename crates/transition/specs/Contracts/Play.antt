@@ -29,16 +29,23 @@ pub record Untold (es : List Effect) (C u : ℕ) : Type 0 where
   pub one : ((u < C) × (told es (suc u) ≡ false)) ⊎ ((u ≡ 7) × ((d : ℕ) → d < C → told es (suc d) ≡ true))
 
 -- a theory and a table
-pub record Setting (p : Theory) (T : List Node) (pack places : List ℕ) (actions triggers : ℕ) (work : List ℕ) (t : Table) (slot : ℕ) : Type 0 where
+pub record Setting (p : Theory) (T : List Node) (pack places : List ℕ) (actions triggers : ℕ) (work : List ℕ)
+    (t : Table) (slot : ℕ) : Type 0 where
   pub theorized : Theorized p pack places actions triggers
   pub tabled : Tabled (dims (p .characters) (p .domains)) T work t
   pub room : StageRoom work t slot
 
 abbrev pub Actable : (pack places : List ℕ) (action : ℕ) (work : List ℕ) (t : Table) (root slot : ℕ) → Type 0
-Actable pack places action work t root slot = (p : Theory) × ((T : List Node) × ((actions : ℕ) × ((triggers : ℕ) × (Setting p T pack places actions triggers work t slot × (action < actions) × (root < t .nodes)))))
+Actable pack places action work t root slot =
+    (p : Theory) × ((T : List Node)
+    × ((actions : ℕ)
+    × ((triggers : ℕ)
+    × (Setting p T pack places actions triggers work t slot × (action < actions) × (root < t .nodes)))))
 
 abbrev pub Playable : (pack places : List ℕ) (triggers action : ℕ) (work : List ℕ) (t : Table) (root slot : ℕ) → Type 0
-Playable pack places triggers action work t root slot = (p : Theory) × ((T : List Node) × ((actions : ℕ) × (Setting p T pack places actions triggers work t slot × (action < actions) × (root < t .nodes))))
+Playable pack places triggers action work t root slot =
+    (p : Theory) × ((T : List Node)
+    × ((actions : ℕ) × (Setting p T pack places actions triggers work t slot × (action < actions) × (root < t .nodes))))
 
 -- the table stands in the slot, as a written chart
 pub record Slotted (T : List Node) (work : List ℕ) (t : Table) (slot : ℕ) : Type 0 where
@@ -47,7 +54,9 @@ pub record Slotted (T : List Node) (work : List ℕ) (t : Table) (slot : ℕ) : 
   pub written : Written (t .characters) T
 
 abbrev pub Settleable : (pack places : List ℕ) (triggers : ℕ) (work : List ℕ) (t : Table) (slot : ℕ) → Type 0
-Settleable pack places triggers work t slot = (p : Theory) × ((T : List Node) × ((actions : ℕ) × (Setting p T pack places actions triggers work t slot × Slotted T work t slot)))
+Settleable pack places triggers work t slot =
+    (p : Theory) × ((T : List Node)
+    × ((actions : ℕ) × (Setting p T pack places actions triggers work t slot × Slotted T work t slot)))
 
 -- part 1 is in the slot, or leaves more than 32 states
 pub record Acted (z : State) (t : Table) (was now : List ℕ) (slot r : ℕ) : Type 0 where
@@ -56,13 +65,15 @@ pub record Acted (z : State) (t : Table) (was now : List ℕ) (slot r : ℕ) : T
 
 abbrev pub ActsIn : (pack places : List ℕ) (action root : ℕ) (t : Table) (was now : List ℕ) (slot r : ℕ) → Type 0
 ActsIn pack places action root t was now slot r =
-    (p : Theory) (T : List Node) (actions triggers : ℕ) → Setting p T pack places actions triggers was t slot → action < actions → root < t .nodes
+    (p : Theory) (T : List Node) (actions triggers : ℕ) → Setting p T pack places actions triggers was t slot
+    → action < actions → root < t .nodes
     → Acted (act (actionOf p action) (meaning (t .characters) T root)) t was now slot r
 
 -- in the slot stands the written chart of s
 pub record Left (s : State) (t : Table) (work : List ℕ) (slot : ℕ) : Type 0 where
   pub few : getD work slot 0 ≤ 32
-  pub starts : Starts (t .characters) s (rowsAt work (t .width) (t .fluents) (t .characters) (slot + 1) (getD work slot 0))
+  pub starts : Starts (t .characters) s
+      (rowsAt work (t .width) (t .fluents) (t .characters) (slot + 1) (getD work slot 0))
 
 -- it settles in what the slot holds, or stops
 pub record SettledIn (p : Theory) (z : State) (t : Table) (was now : List ℕ) (slot r : ℕ) : Type 0 where
@@ -72,7 +83,8 @@ pub record SettledIn (p : Theory) (z : State) (t : Table) (was now : List ℕ) (
 
 abbrev pub SettlesIn : (pack places : List ℕ) (triggers : ℕ) (t : Table) (was now : List ℕ) (slot r : ℕ) → Type 0
 SettlesIn pack places triggers t was now slot r =
-    (p : Theory) (T : List Node) (actions : ℕ) → Setting p T pack places actions triggers was t slot → Slotted T was t slot
+    (p : Theory) (T : List Node) (actions : ℕ) → Setting p T pack places actions triggers was t slot
+    → Slotted T was t slot
     → SettledIn p (meaning (t .characters) T 0) t was now slot r
 
 -- it plays, and the slot holds what it leaves, or it is refused
@@ -81,7 +93,9 @@ pub record PlayedIn (p : Theory) (z : State) (a : ℕ) (t : Table) (was now : Li
   pub refuses : r ≢ 0 → Refuses p z a r
   pub only : SlotOnly was now slot
 
-abbrev pub PlaysIn : (pack places : List ℕ) (triggers action root : ℕ) (t : Table) (was now : List ℕ) (slot r : ℕ) → Type 0
+abbrev pub PlaysIn : (pack places : List ℕ) (triggers action root : ℕ) (t : Table) (was now : List ℕ) (slot r : ℕ)
+    → Type 0
 PlaysIn pack places triggers action root t was now slot r =
-    (p : Theory) (T : List Node) (actions : ℕ) → Setting p T pack places actions triggers was t slot → action < actions → root < t .nodes
+    (p : Theory) (T : List Node) (actions : ℕ) → Setting p T pack places actions triggers was t slot → action < actions
+    → root < t .nodes
     → PlayedIn p (meaning (t .characters) T root) action t was now slot r

@@ -1,4 +1,5 @@
--- A stage of Step in the work buffer: slots of 961 bytes below 28,832, the stage's scratch from there on. Assumes nothing.
+-- A stage of Step in the work buffer: slots of 961 bytes below 28,832, the stage's scratch from there on. Assumes
+-- nothing.
 use mathlib.Core.Path.{_≡_}
 use mathlib.Core.List.{List}
 use Prim.Native.Nat.{ℕ, _+_, _*_, _<_, _≤_}

@@ -1,4 +1,5 @@
--- What happens in a table, as the pass makes it: the slots of the states that it meets, and their rows. Assumes nothing.
+-- What happens in a table, as the pass makes it: the slots of the states that it meets, and their rows. Assumes
+-- nothing.
 use mathlib.Core.Path.{_≡_}
 use mathlib.Core.Bool.{Bool, true, false, cond}
 use mathlib.Core.Logic.{_≢_}
@@ -64,12 +65,15 @@ pub record Kinds (s : Scene) (n C : ℕ) (h : Change) : Type 0 where
 -- what a slot stands for, where there are n rows
 unfoldable pub memberOf : Change → ℕ → ℕ → Member
 memberOf h n slot =
-    pick (eqb (slot / 7) n) (acted (h .root)) (pick (eqb (slot % 7) (h .old)) (old (slot / 7)) (pick (eqb (slot % 7) (h .acted)) (acted (slot / 7)) (edge (slot / 7) (slot % 7))))
+    pick (eqb (slot / 7) n) (acted (h .root))
+    (pick (eqb (slot % 7) (h .old)) (old (slot / 7))
+    (pick (eqb (slot % 7) (h .acted)) (acted (slot / 7)) (edge (slot / 7) (slot % 7))))
 
 -- the scene is what the pack, the places and the work buffer say
 pub record Stands (s : Scene) (pack places effects : List ℕ) (h : Change) (work : List ℕ) (t : Table) : Type 0 where
   pub tabled : Tabled (s .dimensions) (s .table) work t
-  pub effects-stand : (m : ℕ) → m < t .nodes → EffectsAt (s .dimensions) pack (getD effects m 0) (s .causes (at s (t .characters) m))
+  pub effects-stand : (m : ℕ) → m < t .nodes
+      → EffectsAt (s .dimensions) pack (getD effects m 0) (s .causes (at s (t .characters) m))
   pub long : t .nodes ≤ length effects
   pub observes : Observes (s .dimensions) pack places (h .observed) (t .characters) (s .takes)
   pub kinds : Kinds s (t .nodes) (t .characters) h
@@ -79,19 +83,23 @@ abbrev pub Scened : (pack places effects : List ℕ) (h : Change) (work : List �
 Scened pack places effects h work t = (s : Scene) × Stands s pack places effects h work t
 
 -- what holds of whatever scene that is
-abbrev pub InScene : (pack places effects : List ℕ) (h : Change) (work : List ℕ) (t : Table) (Q : Scene → Type 0) → Type 0
+abbrev pub InScene : (pack places effects : List ℕ) (h : Change) (work : List ℕ) (t : Table) (Q : Scene → Type 0)
+    → Type 0
 InScene pack places effects h work t Q = (s : Scene) → Stands s pack places effects h work t → Q s
 
 -- its table alone
 abbrev pub Seen : (work : List ℕ) (t : Table) → Type 0
 Seen work t = (s : Scene) × Tabled (s .dimensions) (s .table) work t
 
--- what a slot's row is made of: a row, having taken part or as it was, which is what it stands for, or what the character believes that is told something besides
+-- what a slot's row is made of: a row, having taken part or as it was, which is what it stands for, or what the
+-- character believes that is told something besides
 pub record Sourced (s : Scene) (h : Change) (t : Table) (slot : ℕ) (r : Source) : Type 0 where
   pub inside : r .row < t .nodes
   pub keeps : r .took ≡ false → h .old < 7
   pub plain : r .told ≡ false → rowAfter (r .row) (r .took) ≡ memberOf h (t .nodes) slot
-  pub told : r .told ≡ true → (slot / 7 < t .nodes) × (slot % 7 < t .characters) × (edge (slot / 7) (slot % 7) ≡ memberOf h (t .nodes) slot) × (rowAfter (r .row) (r .took) ≡ took s (t .characters) (slot / 7) (slot % 7))
+  pub told : r .told ≡ true
+      → (slot / 7 < t .nodes) × (slot % 7 < t .characters) × (edge (slot / 7) (slot % 7) ≡ memberOf h (t .nodes) slot)
+      × (rowAfter (r .row) (r .took) ≡ took s (t .characters) (slot / 7) (slot % 7))
 
 -- a slot stands for a member
 pub record SlotIs (h : Change) (n : ℕ) (k : Member) (slot : ℕ) : Type 0 where
@@ -110,7 +118,8 @@ pub record RowRoom (work : List ℕ) (t : Table) (to : ℕ) : Type 0 where
   pub room : to + t .fluents + t .characters ≤ length work
 
 -- the row of a member stands from `to` on, its beliefs by slots
-pub record MemberPut (h : Change) (t : Table) (wanted : List ℕ) (next : ℕ → Member) (was now : List ℕ) (to : ℕ) : Type 0 where
+pub record MemberPut (h : Change) (t : Table) (wanted : List ℕ) (next : ℕ → Member) (was now : List ℕ)
+    (to : ℕ) : Type 0 where
   pub values : cells now to (t .fluents) ≡ wanted
   pub slots : (d : ℕ) → d < t .characters → SlotIs h (t .nodes) (next d) (getD now (to + t .fluents + d) 0)
   pub low : Below was now to
@@ -128,14 +137,18 @@ pub record Laid (work : List ℕ) (t : Table) (b u : ℕ) : Type 0 where
 -- row i from u on is that of the member that number i was given to, its beliefs by numbers
 pub record RowMade (s : Scene) (h : Change) (t : Table) (was now : List ℕ) (b u i count more : ℕ) : Type 0 where
   pub wanted : ℕ → ℕ
-  pub names : (d : ℕ) → d < t .characters → memberOf h (t .nodes) (wanted d) ≡ next s (t .characters) (memberOf h (t .nodes) (keyAt was b (t .nodes * 7 + 1) i)) d
-  pub filled : RowFilled was now b (t .nodes * 7 + 1) count more (u + i * t .width) (t .width) (t .fluents) (t .characters) (valuesOf s (t .characters) (memberOf h (t .nodes) (keyAt was b (t .nodes * 7 + 1) i))) wanted
+  pub names : (d : ℕ) → d < t .characters
+      → memberOf h (t .nodes) (wanted d)
+      ≡ next s (t .characters) (memberOf h (t .nodes) (keyAt was b (t .nodes * 7 + 1) i)) d
+  pub filled : RowFilled was now b (t .nodes * 7 + 1) count more (u + i * t .width) (t .width) (t .fluents)
+      (t .characters) (valuesOf s (t .characters) (memberOf h (t .nodes) (keyAt was b (t .nodes * 7 + 1) i))) wanted
 
 -- r rows from u on, in the order met breadth first, that mean what happens
 pub record ChangeMade (s : Scene) (h : Change) (t : Table) (was now : List ℕ) (b u r : ℕ) : Type 0 where
   pub some : 0 < r
   pub few : r ≤ t .nodes * 7 + 1
   pub ordered : Ordered (t .characters) (rowsAt now (t .width) (t .fluents) (t .characters) u r)
-  pub means : meaning (t .characters) (rowsAt now (t .width) (t .fluents) (t .characters) u r) 0 ≡ change (s .causes) (s .takes) (at s (t .characters) (h .root))
+  pub means : meaning (t .characters) (rowsAt now (t .width) (t .fluents) (t .characters) u r) 0
+      ≡ change (s .causes) (s .takes) (at s (t .characters) (h .root))
   pub low : Below was now b
   pub high : Above was now (u + (t .nodes * 7 + 1) * t .width)

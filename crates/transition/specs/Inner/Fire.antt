@@ -36,16 +36,21 @@ pub record Firable (pack places : List ℕ) (triggers : ℕ) (work : List ℕ) (
   pub triggered : Triggered dimensions pack places ts triggers
 
 abbrev pub Fires : (pack places : List ℕ) (triggers : ℕ) (work : List ℕ) (t : Table) (m r : ℕ) → Type 0
-Fires pack places triggers work t m r = (d : Dimensions) (table : List Node) (ts : List Trigger) → Tabled d table work t → Triggered d pack places ts triggers → FireIs d pack ts (meaning (t .characters) table m) r
+Fires pack places triggers work t m r =
+    (d : Dimensions) (table : List Node) (ts : List Trigger) → Tabled d table work t
+    → Triggered d pack places ts triggers → FireIs d pack ts (meaning (t .characters) table m) r
 
 -- the places of what fires in the first n rows; and whether anything does
-pub record FiredBelow (d : Dimensions) (pack : List ℕ) (ts : List Trigger) (C : ℕ) (table : List Node) (n : ℕ) (effects : List ℕ) (any : Bool) : Type 0 where
+pub record FiredBelow (d : Dimensions) (pack : List ℕ) (ts : List Trigger) (C : ℕ) (table : List Node) (n : ℕ)
+    (effects : List ℕ) (any : Bool) : Type 0 where
   pub each : (m : ℕ) → m < n → FireIs d pack ts (meaning C table m) (getD effects m 0)
   pub some : any ≡ true → ((m : ℕ) → m < n → firing ts (meaning C table m) ≡ Option.none) → ⊥
   pub none : any ≡ false → (m : ℕ) → m < n → firing ts (meaning C table m) ≡ Option.none
 
 -- in all rows of whatever table that is, by whatever triggers stand there
-abbrev pub FiresAll : (pack places : List ℕ) (triggers : ℕ) (work : List ℕ) (t : Table) (effects : List ℕ) (r : Bool) → Type 0
+abbrev pub FiresAll : (pack places : List ℕ) (triggers : ℕ) (work : List ℕ) (t : Table) (effects : List ℕ) (r : Bool)
+    → Type 0
 FiresAll pack places triggers work t effects r =
-    (d : Dimensions) (table : List Node) (ts : List Trigger) → Tabled d table work t → Triggered d pack places ts triggers
+    (d : Dimensions) (table : List Node) (ts : List Trigger) → Tabled d table work t
+    → Triggered d pack places ts triggers
     → FiredBelow d pack ts (t .characters) table (t .nodes) effects r

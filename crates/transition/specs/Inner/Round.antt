@@ -23,7 +23,8 @@ Silent es = (c : ℕ) → told es (suc c) ≡ false
 -- the scene's effects stand at the places for its rows
 pub record Caused (s : Scene) (pack effects work : List ℕ) (t : Table) : Type 0 where
   pub tabled : Tabled (s .dimensions) (s .table) work t
-  pub effects-stand : (m : ℕ) → m < t .nodes → EffectsAt (s .dimensions) pack (getD effects m 0) (s .causes (at s (t .characters) m))
+  pub effects-stand : (m : ℕ) → m < t .nodes
+      → EffectsAt (s .dimensions) pack (getD effects m 0) (s .causes (at s (t .characters) m))
   pub long : t .nodes ≤ length effects
 
 abbrev pub CausedSome : (pack effects work : List ℕ) (t : Table) → Type 0
@@ -35,7 +36,9 @@ Beside t i p = (p < t .rows + i * t .width) ⊎ (t .rows + i * t .width + t .flu
 
 -- the values of the first n rows are what the effects in them write, and nothing else has changed
 pub record Rewritten (s : Scene) (t : Table) (was now : List ℕ) (n : ℕ) : Type 0 where
-  pub values : (m : ℕ) → m < n → cells now (t .rows + m * t .width) (t .fluents) ≡ write 0 (s .causes (at s (t .characters) m)) (cells was (t .rows + m * t .width) (t .fluents))
+  pub values : (m : ℕ) → m < n
+      → cells now (t .rows + m * t .width) (t .fluents)
+      ≡ write 0 (s .causes (at s (t .characters) m)) (cells was (t .rows + m * t .width) (t .fluents))
   pub kept : (p : ℕ) → ((i : ℕ) → i < n → Beside t i p) → getD now p 0 ≡ getD was p 0
 
 -- a table stands in a slot with its count, its rows in the order met

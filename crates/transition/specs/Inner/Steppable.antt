@@ -16,7 +16,8 @@ use Rattle.transition.specs.Replies.{outcomeReply}
 use Rattle.transition.specs.Contracts.Play.{Theorized}
 
 -- an accepted pack and chart, the action and the buffers that Step is lent
-pub record Stepping (p : Theory) (T : List Node) (pack places : List ℕ) (actions triggers action : ℕ) (chart : List ℕ) (nodes fluents characters : ℕ) (out work : List ℕ) : Type 0 where
+pub record Stepping (p : Theory) (T : List Node) (pack places : List ℕ) (actions triggers action : ℕ) (chart : List ℕ)
+    (nodes fluents characters : ℕ) (out work : List ℕ) : Type 0 where
   pub theorized : Theorized p pack places actions triggers
   pub there : action < actions
   pub read : NodesRead chart nodes fluents characters T
@@ -27,8 +28,12 @@ pub record Stepping (p : Theory) (T : List Node) (pack places : List ℕ) (actio
   pub out-room : chartRoom ≤ length out
   pub work-room : workRoom ≤ length work
 
-abbrev pub Steppable : (pack places : List ℕ) (triggers action : ℕ) (chart : List ℕ) (nodes fluents characters : ℕ) (out work : List ℕ) → Type 0
-Steppable pack places triggers action chart nodes fluents characters out work = (p : Theory) × ((T : List Node) × ((actions : ℕ) × Stepping p T pack places actions triggers action chart nodes fluents characters out work))
+abbrev pub Steppable : (pack places : List ℕ) (triggers action : ℕ) (chart : List ℕ) (nodes fluents characters : ℕ)
+    (out work : List ℕ)
+    → Type 0
+Steppable pack places triggers action chart nodes fluents characters out work =
+    (p : Theory) × ((T : List Node)
+    × ((actions : ℕ) × Stepping p T pack places actions triggers action chart nodes fluents characters out work))
 
 -- the answer and the buffers are what the step's outcome says
 pub record StepSaid (o : Outcome) (out work out′ work′ : List ℕ) (r : Charted) : Type 0 where
@@ -36,6 +41,10 @@ pub record StepSaid (o : Outcome) (out work out′ work′ : List ℕ) (r : Char
   pub result : out′ ≡ resultAfter (outcomeReply o) out
   pub scratch : work′ ≡ cleared work
 
-abbrev pub StepPut : (pack places : List ℕ) (triggers action : ℕ) (chart : List ℕ) (nodes fluents characters : ℕ) (out work out′ work′ : List ℕ) (r : Charted) → Type 0
+abbrev pub StepPut : (pack places : List ℕ) (triggers action : ℕ) (chart : List ℕ) (nodes fluents characters : ℕ)
+    (out work out′ work′ : List ℕ) (r : Charted)
+    → Type 0
 StepPut pack places triggers action chart nodes fluents characters out work out′ work′ r =
-    (p : Theory) (T : List Node) (actions : ℕ) → Stepping p T pack places actions triggers action chart nodes fluents characters out work → StepSaid (stepTable p T action) out work out′ work′ r
+    (p : Theory) (T : List Node) (actions : ℕ)
+    → Stepping p T pack places actions triggers action chart nodes fluents characters out work
+    → StepSaid (stepTable p T action) out work out′ work′ r

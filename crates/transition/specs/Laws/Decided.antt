@@ -29,14 +29,20 @@ none? Option.none = yes refl
 none? (Option.some t) = no (λ e. subst IsNone (sym e) tt)
 
 module _ (p : Theory) {s : State} (x : Charting (p .characters) s) where
-  pub quiet-rows : Quiet p s ↔ ((i : ℕ) → i < length (x .rows) → firing (p .triggers) (meaning (p .characters) (x .rows) i) ≡ Option.none)
+  pub quiet-rows : Quiet p s
+      ↔ ((i : ℕ) → i < length (x .rows) → firing (p .triggers) (meaning (p .characters) (x .rows) i) ≡ Option.none)
   quiet-rows =
       let w = x .written .ordered in
-      subst (λ (s : State). Quiet p s ↔ ((i : ℕ) → i < length (x .rows) → firing (p .triggers) (meaning (p .characters) (x .rows) i) ≡ Option.none)) (x .means)
+      subst (λ (s : State). Quiet p s
+      ↔ ((i : ℕ) → i < length (x .rows) → firing (p .triggers) (meaning (p .characters) (x .rows) i) ≡ Option.none))
+      (x .means)
       (quiet p (x .rows) (ordered-reached (p .characters) (x .rows) w) (w .closed) (some (x .rows) (w .whole)))
 
 pub quiet? : (p : Theory) {s : State} → Tabled (p .characters) s → Dec (Quiet p s)
-quiet? p x = let c = chart x in let e = quiet-rows p c in map-dec (e .1) (e .0) (every (λ i. none? (firing (p .triggers) (meaning (p .characters) (c .rows) i))) (length (c .rows)))
+quiet? p x =
+    let c = chart x in let e = quiet-rows p c in
+    map-dec (e .1) (e .0)
+    (every (λ i. none? (firing (p .triggers) (meaning (p .characters) (c .rows) i))) (length (c .rows)))
 
 -- it settles or it stops
 abbrev pub Settled : Theory → ℕ → State → Type 0
@@ -47,7 +53,8 @@ abbrev pub Stepped : Theory → State → ℕ → Type 0
 Stepped p s a = ((t : State) × Tabled (p .characters) t × Plays p s a t) ⊎ ((n : ℕ) × Refuses p s a n)
 
 module _ {p : Theory} where
-  ends : {k : ℕ} {s : State} → Tabled (p .characters) s → ((w : AtMost 32 (p .characters) s) → ¬ Quiet p s → Settled p k s) → Settled p k s
+  ends : {k : ℕ} {s : State} → Tabled (p .characters) s
+      → ((w : AtMost 32 (p .characters) s) → ¬ Quiet p s → Settled p k s) → Settled p k s
   ends {k} {s} x more = go (few? x 32) (quiet? p x)
     where
       go : Dec (AtMost 32 (p .characters) s) → Dec (Quiet p s) → Settled p k s
@@ -58,7 +65,9 @@ module _ {p : Theory} where
   pub settle : {s : State} → Tabled (p .characters) s → (k : ℕ) → Settled p k s
   settle x zero = ends x (λ w q. inr (11, Stops.loud w q))
   settle x (suc k) =
-      ends x (λ w q. ⊎-elim (λ r. inl (r .0, r .1, Settles.again w q (r .2))) (λ r. inr (r .0, Stops.later w q (r .1))) (settle (tabled-round x (p .triggers)) k))
+      ends x (λ w q.
+      ⊎-elim (λ r. inl (r .0, r .1, Settles.again w q (r .2))) (λ r. inr (r .0, Stops.later w q (r .1)))
+      (settle (tabled-round x (p .triggers)) k))
 
   pub step : {s : State} → Tabled (p .characters) s → (a : ℕ) → a < length (p .actions) → Stepped p s a
   step {s} x a h = go (holds s (actionOf p a .condition)) refl
@@ -66,10 +75,13 @@ module _ {p : Theory} where
       go : (b : Bool) → holds s (actionOf p a .condition) ≡ b → Stepped p s a
       go false e = inr (10, Refuses.forbidden e)
       go true e =
-          ⊎-elim (λ r. inl (r .0, r .1, record { there = h; may = e; settles = r .2 })) (λ r. inr (r .0, Refuses.stopped e (r .1))) (settle (tabled-act x (actionOf p a)) 16)
+          ⊎-elim (λ r. inl (r .0, r .1, record { there = h; may = e; settles = r .2 }))
+          (λ r. inr (r .0, Refuses.stopped e (r .1))) (settle (tabled-act x (actionOf p a)) 16)
 
   -- playable, or not
-  pub play? : {s : State} → Tabled (p .characters) s → (a : ℕ) → ((t : State) × Tabled (p .characters) t × Plays p s a t) ⊎ ((t : State) → ¬ Plays p s a t)
+  pub play? : {s : State} → Tabled (p .characters) s → (a : ℕ)
+      → ((t : State) × Tabled (p .characters) t × Plays p s a t) ⊎ ((t : State) → ¬ Plays p s a t)
   play? x a =
-      by-cases (decLt a (length (p .actions))) (λ h. ⊎-elim (λ r. inl r) (λ r. inr (λ t y. plays-refuses y (r .1))) (step x a h))
+      by-cases (decLt a (length (p .actions)))
+      (λ h. ⊎-elim (λ r. inl r) (λ r. inr (λ t y. plays-refuses y (r .1))) (step x a h))
       (λ h. inr (λ t y. h (y .there)))

@@ -20,8 +20,13 @@ use Rattle.transition.specs.Contracts.Cause.{Tabled}
 
 -- an accepted pack has at most 8,192 bytes
 pub short-pack : (pack : List ℕ) (x : Pack) → packOf pack ≡ gives x → length pack ≤ 8192
-short-pack pack x e = by-cases (decLe (length pack) 8192) (λ h. h) (λ h. never-gives (sym (pack-long pack (omega arith)) ∙ e))
+short-pack pack x e =
+    by-cases (decLe (length pack) 8192) (λ h. h) (λ h. never-gives (sym (pack-long pack (omega arith)) ∙ e))
 
 -- nodes that are read and copied into the work buffer, over dimensions that they keep
-pub read-tabled : {d : Dimensions} {bytes work mid : List ℕ} {at end nodes f c : ℕ} {T : List Node} (r : NodesFrom bytes at end nodes f c T) → Over d (readTable r) → workRoom ≤ length work → TableCopied bytes at nodes work mid 0 f c → Tabled d T mid (readTable r)
-read-tabled r over room x = record { over = over; fits = read-fits r room x; same = read-same r x; few = r .few; some = r .some }
+pub read-tabled : {d : Dimensions} {bytes work mid : List ℕ} {at end nodes f c : ℕ} {T : List Node}
+    (r : NodesFrom bytes at end nodes f c T)
+    → Over d (readTable r) → workRoom ≤ length work → TableCopied bytes at nodes work mid 0 f c
+    → Tabled d T mid (readTable r)
+read-tabled r over room x =
+    record { over = over; fits = read-fits r room x; same = read-same r x; few = r .few; some = r .some }

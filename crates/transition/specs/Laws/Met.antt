@@ -1,5 +1,5 @@
--- Each of Step's outcomes is met: an action that may always be played and writes nothing leaves every state as it is, is refused with 11 where a trigger always holds, and with
--- 12 where each further belief is another. Assumes nothing.
+-- Each of Step's outcomes is met: an action that may always be played and writes nothing leaves every state as it is,
+-- is refused with 11 where a trigger always holds, and with 12 where each further belief is another. Assumes nothing.
 use Prim.Native.Nat.{ℕ, zero, suc, _<_, _≤_}
 use mathlib.Core.Path.{_≡_, refl, sym, ap, _∙_, subst, fun-ext}
 use mathlib.Core.Bool.{Bool, true, false, cond}
@@ -13,7 +13,8 @@ use Rattle.pack.specs.Condition.{holds, allPass, write}
 use Rattle.chart.specs.States.{AtMost}
 use Rattle.chart.specs.Laws.Count.{count, all, count-all, count-inj}
 use Rattle.chart.specs.Laws.Lists.{place}
-use Rattle.transition.specs.Happening.{atRoot, change, observes, act, firing, fires, round, Quiet, Settles, Stops, actionOf, Plays, Refuses}
+use Rattle.transition.specs.Happening.{atRoot, change, observes, act, firing, fires, round}
+use Rattle.transition.specs.Happening.{Quiet, Settles, Stops, actionOf, Plays, Refuses}
 
 -- an alternative without tests
 abbrev always : Condition
@@ -44,7 +45,8 @@ module _ (effects : State → List Effect) (takes : State → ℕ → Bool) (non
   unfolding change write
   unchanged s [] = ap (λ (es : List Effect). write 0 es (s [])) (none s)
   unchanged s (c ∷ chain) =
-      ap (λ (es : List Effect). atRoot (write (suc c) es) chain (cond (takes s c) (change effects takes (belief s c) chain) (belief s c chain))) (none s)
+      ap (λ (es : List Effect). atRoot (write (suc c) es) chain
+      (cond (takes s c) (change effects takes (belief s c) chain) (belief s c chain))) (none s)
       ∙ told-nothing c chain (cond (takes s c) (change effects takes (belief s c) chain) (belief s c chain))
       ∙ either (takes s c) (change effects takes (belief s c) chain) (belief s c chain) (unchanged (belief s c) chain)
 
@@ -74,15 +76,20 @@ unfolding Quiet firing holds allPass Valid
 loud s quiet = absurd (never (quiet [] tt))
   where
     never : _≡_ {A = Option Trigger} (some restless) none → ⊥
-    never e = let z : _≡_ {A = ℕ} 1 0 = ap (λ (o : Option Trigger). elim o as (λ o. ℕ) [ none ↦ 0 | some t ↦ 1 ]) e in omega arith
+    never e = let z : _≡_ {A = ℕ} 1 0 = ap (λ (o : Option Trigger). elim o as (λ o. ℕ) [ none ↦ 0 | some t ↦ 1 ]) e in
+        omega arith
 
 -- 11, "a trigger holds after round 16"
 pub restless-stops : (k : ℕ) (s : State) → AtMost 32 1 s → Stops (idling (restless ∷ [])) k s 11
 restless-stops zero s few = Stops.loud few (loud s)
-restless-stops (suc k) s few = Stops.later few (loud s) (subst (λ (x : State). Stops (idling (restless ∷ [])) k x 11) (sym (rests s)) (restless-stops k s few))
+restless-stops (suc k) s few =
+    Stops.later few (loud s)
+    (subst (λ (x : State). Stops (idling (restless ∷ [])) k x 11) (sym (rests s)) (restless-stops k s few))
 
 pub eleven : (s : State) → AtMost 32 1 s → Refuses (idling (restless ∷ [])) s 0 11
-eleven s few = Refuses.stopped (may s) (subst (λ (x : State). Stops (idling (restless ∷ [])) 16 x 11) (sym (idles s)) (restless-stops 16 s few))
+eleven s few =
+    Refuses.stopped (may s)
+    (subst (λ (x : State). Stops (idling (restless ∷ [])) 16 x 11) (sym (idles s)) (restless-stops 16 s few))
 
 -- a state in which all believe what is: one state
 abbrev pub agreed : State
@@ -120,7 +127,8 @@ length-there chain r e =
 pub deepening-many : (n : ℕ) → ¬ AtMost n 1 deepening
 unfolding AtMost
 deepening-many n (reached, few, covers) =
-    let more : count all (suc n) ≤ count all (length reached) = count-inj all all (λ i j. length (getD reached j []) ≡ i) (suc n) (length reached)
+    let more : count all (suc n)
+    ≤ count all (length reached) = count-inj all all (λ i j. length (getD reached j []) ≡ i) (suc n) (length reached)
     (λ i l u. let (r, m, e) = covers (onward i) (onward-valid i) in let (j, in-range, same) = place reached [] r m in
     (j, in-range, tt, ap length same ∙ sym (length-there (onward i) r e) ∙ onward-length i))
     (λ i j k l m u e f. absurd (omega (arith, e, f))) in
@@ -128,4 +136,5 @@ deepening-many n (reached, few, covers) =
 
 -- 12, "over 32 different states"
 pub twelve : Refuses (idling []) deepening 0 12
-twelve = Refuses.stopped (may deepening) (subst (λ (x : State). Stops (idling []) 16 x 12) (sym (idles deepening)) (Stops.many (deepening-many 32)))
+twelve = Refuses.stopped (may deepening)
+    (subst (λ (x : State). Stops (idling []) 16 x 12) (sym (idles deepening)) (Stops.many (deepening-many 32)))

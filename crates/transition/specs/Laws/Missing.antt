@@ -10,4 +10,5 @@ use Rattle.transition.specs.Happening.{nothing, Refuses}
 -- an action that isn't there is refused with 10 by `Refuses` alone, so 9 has to be told apart from it
 pub ten-for-none : (p : Theory) (s : State) (a : ℕ) → length (p .actions) ≤ a → Refuses p s a 10
 unfolding holds
-ten-for-none p s a h = Refuses.forbidden (ap (λ (x : Action). holds s (x .condition)) (List·getD-eq-default (p .actions) nothing h))
+ten-for-none p s a h =
+    Refuses.forbidden (ap (λ (x : Action). holds s (x .condition)) (List·getD-eq-default (p .actions) nothing h))

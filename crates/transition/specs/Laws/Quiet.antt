@@ -20,6 +20,9 @@ module _ (p : Theory) (t : List Node) (reached : (i : ℕ) → i < length t → 
     pub quiet : Quiet p (at 0) ↔ ((i : ℕ) → i < length t → firing (p .triggers) (at i) ≡ Option.none)
     unfolding Quiet
     quiet = (
-      λ q i l. let c = reached i l in ap (firing (p .triggers)) (sym (there (p .characters) t reached i c)) ∙ q (c .0) (c .1),
-      λ f chain v. ap (firing (p .triggers)) (after-walk (p .characters) t chain 0 v) ∙ f (walk t 0 chain) (walk-inside (p .characters) t closed chain 0 some v),
+      λ q i l. let c = reached i l in
+          ap (firing (p .triggers)) (sym (there (p .characters) t reached i c)) ∙ q (c .0) (c .1),
+      λ f chain v.
+          ap (firing (p .triggers)) (after-walk (p .characters) t chain 0 v)
+          ∙ f (walk t 0 chain) (walk-inside (p .characters) t closed chain 0 some v),
     )

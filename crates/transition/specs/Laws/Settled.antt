@@ -52,8 +52,10 @@ pub record Going (p : Theory) (s : State) (left : ℕ) (t : State) : Type 0 wher
 pub going-start : (p : Theory) (s : State) → Going p s 16 s
 going-start p s = record { settles = λ u x. x; stops = λ n x. x }
 
-pub going-on : {p : Theory} {s t : State} {left : ℕ} → Going p s (suc left) t → AtMost 32 (p .characters) t → ¬ Quiet p t → Going p s left (round (p .triggers) t)
-going-on g w q = record { settles = λ u x. g .settles u (Settles.again w q x); stops = λ n x. g .stops n (Stops.later w q x) }
+pub going-on : {p : Theory} {s t : State} {left : ℕ} → Going p s (suc left) t → AtMost 32 (p .characters) t
+    → ¬ Quiet p t → Going p s left (round (p .triggers) t)
+going-on g w q =
+    record { settles = λ u x. g .settles u (Settles.again w q x); stops = λ n x. g .stops n (Stops.later w q x) }
 
 -- what it settles in has at most 32 states
 pub settles-few : (p : Theory) (k : ℕ) (s t : State) → Settles p k s t → AtMost 32 (p .characters) t

@@ -1,4 +1,5 @@
--- Step's function is its relation over chains; it depends on what the table means alone, and what it gives is a table again. Assumes nothing.
+-- Step's function is its relation over chains; it depends on what the table means alone, and what it gives is a table
+-- again. Assumes nothing.
 use Prim.Native.Nat.{ℕ, _≤_}
 use mathlib.Core.Path.{_≡_, refl, sym, subst}
 use mathlib.Core.Logic.{_↔_}
@@ -41,9 +42,13 @@ leaves-only o u e = subst (λ (o : Outcome). IsLeaves o u) (sym e) refl
 
 -- Step gives a chart exactly where the action is playable, and then that of the state it leaves
 pub step-leaves : (p : Theory) (t : List Node) → IsTable (p .characters) t → (a : ℕ) (u : List Node)
-    → (stepTable p t a ≡ leaves u) ↔ (Written (p .characters) u × Plays p (meaning (p .characters) t 0) a (meaning (p .characters) u 0))
+    → (stepTable p t a ≡ leaves u)
+    ↔ (Written (p .characters) u × Plays p (meaning (p .characters) t 0) a (meaning (p .characters) u 0))
 unfolding IsLeaves
-step-leaves p t r a u = (λ e. go (leaves u) (step-table-iff p t r a (leaves u) .1 e) u refl, λ x. step-table-iff p t r a (leaves u) .0 (Steps.left (x .0) (x .1)))
+step-leaves p t r a u = (
+  λ e. go (leaves u) (step-table-iff p t r a (leaves u) .1 e) u refl,
+  λ x. step-table-iff p t r a (leaves u) .0 (Steps.left (x .0) (x .1)),
+)
   where
     Left : List Node → Type 0
     Left u = Written (p .characters) u × Plays p (meaning (p .characters) t 0) a (meaning (p .characters) u 0)
@@ -54,7 +59,8 @@ step-leaves p t r a u = (λ e. go (leaves u) (step-table-iff p t r a (leaves u) 
     go o (Steps.missing l) u e = absurd (leaves-only _ u e)
 
 -- What Step gives is a chart that is read: at most 32 rows, values within their domains
-module _ (p : Pack) (fit : PackFits p) (t : List Node) (h : ChartFits (p .theory .characters) (p .theory .domains) t) (a : ℕ) (u : List Node) (e : stepTable (p .theory) t a ≡ leaves u) where
+module _ (p : Pack) (fit : PackFits p) (t : List Node) (h : ChartFits (p .theory .characters) (p .theory .domains) t)
+    (a : ℕ) (u : List Node) (e : stepTable (p .theory) t a ≡ leaves u) where
   abbrev C : ℕ
   C = p .theory .characters
 
@@ -64,7 +70,10 @@ module _ (p : Pack) (fit : PackFits p) (t : List Node) (h : ChartFits (p .theory
   pub step-few : length u ≤ 32
   step-few =
       let w = left .0 .ordered in
-      counted C u (ordered-reached C u w) (w .closed) (some u (w .whole)) (left .0 .apart) 32 .0 (settles-few (p .theory) 16 _ (meaning C u 0) (left .1 .settles))
+      counted C u (ordered-reached C u w) (w .closed) (some u (w .whole)) (left .0 .apart) 32 .0
+      (settles-few (p .theory) 16 _ (meaning C u 0) (left .1 .settles))
 
   pub step-fits : ChartFits C (p .theory .domains) u
-  step-fits = written-fits C (p .theory .domains) u (left .0) (valued-plays p fit (meaning C t 0) a (meaning C u 0) (left .1) (fits-everywhere C (p .theory .domains) t h)) step-few
+  step-fits = written-fits C (p .theory .domains) u (left .0)
+      (valued-plays p fit (meaning C t 0) a (meaning C u 0) (left .1) (fits-everywhere C (p .theory .domains) t h))
+      step-few

@@ -16,7 +16,8 @@ use Rattle.transition.specs.Laws.Decided.{step}
 use Rattle.transition.specs.Laws.Settled.{plays-one, plays-refuses, refuses-one}
 
 pub steps-one : {p : Theory} {s : State} {a : ℕ} {r r′ : Outcome} → Steps p s a r → Steps p s a r′ → r ≡ r′
-steps-one {p} (Steps.left {rows = t} w x) (Steps.left {rows = u} v y) = ap leaves (unique (p .characters) t u w v (plays-one x y))
+steps-one {p} (Steps.left {rows = t} w x) (Steps.left {rows = u} v y) =
+    ap leaves (unique (p .characters) t u w v (plays-one x y))
 steps-one (Steps.left w x) (Steps.failed l y) = absurd (plays-refuses x y)
 steps-one (Steps.left w x) (Steps.missing l) = absurd (omega (arith, x .there))
 steps-one (Steps.failed l y) (Steps.left w x) = absurd (plays-refuses x y)
@@ -30,7 +31,9 @@ module _ (p : Theory) where
   stepping : {s : State} → Tabled (p .characters) s → (a : ℕ) → (r : Outcome) × Steps p s a r
   stepping {s} x a =
       by-cases (decLt a (length (p .actions)))
-      (λ h. ⊎-elim (λ r. let c = chart (r .1) in (leaves (c .rows), Steps.left (c .written) (subst (λ (t : State). Plays p s a t) (sym (c .means)) (r .2)))) (λ r. (refused (r .0), Steps.failed h (r .1))) (step x a h))
+      (λ h. ⊎-elim (λ r. let c = chart (r .1) in
+      (leaves (c .rows), Steps.left (c .written) (subst (λ (t : State). Plays p s a t) (sym (c .means)) (r .2))))
+      (λ r. (refused (r .0), Steps.failed h (r .1))) (step x a h))
       (λ h. (refused 9, Steps.missing (omega arith)))
 
   pub stepOf : {s : State} → Tabled (p .characters) s → ℕ → Outcome

@@ -1,4 +1,5 @@
--- A fluent that no effect writes in a state itself keeps its value there: through an action, the rounds after it, and all that is judged of it. Assumes nothing.
+-- A fluent that no effect writes in a state itself keeps its value there: through an action, the rounds after it, and
+-- all that is judged of it. Assumes nothing.
 use Prim.Native.Nat.{ℕ, _≤_}
 use mathlib.Core.Path.{_≡_, refl, sym, ap, _∙_, subst}
 use mathlib.Core.Bool.{Bool, true, false, cond, _&&_, _||_}
@@ -35,17 +36,20 @@ either-false false b e = (refl, e)
 none-of : {a b : Bool} → a ≡ false → b ≡ false → (a || b) ≡ false
 none-of {a} {b} e f = subst (λ (a : Bool). (a || b) ≡ false) (sym e) f
 
-write-still : (es : List Effect) (f : ℕ) (values : List ℕ) → writes es f ≡ false → getD (write 0 es values) f 0 ≡ getD values f 0
+write-still : (es : List Effect) (f : ℕ) (values : List ℕ) → writes es f ≡ false
+    → getD (write 0 es values) f 0 ≡ getD values f 0
 unfolding write someOf
 write-still [] f values e = refl
 write-still (e ∷ es) f values z =
     let (here, rest) = either-false (eqb (e .whom) 0 && eqb (e .fluent) f) (writes es f) z in
-    write-still es f (cond (eqb (e .whom) 0) (set values (e .fluent) (e .value)) values) rest ∙ go (eqb (e .whom) 0) here
+    write-still es f (cond (eqb (e .whom) 0) (set values (e .fluent) (e .value)) values) rest
+    ∙ go (eqb (e .whom) 0) here
   where
     other : eqb (e .fluent) f ≡ false → f ≡ e .fluent → ⊥
     other q z = eqb-false (e .fluent) f q (sym z)
 
-    go : (b : Bool) → (b && eqb (e .fluent) f) ≡ false → getD (cond b (set values (e .fluent) (e .value)) values) f 0 ≡ getD values f 0
+    go : (b : Bool) → (b && eqb (e .fluent) f) ≡ false
+        → getD (cond b (set values (e .fluent) (e .value)) values) f 0 ≡ getD values f 0
     go true q = getD-set-other values (e .fluent) f (e .value) 0 (other q)
     go false q = refl
 
@@ -57,21 +61,29 @@ fires-still (t ∷ ts) s f e =
     let (here, rest) = either-false (writes (t .effects) f) (triggerWrites ts f) e in
     go (holds s (t .condition)) here (fires-still ts s f rest)
   where
-    go : (b : Bool) → writes (t .effects) f ≡ false → writes (effectsOf (firing ts s)) f ≡ false → writes (effectsOf (cond b (some t) (firing ts s))) f ≡ false
+    go : (b : Bool) → writes (t .effects) f ≡ false → writes (effectsOf (firing ts s)) f ≡ false
+        → writes (effectsOf (cond b (some t) (firing ts s))) f ≡ false
     go true x y = x
     go false x y = y
 
-settles-still : (p : Theory) (f : ℕ) → triggerWrites (p .triggers) f ≡ false → (k : ℕ) (s t : State) → Settles p k s t → getD (t []) f 0 ≡ getD (s []) f 0
+settles-still : (p : Theory) (f : ℕ) → triggerWrites (p .triggers) f ≡ false → (k : ℕ) (s t : State) → Settles p k s t
+    → getD (t []) f 0 ≡ getD (s []) f 0
 unfolding round change
 settles-still p f e k s t (Settles.still w q) = refl
-settles-still p f e k s t (Settles.again {k = j} w q r) = settles-still p f e j (round (p .triggers) s) t r ∙ write-still (fires (p .triggers) s) f (s []) (fires-still (p .triggers) s f e)
+settles-still p f e k s t (Settles.again {k = j} w q r) =
+    settles-still p f e j (round (p .triggers) s) t r
+    ∙ write-still (fires (p .triggers) s) f (s []) (fires-still (p .triggers) s f e)
 
 -- what an action leaves has it as it was
-pub plays-still : (p : Theory) (s : State) (a : ℕ) (t : State) → Plays p s a t → (f : ℕ) → writes (actionOf p a .effects) f ≡ false → triggerWrites (p .triggers) f ≡ false → getD (t []) f 0 ≡ getD (s []) f 0
+pub plays-still : (p : Theory) (s : State) (a : ℕ) (t : State) → Plays p s a t → (f : ℕ)
+    → writes (actionOf p a .effects) f ≡ false → triggerWrites (p .triggers) f ≡ false
+    → getD (t []) f 0 ≡ getD (s []) f 0
 unfolding act change
-plays-still p s a t x f own later = settles-still p f later 16 (act (actionOf p a) s) t (x .settles) ∙ write-still (actionOf p a .effects) f (s []) own
+plays-still p s a t x f own later =
+    settles-still p f later 16 (act (actionOf p a) s) t (x .settles) ∙ write-still (actionOf p a .effects) f (s []) own
 
--- What could pass, hold and be exceeded, where `moves` says of which fluents the own values are open; what is believed is open too
+-- What could pass, hold and be exceeded, where `moves` says of which fluents the own values are open; what is believed
+-- is open too
 module _ (moves : ℕ → Bool) (s : State) where
   unfoldable pub couldAt : List ℕ → Test → Bool
   couldAt [] x = moves (x .fluent) || compares (x .kind) (getD (s []) (x .fluent) 0) (x .value)
@@ -94,7 +106,8 @@ module _ (moves : ℕ → Bool) (s : State) where
 
   -- none of it in a state whose own values are the same where they are not open
   module _ (t : State) (same : (f : ℕ) → moves f ≡ false → getD (t []) f 0 ≡ getD (s []) f 0) where
-    no-at : (chain : List ℕ) (x : Test) → couldAt chain x ≡ false → compares (x .kind) (getD (t chain) (x .fluent) 0) (x .value) ≡ false
+    no-at : (chain : List ℕ) (x : Test) → couldAt chain x ≡ false
+        → compares (x .kind) (getD (t chain) (x .fluent) 0) (x .value) ≡ false
     unfolding couldAt
     no-at [] x e =
         let (m, q) = either-false (moves (x .fluent)) (compares (x .kind) (getD (s []) (x .fluent) 0) (x .value)) e in
@@ -110,7 +123,8 @@ module _ (moves : ℕ → Bool) (s : State) where
     no-all [] e = absurd (unequal e)
     no-all (x ∷ ts) e = go (couldPass x) (passes t x) (no-pass x) (no-all ts) e
       where
-        go : (a b : Bool) → (a ≡ false → b ≡ false) → (couldAll ts ≡ false → allPass t ts ≡ false) → (a && couldAll ts) ≡ false → (b && allPass t ts) ≡ false
+        go : (a b : Bool) → (a ≡ false → b ≡ false) → (couldAll ts ≡ false → allPass t ts ≡ false)
+            → (a && couldAll ts) ≡ false → (b && allPass t ts) ≡ false
         go a false f g e = refl
         go true true f g e = g e
         go false true f g e = absurd (unequal (f refl))
@@ -126,10 +140,13 @@ module _ (moves : ℕ → Bool) (s : State) where
     unfolding couldExceed utility
     no-exceed base [] e = omega arith
     no-exceed base (r ∷ rules) e =
-        let (first, rest) = either-false (ltb base (r .utility) && couldHold (r .condition)) (couldExceed base rules) e in
+        let (first, rest) = either-false (ltb base (r .utility) && couldHold (r .condition))
+        (couldExceed base rules) e in
         go (holds t (r .condition)) refl (ltb base (r .utility)) refl first (no-exceed base rules rest)
       where
-        go : (h : Bool) → holds t (r .condition) ≡ h → (l : Bool) → ltb base (r .utility) ≡ l → (l && couldHold (r .condition)) ≡ false → utility t rules ≤ base → cond h (r .utility) (utility t rules) ≤ base
+        go : (h : Bool) → holds t (r .condition) ≡ h → (l : Bool) → ltb base (r .utility) ≡ l
+            → (l && couldHold (r .condition)) ≡ false → utility t rules ≤ base
+            → cond h (r .utility) (utility t rules) ≤ base
         go false q l m first more = more
         go true q false m first more = ltb-false base (r .utility) m
         go true q true m first more = absurd (unequal (sym q ∙ no-hold (r .condition) first))

@@ -3,7 +3,8 @@ use Prim.Native.Nat.{ℕ, zero, suc, _<_, _≤_}
 use mathlib.Core.Path.{_≡_, refl, sym, ap, subst}
 use mathlib.Core.Bool.{Bool, true, false, cond}
 use mathlib.Core.Logic.{⊎-elim}
-use mathlib.Core.List.{List, [], _∷_, _++_, map, List·Memᴰ, List·Memᴰ·head, List·Memᴰ·tail, List·Memᴰ·cases-cons, List·Memᴰ·append-cases, Memᴰ·append-left, Memᴰ·append-right}
+use mathlib.Core.List.{List, [], _∷_, _++_, map, List·Memᴰ, List·Memᴰ·head, List·Memᴰ·tail}
+use mathlib.Core.List.{List·Memᴰ·cases-cons, List·Memᴰ·append-cases, Memᴰ·append-left, Memᴰ·append-right}
 use lib.ListN.{length}
 use native.Mathlib.Nat.{eq-or-lt-of-le, le-of-suc-le-suc}
 use native.Mathlib.Omega.{arith}
@@ -15,7 +16,8 @@ use Rattle.chart.specs.Laws.Tabled.{enumerated, tabled-same, Tabled}
 use Rattle.transition.specs.Happening.{act, change, fires, observes, round}
 use Rattle.transition.specs.Laws.Changed.{Member, acted, edge, old, There, next, changed, all-told}
 
--- the members of a change in which every row that takes part is said to tell its characters something: the first row, every edge, every old row
+-- the members of a change in which every row that takes part is said to tell its characters something: the first row,
+-- every edge, every old row
 edges : ℕ → ℕ → List Member
 edges C zero = []
 edges C (suc m) = map (edge m) (below C) ++ edges C m
@@ -24,8 +26,10 @@ edges-in : (C n m c : ℕ) → m < n → c < C → List·Memᴰ (edge m c) (edge
 unfolding edges
 edges-in C zero m c h g = absurd (omega arith)
 edges-in C (suc n) m c h g =
-    ⊎-elim (λ (e : m ≡ n). Memᴰ·append-left (edges C n) (subst (λ (x : ℕ). List·Memᴰ (edge m c) (map (edge x) (below C))) e (map-in (edge m) (below C) c (below-in C c g))))
-    (λ (l : m < n). Memᴰ·append-right (map (edge n) (below C)) (edges-in C n m c l g)) (eq-or-lt-of-le (le-of-suc-le-suc h))
+    ⊎-elim (λ (e : m ≡ n). Memᴰ·append-left (edges C n)
+    (subst (λ (x : ℕ). List·Memᴰ (edge m c) (map (edge x) (below C))) e (map-in (edge m) (below C) c (below-in C c g))))
+    (λ (l : m < n). Memᴰ·append-right (map (edge n) (below C)) (edges-in C n m c l g))
+    (eq-or-lt-of-le (le-of-suc-le-suc h))
 
 module _ (C N : ℕ) where
   In : Member → Type 0
@@ -37,8 +41,10 @@ module _ (C N : ℕ) where
   unfolding edges In
   edges-out zero h k m = elim m [ ]
   edges-out (suc n) h k m =
-      ⊎-elim (λ (m : List·Memᴰ k (map (edge n) (below C))). let (c, i, e) = map-out (edge n) (below C) k m in subst In (sym e) (h, below-out C c i))
-      (λ (m : List·Memᴰ k (edges C n)). edges-out n (omega arith) k m) (List·Memᴰ·append-cases (map (edge n) (below C)) m)
+      ⊎-elim (λ (m : List·Memᴰ k (map (edge n) (below C))). let (c, i, e) = map-out (edge n) (below C) k m in
+      subst In (sym e) (h, below-out C c i))
+      (λ (m : List·Memᴰ k (edges C n)). edges-out n (omega arith) k m)
+      (List·Memᴰ·append-cases (map (edge n) (below C)) m)
 
   rest : List Member
   rest = map old (below N) ++ edges C N
@@ -47,8 +53,10 @@ module _ (C N : ℕ) where
   unfolding In rest
   listed k m =
       ⊎-elim (λ (e : k ≡ acted 0). subst In (sym e) refl)
-      (λ (m : List·Memᴰ k rest). ⊎-elim (λ (m : List·Memᴰ k (map old (below N))). let (n, i, e) = map-out old (below N) k m in subst In (sym e) (below-out N n i))
-      (λ (m : List·Memᴰ k (edges C N)). edges-out N (omega arith) k m) (List·Memᴰ·append-cases (map old (below N)) m)) (List·Memᴰ·cases-cons m)
+      (λ (m : List·Memᴰ k rest). ⊎-elim (λ (m : List·Memᴰ k (map old (below N))).
+      let (n, i, e) = map-out old (below N) k m in subst In (sym e) (below-out N n i))
+      (λ (m : List·Memᴰ k (edges C N)). edges-out N (omega arith) k m) (List·Memᴰ·append-cases (map old (below N)) m))
+      (List·Memᴰ·cases-cons m)
 
   whole : (k : Member) → In k → List·Memᴰ k (acted 0 ∷ rest)
   unfolding In rest
@@ -56,7 +64,8 @@ module _ (C N : ℕ) where
   whole (edge m c) h = List·Memᴰ·tail (Memᴰ·append-right (map old (below N)) (edges-in C N m c (h .0) (h .1)))
   whole (old m) h = List·Memᴰ·tail (Memᴰ·append-left (edges C N) (map-in old (below N) m (below-in N m h)))
 
-module _ (C : ℕ) (t : List Node) (closed : Closed C t) (some : 0 < length t) (effects : State → List Effect) (takes : State → ℕ → Bool) where
+module _ (C : ℕ) (t : List Node) (closed : Closed C t) (some : 0 < length t) (effects : State → List Effect)
+    (takes : State → ℕ → Bool) where
   abbrev always : ℕ → ℕ → Bool
   always m d = true
 
@@ -75,14 +84,19 @@ module _ (C : ℕ) (t : List Node) (closed : Closed C t) (some : 0 < length t) (
   has-next (edge m c) h d l =
       let n = target t m c in
       let ln : n < length t = closed m c (h .0) (h .1) in
-      elim (takes (meaning C t m) c) as (λ b. Has (cond b (edge n d) (old (target t n d)))) [ true ↦ (ln, l) | false ↦ closed n d ln l ]
+      elim (takes (meaning C t m) c) as (λ b. Has (cond b (edge n d) (old (target t n d))))
+      [ true ↦ (ln, l) | false ↦ closed n d ln l ]
   has-next (old m) h d l = closed m d h l
 
   tabled-there : Tabled C (change effects takes (meaning C t 0))
-  tabled-there = enumerated C (changed effects takes C t always (all-told effects takes C t)) Has has-real has-next (acted 0) (rest C (length t)) (listed C (length t)) (whole C (length t))
+  tabled-there =
+      enumerated C (changed effects takes C t always (all-told effects takes C t)) Has has-real has-next (acted 0)
+      (rest C (length t)) (listed C (length t)) (whole C (length t))
 
-tabled-change : {C : ℕ} {s : State} → Tabled C s → (effects : State → List Effect) (takes : State → ℕ → Bool) → Tabled C (change effects takes s)
-tabled-change {C} x effects takes = tabled-same (ap (change effects takes) (x .means)) (tabled-there C (x .table) (x .closed) (x .some) effects takes)
+tabled-change : {C : ℕ} {s : State} → Tabled C s → (effects : State → List Effect) (takes : State → ℕ → Bool)
+    → Tabled C (change effects takes s)
+tabled-change {C} x effects takes =
+    tabled-same (ap (change effects takes) (x .means)) (tabled-there C (x .table) (x .closed) (x .some) effects takes)
 
 pub tabled-act : {C : ℕ} {s : State} → Tabled C s → (a : Action) → Tabled C (act a s)
 unfolding act

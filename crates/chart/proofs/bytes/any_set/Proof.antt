@@ -22,9 +22,11 @@ abbrev μ-loop : tie.MeasureT-loop
 
 loop-again : tie.Need-loop-again Inv-loop μ-loop
 loop-again c =
-    let l = c .before .before .loop in
-    let a = c .before .before .before .args .a in
-    let work = c .before .before .before .args .work .now in
+    let at-loop = c .before .before in
+    let start = at-loop .before in
+    let l = at-loop .loop in
+    let a = start .args .a in
+    let work = start .args .work .now in
     (omega arith, λ e. let (before, here) = or-none (l .seen) (getD work (a + l .i) 0) e in below-more (λ q. getD work (a + q) 0 ≡ 0) (l .i) (l .inv .1 before) here)
 
 returns : tie.Need-returns Inv-loop μ-loop

@@ -19,7 +19,11 @@ loop-again : tie.Need-loop-again Inv-loop μ-loop
 loop-again c = let l = c .before .loop in (omega arith, simp length-set (l .inv .1), cleared-more _ _ _ _ (l .inv .2) (omega arith))
 
 returns : tie.Need-returns Inv-loop μ-loop
-returns c = let l = c .before .loop in let e : l .i ≡ c .before .before .args .k = omega arith in rw e at (l .inv .2)
+returns c =
+    let start = c .before .before in
+    let l = c .before .loop in
+    let e : l .i ≡ start .args .k = omega arith in
+    rw e at (l .inv .2)
 
 pub clear-spec : {M : Type 1} → statement M
 clear-spec =

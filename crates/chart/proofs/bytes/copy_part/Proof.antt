@@ -16,10 +16,17 @@ abbrev μ-loop : tie.MeasureT-loop
 μ-loop work₀ a b f k₀ work k = f - k
 
 loop-again : tie.Need-loop-again Inv-loop μ-loop
-loop-again c = let l = c .before .before .loop in (omega arith, simp length-set (l .inv .1), part-more _ _ _ _ _ (l .inv .2) (omega arith) (omega arith))
+loop-again c =
+    let at-loop = c .before .before in
+    let l = at-loop .loop in
+    (omega arith, simp length-set (l .inv .1), part-more _ _ _ _ _ (l .inv .2) (omega arith) (omega arith))
 
 returns : tie.Need-returns Inv-loop μ-loop
-returns c = let l = c .before .loop in let e : l .k ≡ c .before .before .args .f = omega arith in rw e at (l .inv .2)
+returns c =
+    let start = c .before .before in
+    let l = c .before .loop in
+    let e : l .k ≡ start .args .f = omega arith in
+    rw e at (l .inv .2)
 
 pub copy-part-spec : {M : Type 1} → statement M
 copy-part-spec =

@@ -16,14 +16,20 @@ abbrev μ-loop : tie.MeasureT-loop
 μ-loop work₀ a k i₀ work i = k - i
 
 loop-again : tie.Need-loop-again Inv-loop μ-loop
-loop-again c = let l = c .before .before .before .before .before .loop in (omega arith, c .before .before .sweep-part .kept .0 ∙ l .inv .1, cleared-on _ _ _ _ _ _ (l .inv .2) (c .before .before .sweep-part .ensures))
+loop-again c =
+    let at-sweep-part = c .before .before in
+    let at-loop = at-sweep-part .before .before .before in
+    let l = at-loop .loop in
+    (omega arith, at-sweep-part .sweep-part .kept .0 ∙ l .inv .1, cleared-on _ _ _ _ _ _ (l .inv .2) (at-sweep-part .sweep-part .ensures))
 
 returns : tie.Need-returns Inv-loop μ-loop
 returns c =
-    let start = c .before .before .before .before .before .before .before in
-    let l = c .before .before .before .before .before .loop in
+    let at-clear = c .before .before in
+    let at-loop = at-clear .before .before .before in
+    let start = at-loop .before .before in
+    let l = at-loop .loop in
     let e : l .i + (start .args .k - l .i) ≡ start .args .k = omega arith in
-    subst (λ (k : ℕ). Cleared (start .args .work .now) (c .before .before .clear .last .0) (start .args .a) k) e (cleared-on _ _ _ _ _ _ (l .inv .2) (c .before .before .clear .ensures))
+    subst (λ (k : ℕ). Cleared (start .args .work .now) (at-clear .clear .last .0) (start .args .a) k) e (cleared-on _ _ _ _ _ _ (l .inv .2) (at-clear .clear .ensures))
 
 pub sweep-spec : {M : Type 1} → statement M
 sweep-spec =
@@ -34,12 +40,19 @@ sweep-spec =
     (λ c. (search needs, search needs, cleared-none _ _))
     (λ c. search needs)
     (λ c. omega arith)
-    (λ c κs. omega (arith, c .before .before .loop .inv .1))
+    (λ c κs.
+    let at-loop = c .before .before in
+    omega (arith, at-loop .loop .inv .1))
     (λ c. omega arith)
     (λ c. omega arith)
     loop-again
     (λ c. omega arith)
     (λ c. search needs)
-    (λ c κs. omega (arith, c .before .before .loop .inv .1))
-    (λ c. c .before .before .clear .kept .0 ∙ c .before .before .before .before .before .loop .inv .1)
+    (λ c κs.
+    let at-loop = c .before .before in
+    omega (arith, at-loop .loop .inv .1))
+    (λ c.
+    let at-clear = c .before .before in
+    let at-loop = at-clear .before .before .before in
+    at-clear .clear .kept .0 ∙ at-loop .loop .inv .1)
     returns)

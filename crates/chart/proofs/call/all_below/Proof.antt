@@ -17,13 +17,22 @@ abbrev μ-loop : tie.MeasureT-loop
 
 loop-again : tie.Need-loop-again Inv-loop μ-loop
 loop-again c =
-    let a = c .before .before .before .before .before .before .args in
-    (search needs, below-more (λ j. getD (a .chain .now) j 0 < a .characters) (c .before .before .before .before .loop .i) (c .before .before .before .before .loop .inv .1) (omega (arith, c .if1 .left, c .before .wide .ensures)))
+    let at-loop = c .before .before .before .before in
+    let start = at-loop .before .before in
+    let a = start .args in
+    (search needs, below-more (λ j. getD (a .chain .now) j 0 < a .characters) (at-loop .loop .i) (at-loop .loop .inv .1) (omega (arith, c .if1 .left, c .before .wide .ensures)))
 
 pub all-below-spec : {M : Type 1} → statement M
 all-below-spec =
     tie.close
     (tie.spec Inv-loop μ-loop (λ c. (search needs, λ j h. absurd (omega arith))) (λ c. search needs) (λ c κs. search needs)
-    (λ c. let a = c .before .before .before .before .before .before .args in sym (not-below (a .characters) (a .chain .now) (c .before .before .before .before .loop .i) (c .before .before .before .loop-test .taken) (omega (arith, c .if1 .taken, c .before .wide .ensures))))
+    (λ c.
+    let turn = c .before .before .before in
+    let at-loop = turn .before in
+    let start = at-loop .before .before in
+    let a = start .args in
+    sym (not-below (a .characters) (a .chain .now) (at-loop .loop .i) (turn .loop-test .taken) (omega (arith, c .if1 .taken, c .before .wide .ensures))))
     (λ c. search needs) (λ c. search needs) loop-again
-    (λ c. sym (all-there (c .before .before .before .args .characters) (c .before .before .before .args .chain .now) (λ j h. c .before .loop .inv .1 j (omega (arith, c .loop-test .left))))))
+    (λ c.
+    let start = c .before .before .before in
+    sym (all-there (start .args .characters) (start .args .chain .now) (λ j h. c .before .loop .inv .1 j (omega (arith, c .loop-test .left))))))

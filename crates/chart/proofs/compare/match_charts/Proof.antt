@@ -7,17 +7,30 @@ use Rattle.chart.proofs.compare.match_charts.Statement.{statement}
 use Rattle.chart.proofs.compare.match_charts.Tie as tie
 
 match-rows-requires : tie.Need-match-rows-requires
-match-rows-requires c κs = let p = c .before .before .before .before .before .before .before .before .before .before .pre in let x = c .before .before .before .before .join in charts-matchable (p .0) (x .ensures) (x .kept .1 .1 .1 .1 .1 .1 .0) _ (p .1)
+match-rows-requires c κs =
+    let at-join = c .before .before .before .before in
+    let start = at-join .before .before .before .before .before .before in
+    let p = start .pre in
+    let x = at-join .join in
+    charts-matchable (p .0) (x .ensures) (x .kept .1 .1 .1 .1 .1 .1 .0) _ (p .1)
 
 clear-requires : tie.Need-clear-requires
-clear-requires c κs = omega (arith, c .before .before .before .before .before .before .before .before .before .before .before .before .before .before .before .before .pre .0 .room, c .before .before .before .before .before .before .before .before .before .before .join .kept .1 .1 .1 .1 .1 .1 .0, c .before .before .before .before .before .match-rows .kept .0)
+clear-requires c κs =
+    let at-match-rows = c .before .before .before .before .before in
+    let at-join = at-match-rows .before .before .before .before .before in
+    let start = at-join .before .before .before .before .before .before in
+    omega (arith, start .pre .0 .room, at-join .join .kept .1 .1 .1 .1 .1 .1 .0, at-match-rows .match-rows .kept .0)
 
 returns : tie.Need-returns
 returns c =
-    let p = c .before .before .before .before .before .before .before .before .before .before .before .before .before .before .before .before .before .before .before .pre in
-    let x = c .before .before .before .before .before .before .before .before .before .before .before .before .before .join in
-    let y = c .before .before .before .before .before .before .before .before .match-rows in
-    let z = c .before .before .clear in
+    let at-clear = c .before .before in
+    let at-match-rows = at-clear .before .before .before .before .before .before in
+    let at-join = at-match-rows .before .before .before .before .before in
+    let start = at-join .before .before .before .before .before .before in
+    let p = start .pre in
+    let x = at-join .join in
+    let y = at-match-rows .match-rows in
+    let z = at-clear .clear in
     let long = x .kept .1 .1 .1 .1 .1 .1 .0 in
     charts-matched (p .0) (x .ensures) long (y .ensures) (z .ensures) (z .kept .0 ∙ y .kept .0 ∙ long)
 

@@ -16,21 +16,30 @@ abbrev μ-loop : tie.MeasureT-loop
 μ-loop work₀ from to k n c d₀ work d = c - d
 
 -- the belief names a row
-below : (c : tie.After-wide Inv-loop μ-loop) → c .wide .result < c .before .before .before .before .before .args .n
+below : (c : tie.After-wide Inv-loop μ-loop) →
+    let start = c .before .before .before .before .before in
+    c .wide .result < start .args .n
 below c =
-    let l = c .before .before .before .loop in
-    let s = c .before .before .before .before .before in
-    let h : l .d < s .args .c = c .before .before .loop-test .taken in
-    omega (arith, c .wide .ensures, l .inv .2 .low (s .args .from + l .d) (omega arith), s .pre .1 (l .d) h)
+    let turn = c .before .before in
+    let at-loop = turn .before in
+    let start = at-loop .before .before in
+    let l = at-loop .loop in
+    let h : l .d < start .args .c = turn .loop-test .taken in
+    omega (arith, c .wide .ensures, l .inv .2 .low (start .args .from + l .d) (omega arith), start .pre .1 (l .d) h)
 
 loop-again : tie.Need-loop-again Inv-loop μ-loop
 loop-again c =
-    let w = c .before in
-    let l = w .before .before .before .loop in
-    (omega arith, simp length-set (l .inv .1), mapped-more _ _ (l .inv .2) (sym (w .wide .ensures)) refl (omega arith) (omega (arith, below w)) (omega arith))
+    let at-wide = c .before in
+    let at-loop = at-wide .before .before .before in
+    let l = at-loop .loop in
+    (omega arith, simp length-set (l .inv .1), mapped-more _ _ (l .inv .2) (sym (at-wide .wide .ensures)) refl (omega arith) (omega (arith, below at-wide)) (omega arith))
 
 returns : tie.Need-returns Inv-loop μ-loop
-returns c = let l = c .before .loop in let e : l .d ≡ c .before .before .before .args .c = omega arith in rw e at (l .inv .2)
+returns c =
+    let start = c .before .before .before in
+    let l = c .before .loop in
+    let e : l .d ≡ start .args .c = omega arith in
+    rw e at (l .inv .2)
 
 pub map-part-spec : {M : Type 1} → statement M
 map-part-spec =

@@ -21,24 +21,30 @@ place s h =
     )
 
 -- the class is new
-first : (c : tie.Else1) → let a = c .before .before .before .before .args in
+first : (c : tie.Else1) →
+    let start = c .before .before .before .before in
+    let a = start .args in
     a .count ≤ getD (a .work .now) (a .k + a .i) 0
 first c = omega (arith, c .if1 .left, c .before .wide .ensures)
 
 -- so there is room for its row
-fits : (c : tie.Else1) → let a = c .before .before .before .before .args in
+fits : (c : tie.Else1) →
+    let start = c .before .before .before .before in
+    let a = start .args in
     (a .t .rows + a .i * a .t .width + a .t .width ≤ a .k) ×
     (a .u + a .count * a .t .width + a .t .width ≤ length (a .work .now))
-fits c = place (c .before .before .before .before) (first c)
+fits c =
+    let start = c .before .before .before .before in
+    place start (first c)
 
 put-row-requires : tie.Need-put-row-requires
 put-row-requires c κs =
     let new = c .before .before .before .before in
-    let s = new .before .before .before .before in
+    let start = new .before .before .before .before in
     let (x, y) = fits new in
-    let room = s .pre .0 in (
+    let room = start .pre .0 in (
       (omega (arith, room), omega (arith, room), omega (arith, room)),
-      λ d l. s .pre .1 .0 .beliefs (s .args .i) d (s .pre .1 .1 .0) l,
+      λ d l. start .pre .1 .0 .beliefs (start .args .i) d (start .pre .1 .1 .0) l,
     )
 
 returns : tie.Need-returns
@@ -48,8 +54,9 @@ returns-2 : tie.Need-returns-2
 returns-2 c =
     let put = c .before .before in
     let new = put .before .before .before .before .before in
+    let at-wide = new .before in
     record {
-      again = λ h. absurd (omega (arith, new .before .wide .ensures, new .if1 .left));
+      again = λ h. absurd (omega (arith, at-wide .wide .ensures, new .if1 .left));
       new = λ h. (refl, put .put-row .ensures);
     }
 
@@ -57,8 +64,18 @@ pub write-class-spec : {M : Type 1} → statement M
 write-class-spec =
     tie.close
     (tie.spec (λ c. search needs) (λ c. search needs) (λ c κs. search needs) returns
-    (λ c. let new = c .before .before in omega (arith, fits new, new .before .before .before .before .pre .0))
-    (λ c. let new = c .before .before .before in omega (arith, fits new, new .before .before .before .before .pre .0))
-    (λ c. omega (arith, fits (c .before .before .before .before)))
-    (λ c. omega (arith, fits (c .before .before .before .before)))
+    (λ c.
+    let new = c .before .before in
+    let start = new .before .before .before .before in
+    omega (arith, fits new, start .pre .0))
+    (λ c.
+    let new = c .before .before .before in
+    let start = new .before .before .before .before in
+    omega (arith, fits new, start .pre .0))
+    (λ c.
+    let at-if1 = c .before .before .before .before in
+    omega (arith, fits at-if1))
+    (λ c.
+    let at-if1 = c .before .before .before .before in
+    omega (arith, fits at-if1))
     put-row-requires (λ c. search needs) (λ c. search needs) returns-2)

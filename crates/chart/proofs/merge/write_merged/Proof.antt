@@ -18,9 +18,10 @@ abbrev μ-loop : tie.MeasureT-loop
 
 write-class-requires : tie.Need-write-class-requires Inv-loop μ-loop
 write-class-requires c κs =
-    let turn = c .before .before .before in
-    let (room, classed) = turn .before .before .pre in
-    let l = turn .loop .inv in
+    let at-loop = c .before .before .before in
+    let start = at-loop .before .before in
+    let (room, classed) = start .pre in
+    let l = at-loop .loop .inv in
     let sound = sound-below room (ordered-sound (classed .ordered)) (l .2 .low) in
     (room-same room (l .1) (l .2 .low), (sound, (c .before .if1 .taken, omega (arith, l .2 .few))))
 
@@ -28,18 +29,19 @@ loop-again : tie.Need-loop-again Inv-loop μ-loop
 loop-again c =
     let put = c .before .before in
     let test = put .before .before in
-    let turn = test .before .before in
-    let (room, classed) = turn .before .before .pre in
-    let l = turn .loop .inv in
+    let at-loop = test .before .before in
+    let start = at-loop .before .before in
+    let (room, classed) = start .pre in
+    let l = at-loop .loop .inv in
     let more = writing-more room (ordered-sound (classed .ordered)) (classed .numbered) (test .if1 .taken) in
     (omega arith, put .write-class .kept .0 ∙ l .1, more (l .2) (put .write-class .ensures))
 
 returns : tie.Need-returns Inv-loop μ-loop
 returns c =
     let end = c .before .before in
-    let s = end .before .before in
-    let e : end .loop .i ≡ s .args .t .nodes = omega (arith, c .if1 .left, end .loop .inv .0) in
-    written-out (s .pre .1) (rw e at (end .loop .inv .2))
+    let start = end .before .before in
+    let e : end .loop .i ≡ start .args .t .nodes = omega (arith, c .if1 .left, end .loop .inv .0) in
+    written-out (start .pre .1) (rw e at (end .loop .inv .2))
 
 pub write-merged-spec : {M : Type 1} → statement M
 write-merged-spec =

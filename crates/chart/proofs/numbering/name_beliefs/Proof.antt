@@ -17,30 +17,44 @@ abbrev μ-loop : tie.MeasureT-loop
 
 number-of-requires : tie.Need-number-of-requires Inv-loop μ-loop
 number-of-requires c κs =
-    let l = c .before .before .before .before .loop in
-    let s = c .before .before .before .before .before .before in
-    let h : l .k < s .args .c = c .before .before .before .loop-test .taken in
-    ((omega arith, omega arith, omega (arith, c .before .wide .ensures, l .inv .2 .high (s .args .to + l .k) (omega arith), s .pre .1 .1 (l .k) h)), l .inv .2 .numbering)
+    let turn = c .before .before .before in
+    let at-loop = turn .before in
+    let start = at-loop .before .before in
+    let l = at-loop .loop in
+    let h : l .k < start .args .c = turn .loop-test .taken in
+    ((omega arith, omega arith, omega (arith, c .before .wide .ensures, l .inv .2 .high (start .args .to + l .k) (omega arith), start .pre .1 .1 (l .k) h)), l .inv .2 .numbering)
 
 cast-work : tie.Need-cast-work Inv-loop μ-loop
-cast-work c = omega (arith, c .before .before .number-of .ensures .few)
+cast-work c =
+    let at-number-of = c .before .before in
+    omega (arith, at-number-of .number-of .ensures .few)
 
 more-requires : tie.Need-more-requires Inv-loop μ-loop
-more-requires c κs = omega (arith, c .before .before .number-of .ensures .few)
+more-requires c κs =
+    let at-number-of = c .before .before in
+    omega (arith, at-number-of .number-of .ensures .few)
 
 loop-again : tie.Need-loop-again Inv-loop μ-loop
 loop-again c =
-    let l = c .before .before .before .before .before .before .before .before .loop in
-    let s = c .before .before .before .before .before .before .before .before .before .before in
-    let h : l .k < s .args .c = c .before .before .before .before .before .before .before .loop-test .taken in
-    let kept = c .before .before .before .number-of .kept .0 in (
+    let at-number-of = c .before .before .before in
+    let at-wide = at-number-of .before .before in
+    let turn = at-wide .before .before in
+    let at-loop = turn .before in
+    let start = at-loop .before .before in
+    let l = at-loop .loop in
+    let h : l .k < start .args .c = turn .loop-test .taken in
+    let kept = at-number-of .number-of .kept .0 in (
       omega arith,
       simp length-set (kept ∙ l .inv .1),
-      named-more (l .inv .2) (c .before .before .before .number-of .ensures) (sym (c .before .before .before .before .before .wide .ensures) ∙ l .inv .2 .high (s .args .to + l .k) (omega arith)) (c .more .ensures) (omega arith) (omega arith),
+      named-more (l .inv .2) (at-number-of .number-of .ensures) (sym (at-wide .wide .ensures) ∙ l .inv .2 .high (start .args .to + l .k) (omega arith)) (c .more .ensures) (omega arith) (omega arith),
     )
 
 returns : tie.Need-returns Inv-loop μ-loop
-returns c = let l = c .before .loop in let e : l .k ≡ c .before .before .before .args .c = omega arith in rw e at (l .inv .2)
+returns c =
+    let start = c .before .before .before in
+    let l = c .before .loop in
+    let e : l .k ≡ start .args .c = omega arith in
+    rw e at (l .inv .2)
 
 pub name-beliefs-spec : {M : Type 1} → statement M
 name-beliefs-spec =

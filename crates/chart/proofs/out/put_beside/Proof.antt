@@ -5,10 +5,15 @@ use Rattle.chart.proofs.out.put_beside.Statement.{statement}
 use Rattle.chart.proofs.out.put_beside.Tie as tie
 
 put-part-requires : tie.Need-put-part-requires
-put-part-requires c κs = (search needs, c .before .before .before .before .before .before .before .pre .1)
+put-part-requires c κs =
+    let start = c .before .before .before .before .before .before .before in
+    (search needs, start .pre .1)
 
 returns : tie.Need-returns
-returns c = put-row (c .before .before .before .before .before .before .put-values .ensures) (c .before .before .put-part .ensures)
+returns c =
+    let at-put-part = c .before .before in
+    let at-put-values = at-put-part .before .before .before .before in
+    put-row (at-put-values .put-values .ensures) (at-put-part .put-part .ensures)
 
 pub put-beside-spec : {M : Type 1} → statement M
 put-beside-spec = tie.close (tie.spec (λ c κs. search needs) (λ c. search needs) (λ c. search needs) put-part-requires (λ c. search needs) returns)

@@ -19,15 +19,23 @@ loop-holds : tie.Need-loop-holds Inv-loop μ-loop
 loop-holds c = (search needs, refl, put-none _ _ _ _ _ _)
 
 add-out-2 : tie.Need-add-out-2 Inv-loop μ-loop
-add-out-2 c = omega (arith, c .before .before .before .pre .1 (c .before .before .loop .q) (c .before .loop-test .taken) .1)
+add-out-2 c =
+    let at-loop = c .before .before in
+    let start = at-loop .before in
+    omega (arith, start .pre .1 (at-loop .loop .q) (c .before .loop-test .taken) .1)
 
 sub-out : tie.Need-sub-out Inv-loop μ-loop
-sub-out c = c .before .before .before .pre .1 (c .before .before .loop .q) (c .before .loop-test .taken) .0
+sub-out c =
+    let at-loop = c .before .before in
+    let start = at-loop .before in
+    start .pre .1 (at-loop .loop .q) (c .before .loop-test .taken) .0
 
 loop-again : tie.Need-loop-again Inv-loop μ-loop
 loop-again c =
-    let (h, e, g) = c .before .before .loop .inv in
-    (search needs, simp length-set e, put-more g (omega (arith, c .before .before .before .pre .0, e)))
+    let at-loop = c .before .before in
+    let start = at-loop .before in
+    let (h, e, g) = at-loop .loop .inv in
+    (search needs, simp length-set e, put-more g (omega (arith, start .pre .0, e)))
 
 returns : tie.Need-returns Inv-loop μ-loop
 returns c = let (h, e, g) = c .before .loop .inv in put-all g h (c .loop-test .left)

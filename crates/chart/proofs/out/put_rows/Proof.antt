@@ -20,24 +20,33 @@ loop-holds : tie.Need-loop-holds Inv-loop μ-loop
 loop-holds c = (search needs, refl, rows-start _ _ _ _ _ _ _ _ _)
 
 -- row i lies within both buffers
-place : (c : tie.In-loop Inv-loop μ-loop) → let a = c .before .before .before .before .args in
-    (a .from + c .before .loop .i * a .w + a .w ≤ length (a .src .now)) × (a .to + c .before .loop .i * a .w + a .w ≤ length (a .out .now))
+place : (c : tie.In-loop Inv-loop μ-loop) →
+    let at-loop = c .before in
+    let start = at-loop .before .before .before in
+    let a = start .args in
+    (a .from + at-loop .loop .i * a .w + a .w ≤ length (a .src .now)) × (a .to + at-loop .loop .i * a .w + a .w ≤ length (a .out .now))
 place c =
-    let s = c .before .before .before .before in
-    let r = row-in (s .args .n) (s .args .w) (c .before .loop .i) (c .loop-test .taken) in
-    (omega (arith, r, s .pre .0), omega (arith, r, s .pre .0))
+    let start = c .before .before .before .before in
+    let r = row-in (start .args .n) (start .args .w) (c .before .loop .i) (c .loop-test .taken) in
+    (omega (arith, r, start .pre .0), omega (arith, r, start .pre .0))
 
 put-beside-requires : tie.Need-put-beside-requires Inv-loop μ-loop
 put-beside-requires c κs =
-    let p = c .before .before .before .before .before .pre in
-    let (x, y) = place (c .before) in
-    ((omega (arith, x, p .0), omega (arith, y, p .0, c .before .before .loop .inv .1)), λ d h. p .1 (c .before .before .loop .i) d (c .before .loop-test .taken) h)
+    let turn = c .before in
+    let at-loop = turn .before in
+    let start = at-loop .before .before .before in
+    let p = start .pre in
+    let (x, y) = place turn in
+    ((omega (arith, x, p .0), omega (arith, y, p .0, at-loop .loop .inv .1)), λ d h. p .1 (at-loop .loop .i) d (turn .loop-test .taken) h)
 
 loop-again : tie.Need-loop-again Inv-loop μ-loop
 loop-again c =
-    let p = c .before .before .before .before .before .before .before .before .pre .0 in
-    let (h, e, g) = c .before .before .before .before .before .loop .inv in
-    (search needs, c .before .before .put-beside .kept .1 .1 .1 .1 .0 ∙ e, rows-next (p .0) (p .1) g (c .before .before .put-beside .ensures))
+    let at-put-beside = c .before .before in
+    let at-loop = at-put-beside .before .before .before in
+    let start = at-loop .before .before .before in
+    let p = start .pre .0 in
+    let (h, e, g) = at-loop .loop .inv in
+    (search needs, at-put-beside .put-beside .kept .1 .1 .1 .1 .0 ∙ e, rows-next (p .0) (p .1) g (at-put-beside .put-beside .ensures))
 
 returns : tie.Need-returns Inv-loop μ-loop
 returns c = let (h, e, g) = c .before .loop .inv in rows-all g h (c .loop-test .left)

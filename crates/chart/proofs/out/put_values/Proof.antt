@@ -20,8 +20,10 @@ loop-holds c = (search needs, refl, put-none _ _ _ _ _ _)
 
 loop-again : tie.Need-loop-again Inv-loop μ-loop
 loop-again c =
-    let (h, e, g) = c .before .before .loop .inv in
-    (search needs, simp length-set e, put-same g (omega (arith, c .before .before .before .pre, e)))
+    let at-loop = c .before .before in
+    let start = at-loop .before in
+    let (h, e, g) = at-loop .loop .inv in
+    (search needs, simp length-set e, put-same g (omega (arith, start .pre, e)))
 
 returns : tie.Need-returns Inv-loop μ-loop
 returns c = let (h, e, g) = c .before .loop .inv in put-all g h (c .loop-test .left)

@@ -19,29 +19,65 @@ loop-holds c = (refl, seeking-start (c .before .pre .1))
 
 -- entry `done` is there
 few : (c : tie.In-loop Inv-loop μ-loop) → c .before .loop .done < 4096
-few c = let p = c .before .before .before .pre .0 in seeking-few (p .0) (p .1) (c .before .loop .inv .1) (c .loop-test .taken)
+few c =
+    let start = c .before .before .before in
+    let p = start .pre .0 in
+    seeking-few (p .0) (p .1) (c .before .loop .inv .1) (c .loop-test .taken)
 
 returns : tie.Need-returns Inv-loop μ-loop
-returns c = let p = c .before .before .before .before .before .before .pre .0 in seeking-other (p .0) (p .1) (c .before .before .before .before .loop .inv .1) (c .before .before .before .loop-test .taken) (c .before .other-value .ensures) (c .if1 .taken)
+returns c =
+    let turn = c .before .before .before in
+    let at-loop = turn .before in
+    let start = at-loop .before .before in
+    let p = start .pre .0 in
+    seeking-other (p .0) (p .1) (at-loop .loop .inv .1) (turn .loop-test .taken) (c .before .other-value .ensures) (c .if1 .taken)
 
 meet-beliefs-requires : tie.Need-meet-beliefs-requires Inv-loop μ-loop
 meet-beliefs-requires c κs =
-    let p = c .before .before .before .before .before .before .before .pre .0 in
-    let (long, g) = c .before .before .before .before .before .loop .inv in
-    ((seeking-paired (p .0) (p .1) g long, seeking-sound (p .0) (p .1) g, c .before .before .before .before .loop-test .taken), seeking-pairs (p .0) (p .1) g)
+    let turn = c .before .before .before .before in
+    let at-loop = turn .before in
+    let start = at-loop .before .before in
+    let p = start .pre .0 in
+    let (long, g) = at-loop .loop .inv in
+    ((seeking-paired (p .0) (p .1) g long, seeking-sound (p .0) (p .1) g, turn .loop-test .taken), seeking-pairs (p .0) (p .1) g)
 
 loop-again : tie.Need-loop-again Inv-loop μ-loop
 loop-again c =
-    let p = c .before .before .before .before .before .before .before .before .before .before .pre .0 in
-    let (long, g) = c .before .before .before .before .before .before .before .before .loop .inv in
-    let r = c .before .before .meet-beliefs in
-    (r .kept .0 ∙ long, seeking-more (p .0) (p .1) g (c .before .before .before .before .before .before .before .loop-test .taken) (c .before .before .before .before .before .other-value .ensures) (c .before .before .before .before .if1 .left) (r .ensures))
+    let at-meet-beliefs = c .before .before in
+    let at-if1 = at-meet-beliefs .before .before in
+    let at-other-value = at-if1 .before in
+    let turn = at-other-value .before .before in
+    let at-loop = turn .before in
+    let start = at-loop .before .before in
+    let p = start .pre .0 in
+    let (long, g) = at-loop .loop .inv in
+    let r = at-meet-beliefs .meet-beliefs in
+    (r .kept .0 ∙ long, seeking-more (p .0) (p .1) g (turn .loop-test .taken) (at-other-value .other-value .ensures) (at-if1 .if1 .left) (r .ensures))
 
 returns-2 : tie.Need-returns-2 Inv-loop μ-loop
-returns-2 c = let p = c .before .before .before .pre .0 in seeking-none (p .0) (p .1) (c .before .loop .inv .1) (c .loop-test .left)
+returns-2 c =
+    let start = c .before .before .before in
+    let p = start .pre .0 in
+    seeking-none (p .0) (p .1) (c .before .loop .inv .1) (c .loop-test .left)
 
 pub seek-spec : {M : Type 1} → statement M
 seek-spec =
     tie.close
-    (tie.spec Inv-loop μ-loop loop-holds (λ c. omega (arith, few (c .before))) (λ c. omega (arith, few (c .before), c .before .before .before .before .pre .0 .0))
-    (λ c κs. let p = c .before .before .before .before .pre .0 in let (long, g) = c .before .before .loop .inv in seeking-place (p .0) (p .1) g (c .before .loop-test .taken) long) (λ c. search needs) returns meet-beliefs-requires (λ c. omega (arith, few (c .before .before .before .before .before .before .before))) (λ c. omega (arith, few (c .before .before .before .before .before .before .before))) loop-again (λ c. search needs) returns-2)
+    (tie.spec Inv-loop μ-loop loop-holds (λ c. omega (arith, few (c .before)))
+    (λ c.
+    let start = c .before .before .before .before in
+    omega (arith, few (c .before), start .pre .0 .0))
+    (λ c κs.
+    let at-loop = c .before .before in
+    let start = at-loop .before .before in
+    let p = start .pre .0 in
+    let (long, g) = at-loop .loop .inv in
+    seeking-place (p .0) (p .1) g (c .before .loop-test .taken) long)
+    (λ c. search needs) returns meet-beliefs-requires
+    (λ c.
+    let turn = c .before .before .before .before .before .before .before in
+    omega (arith, few turn))
+    (λ c.
+    let turn = c .before .before .before .before .before .before .before in
+    omega (arith, few turn))
+    loop-again (λ c. search needs) returns-2)

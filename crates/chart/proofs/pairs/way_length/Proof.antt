@@ -18,11 +18,20 @@ loop-holds : tie.Need-loop-holds Inv-loop μ-loop
 loop-holds c = (omega arith, λ x. omega arith)
 
 -- one character back
-step : (c : tie.After-met-from Inv-loop μ-loop) → (x : Ways (c .before .before .before .before .args .work .now) (c .before .before .before .before .args .q) (c .before .before .before .before .args .e)) → (c .met-from .result < c .before .before .loop .at) × (length (x .way (c .before .before .loop .at)) ≡ suc (length (x .way (c .met-from .result))))
-step c x = way-step x _ _ (omega (arith, c .before .loop-test .taken)) (omega (arith, c .before .before .loop .inv .0)) (c .met-from .ensures)
+step : (c : tie.After-met-from Inv-loop μ-loop) →
+    let at-loop = c .before .before in
+    let start = at-loop .before .before in
+    (x : Ways (start .args .work .now) (start .args .q) (start .args .e)) → (c .met-from .result < at-loop .loop .at) × (length (x .way (at-loop .loop .at)) ≡ suc (length (x .way (c .met-from .result))))
+step c x =
+    let at-loop = c .before .before in
+    way-step x _ _ (omega (arith, c .before .loop-test .taken)) (omega (arith, at-loop .loop .inv .0)) (c .met-from .ensures)
 
 loop-again : tie.Need-loop-again Inv-loop μ-loop
-loop-again c = let (h, f) = c .before .before .loop .inv in (omega (arith, step c (c .before .before .before .before .pre) .0), λ x. omega (arith, f x, step c x .1))
+loop-again c =
+    let at-loop = c .before .before in
+    let start = at-loop .before .before in
+    let (h, f) = at-loop .loop .inv in
+    (omega (arith, step c (start .pre) .0), λ x. omega (arith, f x, step c x .1))
 
 returns : tie.Need-returns Inv-loop μ-loop
 returns c x = let (h, f) = c .before .loop .inv in omega (arith, f x, ap (λ (at : ℕ). length (x .way at)) (c .loop-test .left), ap length (x .root))
@@ -30,4 +39,21 @@ returns c x = let (h, f) = c .before .loop .inv in omega (arith, f x, ap (λ (at
 pub way-length-spec : {M : Type 1} → statement M
 way-length-spec =
     tie.close
-    (tie.spec Inv-loop μ-loop loop-holds (λ c. omega (arith, c .before .loop .inv .0, c .before .before .before .pre .room)) (λ c. omega (arith, c .before .loop .inv .0, c .before .before .before .pre .room)) (λ c κs. omega (arith, c .before .loop .inv .0, c .before .before .before .pre .room)) (λ c. omega (arith, c .before .before .loop .inv .0, c .before .before .before .before .pre .room)) (λ c. omega (arith, step c (c .before .before .before .before .pre) .0)) loop-again returns)
+    (tie.spec Inv-loop μ-loop loop-holds
+    (λ c.
+    let start = c .before .before .before in
+    omega (arith, c .before .loop .inv .0, start .pre .room))
+    (λ c.
+    let start = c .before .before .before in
+    omega (arith, c .before .loop .inv .0, start .pre .room))
+    (λ c κs.
+    let start = c .before .before .before in
+    omega (arith, c .before .loop .inv .0, start .pre .room))
+    (λ c.
+    let at-loop = c .before .before in
+    let start = at-loop .before .before in
+    omega (arith, at-loop .loop .inv .0, start .pre .room))
+    (λ c.
+    let start = c .before .before .before .before in
+    omega (arith, step c (start .pre) .0))
+    loop-again returns)

@@ -20,15 +20,21 @@ loop-holds c = (refl, tracing-start)
 
 -- there is a character to write
 some : (c : tie.In-loop Inv-loop μ-loop) → 0 < c .before .loop .i
-some c = let p = c .before .before .before .before .pre in tracing-some (c .before .loop .inv .1) (p .0) (p .1 .0 (p .0)) (omega (arith, c .loop-test .taken))
+some c =
+    let start = c .before .before .before .before in
+    let p = start .pre in
+    tracing-some (c .before .loop .inv .1) (p .0) (p .1 .0 (p .0)) (omega (arith, c .loop-test .taken))
 
 loop-again : tie.Need-loop-again Inv-loop μ-loop
 loop-again c =
-    let p = c .before .before .before .before .before .before .pre in
-    let (long, g) = c .before .before .before .loop .inv in
-    let a = c .before .before .before .before .before .before .args in
-    let l = c .before .before .before .loop in
-    (length-set (l .chain) (l .i - 1) (charAt (a .work .now) (a .q) (l .at)) ∙ long, tracing-more g (p .0) (p .1 .0 (p .0)) (omega (arith, c .before .before .loop-test .taken)) (omega (arith, p .1 .1, long)) _ (c .met-from .ensures))
+    let turn = c .before .before in
+    let at-loop = turn .before in
+    let start = at-loop .before .before .before in
+    let p = start .pre in
+    let (long, g) = at-loop .loop .inv in
+    let a = start .args in
+    let l = at-loop .loop in
+    (length-set (l .chain) (l .i - 1) (charAt (a .work .now) (a .q) (l .at)) ∙ long, tracing-more g (p .0) (p .1 .0 (p .0)) (omega (arith, turn .loop-test .taken)) (omega (arith, p .1 .1, long)) _ (c .met-from .ensures))
 
 returns : tie.Need-returns Inv-loop μ-loop
 returns c = tracing-end (c .before .loop .inv .1) (c .loop-test .left)
@@ -36,5 +42,39 @@ returns c = tracing-end (c .before .loop .inv .1) (c .loop-test .left)
 pub write-way-spec : {M : Type 1} → statement M
 write-way-spec =
     tie.close
-    (tie.spec Inv-loop μ-loop loop-holds (λ c. omega (arith, some c)) (λ c. omega (arith, c .before .loop .inv .1 .within, c .before .before .before .before .pre .0 .room)) (λ c. omega (arith, c .before .loop .inv .1 .within, c .before .before .before .before .pre .0 .room)) (λ c. omega (arith, c .before .loop .inv .1 .within, c .before .before .before .before .pre .0 .room)) (λ c. omega (arith, c .before .before .loop .inv .1 .within, c .before .before .before .before .before .pre .0 .room)) (λ c. omega (arith, some (c .before), c .before .before .loop .inv, c .before .before .before .before .before .pre .1 .1))
-    (λ c. omega (arith, c .before .before .loop .inv .1 .within, c .before .before .before .before .before .pre .0 .room)) (λ c. omega (arith, c .before .before .loop .inv .1 .within, c .before .before .before .before .before .pre .0 .room)) (λ c κs. omega (arith, c .before .before .loop .inv .1 .within, c .before .before .before .before .before .pre .0 .room)) (λ c. omega (arith, way-step (c .before .before .before .before .before .before .pre .0) _ _ (omega (arith, c .before .before .loop-test .taken)) (c .before .before .before .loop .inv .1 .within) (c .met-from .ensures) .0)) loop-again (λ c. search needs) returns)
+    (tie.spec Inv-loop μ-loop loop-holds (λ c. omega (arith, some c))
+    (λ c.
+    let start = c .before .before .before .before in
+    omega (arith, c .before .loop .inv .1 .within, start .pre .0 .room))
+    (λ c.
+    let start = c .before .before .before .before in
+    omega (arith, c .before .loop .inv .1 .within, start .pre .0 .room))
+    (λ c.
+    let start = c .before .before .before .before in
+    omega (arith, c .before .loop .inv .1 .within, start .pre .0 .room))
+    (λ c.
+    let at-loop = c .before .before in
+    let start = at-loop .before .before .before in
+    omega (arith, at-loop .loop .inv .1 .within, start .pre .0 .room))
+    (λ c.
+    let at-loop = c .before .before in
+    let start = at-loop .before .before .before in
+    omega (arith, some (c .before), at-loop .loop .inv, start .pre .1 .1))
+    (λ c.
+    let at-loop = c .before .before in
+    let start = at-loop .before .before .before in
+    omega (arith, at-loop .loop .inv .1 .within, start .pre .0 .room))
+    (λ c.
+    let at-loop = c .before .before in
+    let start = at-loop .before .before .before in
+    omega (arith, at-loop .loop .inv .1 .within, start .pre .0 .room))
+    (λ c κs.
+    let at-loop = c .before .before in
+    let start = at-loop .before .before .before in
+    omega (arith, at-loop .loop .inv .1 .within, start .pre .0 .room))
+    (λ c.
+    let turn = c .before .before in
+    let at-loop = turn .before in
+    let start = at-loop .before .before .before in
+    omega (arith, way-step (start .pre .0) _ _ (omega (arith, turn .loop-test .taken)) (at-loop .loop .inv .1 .within) (c .met-from .ensures) .0))
+    loop-again (λ c. search needs) returns)

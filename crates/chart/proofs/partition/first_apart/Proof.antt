@@ -19,12 +19,18 @@ loop-holds : tie.Need-loop-holds Inv-loop μ-loop
 loop-holds c = (search needs, λ p h. absurd (omega arith))
 
 -- the classes of both beliefs lie within the buffer
-place : (c : tie.After-wide2 Inv-loop μ-loop) → let a = c .before .before .before .before .before .before .before .args in
-    (a .k + c .before .before .wide .result < length (a .work .now)) × (a .k + c .wide2 .result < length (a .work .now))
+place : (c : tie.After-wide2 Inv-loop μ-loop) →
+    let at-wide = c .before .before in
+    let start = at-wide .before .before .before .before .before in
+    let a = start .args in
+    (a .k + at-wide .wide .result < length (a .work .now)) × (a .k + c .wide2 .result < length (a .work .now))
 place c =
-    let s = c .before .before .before .before .before .before .before in
-    let (x, y) = s .pre .1 (c .before .before .before .before .before .loop .d) (c .before .before .before .before .loop-test .taken) in
-    (omega (arith, x, c .before .before .wide .ensures), omega (arith, y, c .wide2 .ensures))
+    let at-wide = c .before .before in
+    let turn = at-wide .before .before in
+    let at-loop = turn .before in
+    let start = at-loop .before .before in
+    let (x, y) = start .pre .1 (at-loop .loop .d) (turn .loop-test .taken) in
+    (omega (arith, x, at-wide .wide .ensures), omega (arith, y, c .wide2 .ensures))
 
 add-if1 : tie.Need-add-if1 Inv-loop μ-loop
 add-if1 c = omega (arith, place c)
@@ -36,23 +42,33 @@ add-if1-2 : tie.Need-add-if1-2 Inv-loop μ-loop
 add-if1-2 c = omega (arith, place (c .before))
 
 shared-slice-read-if1-2 : tie.Need-shared-slice-read-if1-2 Inv-loop μ-loop
-shared-slice-read-if1-2 c = place (c .before .before) .1
+shared-slice-read-if1-2 c =
+    let at-wide2 = c .before .before in
+    place at-wide2 .1
 
 returns : tie.Need-returns Inv-loop μ-loop
 returns c =
-    let a = c .before .before .before .before .before .before .before .before .before .before .args in
+    let at-wide2 = c .before .before .before in
+    let at-wide = at-wide2 .before .before in
+    let at-loop = at-wide .before .before .before in
+    let start = at-loop .before .before in
+    let a = start .args in
     let cls : ℕ → ℕ = λ x. getD (a .work .now) (a .k + x) 0 in
     record {
       within = search needs;
-      before = c .before .before .before .before .before .before .before .before .loop .inv .1;
-      here = λ h e. c .if1 .taken (ap cls (sym (c .before .before .before .before .before .wide .ensures)) ∙ e ∙ ap cls (c .before .before .before .wide2 .ensures));
+      before = at-loop .loop .inv .1;
+      here = λ h e. c .if1 .taken (ap cls (sym (at-wide .wide .ensures)) ∙ e ∙ ap cls (at-wide2 .wide2 .ensures));
     }
 
 loop-again : tie.Need-loop-again Inv-loop μ-loop
 loop-again c =
-    let a = c .before .before .before .before .before .before .before .before .before .before .args in
+    let at-wide2 = c .before .before .before in
+    let at-wide = at-wide2 .before .before in
+    let at-loop = at-wide .before .before .before in
+    let start = at-loop .before .before in
+    let a = start .args in
     let cls : ℕ → ℕ = λ x. getD (a .work .now) (a .k + x) 0 in
-    (search needs, below-more _ _ (c .before .before .before .before .before .before .before .before .loop .inv .1) (ap cls (c .before .before .before .before .before .wide .ensures) ∙ c .if1 .left ∙ ap cls (sym (c .before .before .before .wide2 .ensures))))
+    (search needs, below-more _ _ (at-loop .loop .inv .1) (ap cls (at-wide .wide .ensures) ∙ c .if1 .left ∙ ap cls (sym (at-wide2 .wide2 .ensures))))
 
 returns-2 : tie.Need-returns-2 Inv-loop μ-loop
 returns-2 c = record { within = search needs; before = λ q h. c .before .loop .inv .1 q (omega arith); here = λ h e. omega arith }

@@ -23,9 +23,10 @@ loop-holds c = (refl, leveling-none _ _ _ _ _ _ _ _ _)
 class-row-requires : tie.Need-class-row-requires Inv-loop μ-loop
 class-row-requires c κs =
     let test = c .before in
-    let turn = test .before .before in
-    let ((l, sound), finer) = turn .before .before .pre in
-    let (long, g) = turn .loop .inv in (
+    let at-loop = test .before .before in
+    let start = at-loop .before .before in
+    let ((l, sound), finer) = start .pre in
+    let (long, g) = at-loop .loop .inv in (
       (omega (arith, l), omega (arith, l, g .fewer), omega (arith, l), omega (arith, l, g .fewer)),
       leveling-against l sound finer long g (test .if1 .taken),
     )
@@ -34,16 +35,18 @@ loop-again : tie.Need-loop-again Inv-loop μ-loop
 loop-again c =
     let row = c .before .before in
     let test = row .before .before in
-    let turn = test .before .before in
-    let ((l, sound), finer) = turn .before .before .pre in
-    let (long, g) = turn .loop .inv in
+    let at-loop = test .before .before in
+    let start = at-loop .before .before in
+    let ((l, sound), finer) = start .pre in
+    let (long, g) = at-loop .loop .inv in
     let r = row .class-row in
     (r .kept .0 ∙ long, leveling-row l sound finer long g (test .if1 .taken) (r .ensures))
 
 returns : tie.Need-returns Inv-loop μ-loop
 returns c =
     let end = c .before .before in
-    let ((l, sound), finer) = end .before .before .pre in
+    let start = end .before .before in
+    let ((l, sound), finer) = start .pre in
     let (long, g) = end .loop .inv in
     leveling-end l sound finer long g (c .if1 .left)
 

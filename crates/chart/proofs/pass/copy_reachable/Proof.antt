@@ -19,34 +19,59 @@ abbrev μ-loop : tie.MeasureT-loop
 
 number-of-requires : tie.Need-number-of-requires Inv-loop μ-loop
 number-of-requires c κs =
-    let l = c .before .before .before .before .before .before .pre in
-    ((omega (arith, l .0, c .before .before .before .clear .kept .0), omega (arith, l .0), l .2), numbering-none _ _ _ _ (c .before .before .before .clear .ensures))
+    let at-clear = c .before .before .before in
+    let start = at-clear .before .before .before in
+    let l = start .pre in
+    ((omega (arith, l .0, at-clear .clear .kept .0), omega (arith, l .0), l .2), numbering-none _ _ _ _ (at-clear .clear .ensures))
 
 loop-holds : tie.Need-loop-holds Inv-loop μ-loop
 loop-holds c =
-    let s = c .before .before .before .before .before .before .before .before .before .before in
-    let a = c .before .before .before .before .before .before .before .clear in
-    let b = c .before .before .before .number-of in
-    (search needs, copying-start (laid-same (s .pre .0) (b .kept .0 ∙ a .kept .0)) (sound-same (s .pre .0) (s .pre .1) (λ p l. b .ensures .low p l ∙ a .ensures .low p l)) (b .ensures) (c .more .ensures))
+    let at-number-of = c .before .before .before in
+    let at-clear = at-number-of .before .before .before .before in
+    let start = at-clear .before .before .before in
+    let a = at-clear .clear in
+    let b = at-number-of .number-of in
+    (search needs, copying-start (laid-same (start .pre .0) (b .kept .0 ∙ a .kept .0)) (sound-same (start .pre .0) (start .pre .1) (λ p l. b .ensures .low p l ∙ a .ensures .low p l)) (b .ensures) (c .more .ensures))
 
 fill-row-requires : tie.Need-fill-row-requires Inv-loop μ-loop
-fill-row-requires c κs = let l = c .before .before .loop .inv .1 in ((l .laid, l .sound), (l .going .numbering, c .before .loop-test .taken))
+fill-row-requires c κs =
+    let at-loop = c .before .before in
+    let l = at-loop .loop .inv .1 in
+    ((l .laid, l .sound), (l .going .numbering, c .before .loop-test .taken))
 
 loop-again : tie.Need-loop-again Inv-loop μ-loop
 loop-again c =
-    let l = c .before .before .before .before .before .loop .inv in
-    let r = c .before .before .fill-row in
-    (r .kept .0 ∙ l .0, copying-row (l .1) (c .before .before .before .before .loop-test .taken) (r .ensures) (r .kept .0))
+    let at-fill-row = c .before .before in
+    let turn = at-fill-row .before .before in
+    let at-loop = turn .before in
+    let l = at-loop .loop .inv in
+    let r = at-fill-row .fill-row in
+    (r .kept .0 ∙ l .0, copying-row (l .1) (turn .loop-test .taken) (r .ensures) (r .kept .0))
 
 returns : tie.Need-returns Inv-loop μ-loop
 returns c =
-    let m = c .before .before in
-    let a = m .before .before .before .before .before .before .before .clear .ensures in
-    let b = m .before .before .before .number-of .ensures in
+    let at-number-of = c .before .before .before .before .before in
+    let at-clear = at-number-of .before .before .before .before in
+    let a = at-clear .clear .ensures in
+    let b = at-number-of .number-of .ensures in
     copying-end (c .before .loop .inv .1) (c .loop-test .left) (λ p l. b .low p l ∙ a .low p l) (λ p l. b .high p l ∙ a .high p (omega arith))
 
 pub copy-reachable-spec : {M : Type 1} → statement M
 copy-reachable-spec =
     tie.close
-    (tie.spec Inv-loop μ-loop (λ c κs. omega (arith, c .before .before .pre .0)) number-of-requires (λ c κs. omega (arith, c .before .before .number-of .ensures .few)) loop-holds fill-row-requires
-    (λ c. omega (arith, c .before .before .before .before .before .loop .inv .1 .going)) (λ c. omega (arith, c .before .before .before .before .before .loop .inv .1 .going)) loop-again (λ c. search needs) returns)
+    (tie.spec Inv-loop μ-loop
+    (λ c κs.
+    let start = c .before .before in
+    omega (arith, start .pre .0))
+    number-of-requires
+    (λ c κs.
+    let at-number-of = c .before .before in
+    omega (arith, at-number-of .number-of .ensures .few))
+    loop-holds fill-row-requires
+    (λ c.
+    let at-loop = c .before .before .before .before .before in
+    omega (arith, at-loop .loop .inv .1 .going))
+    (λ c.
+    let at-loop = c .before .before .before .before .before in
+    omega (arith, at-loop .loop .inv .1 .going))
+    loop-again (λ c. search needs) returns)

@@ -15,7 +15,9 @@ room : (s : tie.Start) → s .args .count ≤ s .args .s .nodes
 room s = let a = s .args in few (a .work .now) (a .m) (a .s .nodes) (a .count) (s .pre .1 .0)
 
 -- where the two rows lie
-place : (c : tie.After-wide) → let a = c .before .before .before .before .args in
+place : (c : tie.After-wide) →
+    let start = c .before .before .before .before in
+    let a = start .args in
     (c .wide .result < a .s .nodes) ×
     (a .s .rows + c .wide .result * a .s .width + a .s .width ≤ a .m) ×
     (a .t + a .i * a .s .width + a .s .width ≤ length (a .work .now))
@@ -32,8 +34,9 @@ place c =
 copy-part-requires : tie.Need-copy-part-requires
 copy-part-requires c κs =
     let key = c .before .before .before .before .before in
+    let start = key .before .before .before .before in
     let (x, from, to) = place key in
-    let laid = key .before .before .before .before .pre .0 .0 in
+    let laid = start .pre .0 .0 in
     (omega (arith, laid), omega (arith, laid), omega (arith, laid))
 
 name-beliefs-requires : tie.Need-name-beliefs-requires
@@ -79,11 +82,27 @@ fill-row-spec =
     (λ c. let start = c .before .before in omega (arith, room start, start .pre .0 .0))
     (λ c. let start = c .before .before .before in omega (arith, room start, start .pre .0 .0))
     (λ c κs. search needs)
-    (λ c. let key = c .before in omega (arith, place key, key .before .before .before .before .pre .0 .0))
-    (λ c. let key = c .before .before in omega (arith, place key, key .before .before .before .before .pre .0 .0))
-    (λ c. omega (arith, place (c .before .before .before)))
-    (λ c. omega (arith, place (c .before .before .before)))
-    (λ c. let key = c .before .before .before .before .before in omega (arith, place key, key .before .before .before .before .pre .0 .0))
+    (λ c.
+    let key = c .before in
+    let start = key .before .before .before .before in
+    omega (arith, place key, start .pre .0 .0))
+    (λ c.
+    let key = c .before .before in
+    let start = key .before .before .before .before in
+    omega (arith, place key, start .pre .0 .0))
+    (λ c.
+    let at-wide = c .before .before .before in
+    omega (arith, place at-wide))
+    (λ c.
+    let at-wide = c .before .before .before in
+    omega (arith, place at-wide))
+    (λ c.
+    let key = c .before .before .before .before .before in
+    let start = key .before .before .before .before in
+    omega (arith, place key, start .pre .0 .0))
     copy-part-requires
-    (λ c. let key = c .before .before .before .before .before .before .before .before .before .before in omega (arith, place key, key .before .before .before .before .pre .0 .0))
+    (λ c.
+    let key = c .before .before .before .before .before .before .before .before .before .before in
+    let start = key .before .before .before .before in
+    omega (arith, place key, start .pre .0 .0))
     name-beliefs-requires (λ c. search needs) returns)

@@ -9,20 +9,40 @@ use Rattle.chart.proofs.query.look.Statement.{statement}
 use Rattle.chart.proofs.query.look.Tie as tie
 
 copy-table-requires : tie.Need-copy-table-requires
-copy-table-requires c κs = let p = c .before .before .before .before .pre in read-copies (p .read) (p .room)
+copy-table-requires c κs =
+    let start = c .before .before .before .before in
+    let p = start .pre in
+    read-copies (p .read) (p .room)
 
 follow-requires : tie.Need-follow-requires
-follow-requires c κs = look-follows (c .before .before .before .before .before .before .before .before .pre) (c .before .before .before .copy-table .ensures)
+follow-requires c κs =
+    let at-copy-table = c .before .before .before in
+    let start = at-copy-table .before .before .before .before .before in
+    look-follows (start .pre) (at-copy-table .copy-table .ensures)
 
 -- the value lies in the table
-there : (c : tie.After-follow) → let a = c .before .before .before .before .before .before .before .before .before .args in (1 + c .follow .result * (a .fluents + a .characters)) + a .fluent < 961
-there c = look-in (c .before .before .before .before .before .before .before .before .before .pre) (c .before .before .before .before .copy-table .ensures) (c .follow .ensures .0) (c .follow .ensures .1)
+there : (c : tie.After-follow) →
+    let start = c .before .before .before .before .before .before .before .before .before in
+    let a = start .args in
+    (1 + c .follow .result * (a .fluents + a .characters)) + a .fluent < 961
+there c =
+    let at-copy-table = c .before .before .before .before in
+    let start = at-copy-table .before .before .before .before .before in
+    look-in (start .pre) (at-copy-table .copy-table .ensures) (c .follow .ensures .0) (c .follow .ensures .1)
 
 slice-read-value : tie.Need-slice-read-value
-slice-read-value c = omega (arith, there (c .before), c .before .before .before .before .before .before .before .before .before .before .pre .room, c .before .before .before .before .before .copy-table .ensures .long)
+slice-read-value c =
+    let at-copy-table = c .before .before .before .before .before in
+    let start = at-copy-table .before .before .before .before .before in
+    omega (arith, there (c .before), start .pre .room, at-copy-table .copy-table .ensures .long)
 
 returns : tie.Need-returns
-returns c = looked (c .before .before .before .before .before .before .before .before .before .before .before .before .before .before .pre) (c .before .before .before .before .before .before .before .before .before .copy-table .ensures) (c .before .before .before .before .before .follow .ensures .0) (c .before .before .before .before .before .follow .ensures .1) refl (c .before .before .clear .ensures) (search needs)
+returns c =
+    let at-clear = c .before .before in
+    let at-follow = at-clear .before .before .before in
+    let at-copy-table = at-follow .before .before .before .before in
+    let start = at-copy-table .before .before .before .before .before in
+    looked (start .pre) (at-copy-table .copy-table .ensures) (at-follow .follow .ensures .0) (at-follow .follow .ensures .1) refl (at-clear .clear .ensures) (search needs)
 
 pub look-spec : {M : Type 1} → statement M
 look-spec =

@@ -7,20 +7,36 @@ use Rattle.chart.proofs.start.put_start.Statement.{statement}
 use Rattle.chart.proofs.start.put_start.Tie as tie
 
 copy-table-requires : tie.Need-copy-table-requires
-copy-table-requires c κs = let p = c .before .before .before .before .pre in read-copies (p .read) (p .work-room)
+copy-table-requires c κs =
+    let start = c .before .before .before .before in
+    let p = start .pre in
+    read-copies (p .read) (p .work-room)
 
 merge-table-requires : tie.Need-merge-table-requires
-merge-table-requires c κs = let p = c .before .before .before .before .before .before .before .before .pre in read-merges (p .read) (p .work-room) (c .before .before .before .copy-table .ensures)
+merge-table-requires c κs =
+    let at-copy-table = c .before .before .before in
+    let start = at-copy-table .before .before .before .before .before in
+    let p = start .pre in
+    read-merges (p .read) (p .work-room) (at-copy-table .copy-table .ensures)
 
 write-chart-requires : tie.Need-write-chart-requires
-write-chart-requires c κs = let m = c .before .before .before .before .merge-table in start-writes (c .before .before .before .before .before .before .before .before .before .before .before .before .before .pre) (c .before .before .before .before .before .before .before .before .copy-table .ensures) (m .ensures) (m .kept .0)
+write-chart-requires c κs =
+    let at-merge-table = c .before .before .before .before in
+    let at-copy-table = at-merge-table .before .before .before .before in
+    let start = at-copy-table .before .before .before .before .before in
+    let m = at-merge-table .merge-table in
+    start-writes (start .pre) (at-copy-table .copy-table .ensures) (m .ensures) (m .kept .0)
 
 returns : tie.Need-returns
 returns c =
-    let l = c .before .before .before .before .before .before .before .before .before .before .before .before .before .before .before .copy-table .ensures in
-    let m = c .before .before .before .before .before .before .before .before .before .before .before .merge-table in
-    let o = c .before .before .before .before .before .before .write-chart in
-    let z = c .before .before .clear in
+    let at-clear = c .before .before in
+    let at-write-chart = at-clear .before .before .before .before in
+    let at-merge-table = at-write-chart .before .before .before .before .before in
+    let at-copy-table = at-merge-table .before .before .before .before in
+    let l = at-copy-table .copy-table .ensures in
+    let m = at-merge-table .merge-table in
+    let o = at-write-chart .write-chart in
+    let z = at-clear .clear in
     λ x. start-put x l (m .ensures) (m .kept .0) (o .ensures) (o .kept .1 .1 .1 .1 .1 .1 .0) (z .ensures) (z .kept .0 ∙ m .kept .0 ∙ l .long)
 
 pub put-start-spec : {M : Type 1} → statement M

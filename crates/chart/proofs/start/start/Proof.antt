@@ -7,21 +7,41 @@ use Rattle.chart.proofs.start.start.Tie as tie
 
 put-start-requires : tie.Need-put-start-requires
 put-start-requires c κs =
-    let a = c .before .before .before .before .before .before .before .before .before .before .before .args in
-    begin-ready (a .chart .now) (a .work .now) (c .before .before .before .before .before .before .before .read-contents .ensures .read) (c .before .before .before .before .before .before .unless-refused .result) (c .before .before .before .before .before .before .unless-refused .ensures) (c .before .before .before .before .before .both-at-most .result) (c .before .before .before .before .before .both-at-most .ensures)
-    (c .before .before .before .before .check-lent .result) (c .before .before .before .before .check-lent .ensures) (λ i. omega (arith, c .before .before .before .before .before .before .before .before .before .before .shared-slice-known .given i)) _ _ (c .before .before .enum-told .given .1)
+    let at-enum-told = c .before .before in
+    let at-check-lent = at-enum-told .before .before in
+    let at-both-at-most = at-check-lent .before in
+    let at-unless-refused = at-both-at-most .before in
+    let at-read-contents = at-unless-refused .before in
+    let at-shared-slice-known = at-read-contents .before .before .before in
+    let start = at-shared-slice-known .before in
+    let a = start .args in
+    begin-ready (a .chart .now) (a .work .now) (at-read-contents .read-contents .ensures .read) (at-unless-refused .unless-refused .result) (at-unless-refused .unless-refused .ensures) (at-both-at-most .both-at-most .result) (at-both-at-most .both-at-most .ensures)
+    (at-check-lent .check-lent .result) (at-check-lent .check-lent .ensures) (λ i. omega (arith, at-shared-slice-known .shared-slice-known .given i)) _ _ (at-enum-told .enum-told .given .1)
 
 returns : tie.Need-returns
 returns c =
-    let a = c .before .before .before .before .before .before .before .before .before .before .args in
-    begin-refused (a .chart .now) (a .work .now) (c .before .before .before .before .before .before .read-contents .ensures .read) (c .before .before .before .before .before .unless-refused .result) (c .before .before .before .before .before .unless-refused .ensures) (c .before .before .before .before .both-at-most .result) (c .before .before .before .before .both-at-most .ensures)
-    (c .before .before .before .check-lent .result) (c .before .before .before .check-lent .ensures) _ _ (c .before .k .given .1)
+    let at-check-lent = c .before .before .before in
+    let at-both-at-most = at-check-lent .before in
+    let at-unless-refused = at-both-at-most .before in
+    let at-read-contents = at-unless-refused .before in
+    let start = at-read-contents .before .before .before .before in
+    let a = start .args in
+    begin-refused (a .chart .now) (a .work .now) (at-read-contents .read-contents .ensures .read) (at-unless-refused .unless-refused .result) (at-unless-refused .unless-refused .ensures) (at-both-at-most .both-at-most .result) (at-both-at-most .both-at-most .ensures)
+    (at-check-lent .check-lent .result) (at-check-lent .check-lent .ensures) _ _ (c .before .k .given .1)
 
 returns-2 : tie.Need-returns-2
 returns-2 c =
-    let a = c .before .before .before .before .before .before .before .before .before .before .before .before .before .before .before .before .args in
-    begin-done (a .chart .now) (a .work .now) (c .before .before .before .before .before .before .before .before .before .before .before .before .read-contents .ensures .read) (c .before .before .before .before .before .before .before .before .before .before .before .unless-refused .result) (c .before .before .before .before .before .before .before .before .before .before .before .unless-refused .ensures) (c .before .before .before .before .before .before .before .before .before .before .both-at-most .result) (c .before .before .before .before .before .before .before .before .before .before .both-at-most .ensures)
-    (c .before .before .before .before .before .before .before .before .before .check-lent .result) (c .before .before .before .before .before .before .before .before .before .check-lent .ensures) (λ i. omega (arith, c .before .before .before .before .before .before .before .before .before .before .before .before .before .before .before .shared-slice-known .given i)) _ _ (c .before .before .before .before .before .before .before .enum-told .given .1) _ _ _ (c .before .before .before .before .put-start .ensures)
+    let at-put-start = c .before .before .before .before in
+    let at-enum-told = at-put-start .before .before .before in
+    let at-check-lent = at-enum-told .before .before in
+    let at-both-at-most = at-check-lent .before in
+    let at-unless-refused = at-both-at-most .before in
+    let at-read-contents = at-unless-refused .before in
+    let at-shared-slice-known = at-read-contents .before .before .before in
+    let start = at-shared-slice-known .before in
+    let a = start .args in
+    begin-done (a .chart .now) (a .work .now) (at-read-contents .read-contents .ensures .read) (at-unless-refused .unless-refused .result) (at-unless-refused .unless-refused .ensures) (at-both-at-most .both-at-most .result) (at-both-at-most .both-at-most .ensures)
+    (at-check-lent .check-lent .result) (at-check-lent .check-lent .ensures) (λ i. omega (arith, at-shared-slice-known .shared-slice-known .given i)) _ _ (at-enum-told .enum-told .given .1) _ _ _ (at-put-start .put-start .ensures)
 
 pub start-spec : {M : Type 1} → statement M
 start-spec =

@@ -17,10 +17,14 @@ loop-holds : tie.Need-loop-holds Inv-loop μ-loop
 loop-holds c = (search needs, λ p h. absurd (omega arith))
 
 returns : tie.Need-returns Inv-loop μ-loop
-returns c = record { within = search needs; before = c .before .before .before .before .loop .inv .1; here = λ h e. c .if1 .taken e }
+returns c =
+    let at-loop = c .before .before .before .before in
+    record { within = search needs; before = at-loop .loop .inv .1; here = λ h e. c .if1 .taken e }
 
 loop-again : tie.Need-loop-again Inv-loop μ-loop
-loop-again c = (search needs, below-more _ _ (c .before .before .before .before .loop .inv .1) (c .if1 .left))
+loop-again c =
+    let at-loop = c .before .before .before .before in
+    (search needs, below-more _ _ (at-loop .loop .inv .1) (c .if1 .left))
 
 returns-2 : tie.Need-returns-2 Inv-loop μ-loop
 returns-2 c = record { within = search needs; before = λ q h. c .before .loop .inv .1 q (omega arith); here = λ h e. omega arith }

@@ -18,12 +18,17 @@ loop-holds : tie.Need-loop-holds Inv-loop μ-loop
 loop-holds c = (omega arith, omega arith, sym (sum-none _ _))
 
 add-sum : tie.Need-add-sum Inv-loop μ-loop
-add-sum c = omega (arith, c .wide .ensures, c .before .shared-slice-known2 .given (c .before .before .before .before .before .args .a + c .before .before .before .loop .q))
+add-sum c =
+    let at-loop = c .before .before .before in
+    let start = at-loop .before .before in
+    omega (arith, c .wide .ensures, c .before .shared-slice-known2 .given (start .args .a + at-loop .loop .q))
 
 loop-again : tie.Need-loop-again Inv-loop μ-loop
 loop-again c =
-    let a = c .before .before .before .before .before .args in
-    let l = c .before .before .before .loop in (
+    let at-loop = c .before .before .before in
+    let start = at-loop .before .before in
+    let a = start .args in
+    let l = at-loop .loop in (
       omega arith,
       omega arith,
       ap (λ (s : ℕ). (s * 2 + c .wide .result) % 4294967296) (l .inv .2) ∙ ap (λ (v : ℕ). (sumOf (a .work .now) (a .a) (l .q) * 2 + v) % 4294967296) (sym (c .wide .ensures)) ∙ sym (sum-more (a .work .now) (a .a) (l .q)),
@@ -31,7 +36,8 @@ loop-again c =
 
 returns : tie.Need-returns Inv-loop μ-loop
 returns c =
-    let a = c .before .before .before .args in
+    let start = c .before .before .before in
+    let a = start .args in
     let l = c .before .loop in
     let e : l .q ≡ a .f = omega (arith, c .loop-test .left) in
     (ap (λ (s : ℕ). s % 131) (l .inv .2 ∙ ap (sumOf (a .work .now) (a .a)) e), omega arith)

@@ -9,44 +9,63 @@ use Rattle.chart.proofs.values.value_row.Statement.{statement}
 use Rattle.chart.proofs.values.value_row.Tie as tie
 
 mul-mark : tie.Need-mul-mark
-mul-mark c = let v = c .before .before .before .before .pre .0 in omega (arith, row-inside v _ (v .row))
+mul-mark c =
+    let start = c .before .before .before .before in
+    let v = start .pre .0 in
+    omega (arith, row-inside v _ (v .row))
 
 add-mark : tie.Need-add-mark
-add-mark c = let v = c .before .before .before .before .before .pre .0 in omega (arith, row-inside v _ (v .row))
+add-mark c =
+    let start = c .before .before .before .before .before in
+    let v = start .pre .0 in
+    omega (arith, row-inside v _ (v .row))
 
 mark-requires : tie.Need-mark-requires
-mark-requires c κs = let v = c .before .before .before .before .before .pre .0 in row-inside v _ (v .row)
+mark-requires c κs =
+    let start = c .before .before .before .before .before in
+    let v = start .pre .0 in
+    row-inside v _ (v .row)
 
 value-class-requires : tie.Need-value-class-requires
 value-class-requires c κs =
     let marked = c .before .before .before in
-    let (v, x) = marked .before .before .before .before .before .before .pre in
+    let start = marked .before .before .before .before .before .before in
+    let (v, x) = start .pre in
     let (e, h) = marked .mark .ensures in
     chain-at v x h e (sym (c .wide .ensures))
 
 returns : tie.Need-returns
 returns c =
     let held = c .before .before in
-    let (v, x) = held .before .before .before .before .before .before .before .before .before .before .pre in
+    let start = held .before .before .before .before .before .before .before .before .before .before in
+    let (v, x) = start .pre in
     valued-old v x (held .value-class .ensures) (c .if1 .taken)
 
 -- the places of the new class
-class-place : (c : tie.Else1) → let a = c .before .before .before .before .before .before .before .before .before .before .before .before .args in
+class-place : (c : tie.Else1) →
+    let start = c .before .before .before .before .before .before .before .before .before .before .before .before in
+    let a = start .args in
     (a .g .firsts + a .count < length (a .work .now)) × (a .g .level + a .count < length (a .work .now))
-class-place c = let (v, x) = c .before .before .before .before .before .before .before .before .before .before .before .before .pre in (omega (arith, v), omega (arith, v))
+class-place c =
+    let start = c .before .before .before .before .before .before .before .before .before .before .before .before in
+    let (v, x) = start .pre in
+    (omega (arith, v), omega (arith, v))
 
 slice-write-work-2 : tie.Need-slice-write-work-2
 slice-write-work-2 c = simp length-set (class-place (c .before) .0)
 
 slice-write-work-3 : tie.Need-slice-write-work-3
-slice-write-work-3 c = simp length-set (class-place (c .before .before) .1)
+slice-write-work-3 c =
+    let at-if1 = c .before .before in
+    simp length-set (class-place at-if1 .1)
 
 returns-2 : tie.Need-returns-2
 returns-2 c =
     let new = c .before .before in
     let held = new .before .before in
     let marked = held .before .before .before .before in
-    let (v, x) = marked .before .before .before .before .before .before .pre in
+    let start = marked .before .before .before .before .before .before in
+    let (v, x) = start .pre in
     let (e, h) = marked .mark .ensures in
     valued-new v x (held .value-class .ensures) (new .if1 .left) h e refl
 

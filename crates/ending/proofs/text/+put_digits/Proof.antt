@@ -28,13 +28,24 @@ abbrev put-digits-calls : ℕ → put-digits-lts.Claims
 put-digits-calls t = (digit-reads.Asked, digit-reads.Learnt, put-reads.Asked, put-reads.Learnt, put-digits-below t, put-digits.Post)
 
 put-digits-returns-2 : (t : ℕ) → put-digits-lts.Need-returns-2 (put-digits-calls t) (put-digits-at t) put-digits.Post
-put-digits-returns-2 t c = put-single _ _ (omega arith) (omega arith) (c .before .before .before .digit .ensures) (c .before .before .put .ensures)
+put-digits-returns-2 t c =
+    let at-put = c .before .before in
+    let at-digit = at-put .before in
+    put-single _ _ (omega arith) (omega arith) (at-digit .digit .ensures) (at-put .put .ensures)
 
 put-digits-put-requires-2 : (t : ℕ) → put-digits-lts.Need-put-requires-2 (put-digits-calls t) (put-digits-at t) put-digits.Post
-put-digits-put-requires-2 t c κs = let a = c .before .before .before .before .before .before .before .before .before .args in omega (arith, digits-most (a .most - 1) (a .n / 10), c .before .before .before .before .put-digits .ensures .ends, put-length (c .before .before .before .before .put-digits .ensures))
+put-digits-put-requires-2 t c κs =
+    let at-put-digits = c .before .before .before .before in
+    let start = at-put-digits .before .before .before .before .before in
+    let a = start .args in
+    omega (arith, digits-most (a .most - 1) (a .n / 10), at-put-digits .put-digits .ensures .ends, put-length (at-put-digits .put-digits .ensures))
 
 put-digits-returns-3 : (t : ℕ) → put-digits-lts.Need-returns-3 (put-digits-calls t) (put-digits-at t) put-digits.Post
-put-digits-returns-3 t c = put-more _ _ (omega arith) (omega arith) (c .before .before .before .before .before .before .before .put-digits .ensures) (c .before .before .before .digit2 .ensures) (c .before .before .put2 .ensures)
+put-digits-returns-3 t c =
+    let at-put2 = c .before .before in
+    let at-digit2 = at-put2 .before in
+    let at-put-digits = at-digit2 .before .before .before .before in
+    put-more _ _ (omega arith) (omega arith) (at-put-digits .put-digits .ensures) (at-digit2 .digit2 .ensures) (at-put2 .put2 .ensures)
 
 pub +put-digits-spec : {M : Type 1} → statement M
 +put-digits-spec = close μ-put-digits λ t. put-digits-lts.spec (put-digits-calls t)

@@ -6,7 +6,10 @@ use Rattle.ending.proofs.text.put_number.Statement.{statement}
 use Rattle.ending.proofs.text.put_number.Tie as tie
 
 returns : tie.Need-returns
-returns c = (c .before .before .put-digits .ensures, omega (arith, digits-most 20 (c .before .before .before .before .before .args .n), c .before .before .put-digits .ensures .ends))
+returns c =
+    let at-put-digits = c .before .before in
+    let start = at-put-digits .before .before .before in
+    (at-put-digits .put-digits .ensures, omega (arith, digits-most 20 (start .args .n), at-put-digits .put-digits .ensures .ends))
 
 pub put-number-spec : {M : Type 1} → statement M
 put-number-spec = tie.close (tie.spec (λ c κs. search needs) (λ c. search needs) returns)

@@ -24,16 +24,22 @@ put-step-requires c κs = omega arith
 
 loop-again : tie.Need-loop-again Inv-loop μ-loop
 loop-again c =
-    let list = c .before .before .before .before .before .before .before .before .before .before .args .list .now in
-    let i = c .before .before .before .before .before .before .before .loop .i in
-    let step = c .before .before .put-step .ensures in
-    (omega arith, put-length (step .0) ∙ c .before .before .before .before .before .before .before .loop .inv .1, omega (arith, step .1, c .before .before .before .before .before .before .before .loop .inv .2), put-steps-next list i (omega arith) (c .before .before .before .before .before .before .before .loop .inv .3) (c .before .before .before .wide .ensures) (step .0))
+    let at-put-step = c .before .before in
+    let at-wide = at-put-step .before in
+    let at-loop = at-wide .before .before .before .before in
+    let start = at-loop .before .before .before in
+    let list = start .args .list .now in
+    let i = at-loop .loop .i in
+    let step = at-put-step .put-step .ensures in
+    (omega arith, put-length (step .0) ∙ at-loop .loop .inv .1, omega (arith, step .1, at-loop .loop .inv .2), put-steps-next list i (omega arith) (at-loop .loop .inv .3) (at-wide .wide .ensures) (step .0))
 
 returns : tie.Need-returns Inv-loop μ-loop
 returns c =
-    let a = c .before .before .before .before .args in
-    let e : c .before .loop .i ≡ a .count = omega arith in
-    (subst (λ (n : ℕ). Put (steps 1 (take n (a .list .now))) (a .text .now) 0 (c .before .loop .text) (c .before .loop .end)) e (c .before .loop .inv .3), omega (arith, c .before .loop .inv .2))
+    let at-loop = c .before in
+    let start = at-loop .before .before .before in
+    let a = start .args in
+    let e : at-loop .loop .i ≡ a .count = omega arith in
+    (subst (λ (n : ℕ). Put (steps 1 (take n (a .list .now))) (a .text .now) 0 (at-loop .loop .text) (at-loop .loop .end)) e (at-loop .loop .inv .3), omega (arith, at-loop .loop .inv .2))
 
 pub put-steps-spec : {M : Type 1} → statement M
 put-steps-spec =

@@ -19,7 +19,10 @@ loop-holds : tie.Need-loop-holds Inv-loop μ-loop
 loop-holds c = (omega arith, refl, record { ends = omega arith; written = refl })
 
 loop-again : tie.Need-loop-again Inv-loop μ-loop
-loop-again c = (omega arith, length-set (c .before .before .loop .text) (c .before .before .before .args .at + c .before .before .loop .i) (getD (c .before .before .before .args .word .now) (c .before .before .loop .i) 0) ∙ c .before .before .loop .inv .1, put-next (c .before .before .before .args .word .now) (c .before .before .loop .i) (omega arith) (c .before .before .loop .inv .2))
+loop-again c =
+    let at-loop = c .before .before in
+    let start = at-loop .before in
+    (omega arith, length-set (at-loop .loop .text) (start .args .at + at-loop .loop .i) (getD (start .args .word .now) (at-loop .loop .i) 0) ∙ at-loop .loop .inv .1, put-next (start .args .word .now) (at-loop .loop .i) (omega arith) (at-loop .loop .inv .2))
 
 slice-write-text : tie.Need-slice-write-text Inv-loop μ-loop
 slice-write-text c = omega arith
@@ -31,7 +34,10 @@ add-result : tie.Need-add-result Inv-loop μ-loop
 add-result c = omega arith
 
 returns : tie.Need-returns Inv-loop μ-loop
-returns c = put-whole (c .before .before .args .word .now) (c .before .loop .i) (omega arith) (c .before .loop .inv .2)
+returns c =
+    let at-loop = c .before in
+    let start = at-loop .before in
+    put-whole (start .args .word .now) (at-loop .loop .i) (omega arith) (at-loop .loop .inv .2)
 
 pub put-word-spec : {M : Type 1} → statement M
 put-word-spec =

@@ -8,7 +8,13 @@ use Rattle.ending.proofs.text.put_worths.Tie as tie
 
 returns : tie.Need-returns
 unfolding line
-returns c = (put-append (c .before .before .before .before .before .before .before .before .before .before .before .before .before .before .before .before .before .before .put-word .ensures) (put-append (c .before .before .before .before .before .before .before .before .before .before .before .before .before .before .put-number .ensures .0) (put-append (c .before .before .before .before .before .before .before .before .before .before .put .ensures) (put-append (c .before .before .before .before .before .before .put-number2 .ensures .0) (c .before .before .put2 .ensures)))), omega (arith, c .before .before .before .before .before .before .before .before .before .before .before .before .before .before .before .before .before .before .put-word .ensures .ends, c .before .before .before .before .before .before .before .before .before .before .before .before .before .before .put-number .ensures .1, c .before .before .before .before .before .before .before .before .before .before .put .ensures .ends, c .before .before .before .before .before .before .put-number2 .ensures .1, c .before .before .put2 .ensures .ends))
+returns c =
+    let at-put2 = c .before .before in
+    let at-put-number2 = at-put2 .before .before .before .before in
+    let at-put = at-put-number2 .before .before .before .before in
+    let at-put-number = at-put .before .before .before .before in
+    let at-put-word = at-put-number .before .before .before .before in
+    (put-append (at-put-word .put-word .ensures) (put-append (at-put-number .put-number .ensures .0) (put-append (at-put .put .ensures) (put-append (at-put-number2 .put-number2 .ensures .0) (at-put2 .put2 .ensures)))), omega (arith, at-put-word .put-word .ensures .ends, at-put-number .put-number .ensures .1, at-put .put .ensures .ends, at-put-number2 .put-number2 .ensures .1, at-put2 .put2 .ensures .ends))
 
 pub put-worths-spec : {M : Type 1} → statement M
 put-worths-spec = tie.close (tie.spec (λ c. search needs) (λ c κs. search needs) (λ c κs. search needs) (λ c κs. search needs) (λ c κs. search needs) (λ c κs. search needs) (λ c. search needs) returns)

@@ -26,7 +26,9 @@ read-observed-spec =
     Inv-loop
     μ-loop
     (λ c. (marking-start _ _ _ _ _ _ _, refl))
-    (λ c. omega (arith, marking-within _ _ _ _ _ (condition-bounded _) _ _ _ _ _ _ (c .before .loop .inv .0) (c .before .before .before .before .before .pre .1)))
+    (λ c.
+    let start = c .before .before .before .before .before in
+    omega (arith, marking-within _ _ _ _ _ (condition-bounded _) _ _ _ _ _ _ (c .before .loop .inv .0) (start .pre .1)))
     (λ c. search needs)
     (λ c. search needs)
     (λ c. search needs)
@@ -34,16 +36,21 @@ read-observed-spec =
     (λ c. search needs)
     (λ c. search needs)
     (λ c.
-    let start = c .before .before .before .before .before .before .before .before .before in
-    let turn = c .before .before .before .before .before in
-    record { answer = marking-refused _ _ _ _ _ _ _ _ _ _ _ (turn .loop .inv .0) (c .before .before .before .before .loop-test .taken) _ _ (c .before .before .before .check-condition .ensures ∙ ap shown (c .before .k .given .1)); marked = tt; kept = λ k l. set-below (turn .loop .places) (start .args .base + turn .loop .i) (turn .loop .n) (start .args .base) (omega arith) k l ∙ turn .loop .inv .0 .kept k l })
+    let at-check-condition = c .before .before .before in
+    let turn = at-check-condition .before in
+    let at-loop = turn .before in
+    let start = at-loop .before .before .before .before in
+    record { answer = marking-refused _ _ _ _ _ _ _ _ _ _ _ (at-loop .loop .inv .0) (turn .loop-test .taken) _ _ (at-check-condition .check-condition .ensures ∙ ap shown (c .before .k .given .1)); marked = tt; kept = λ k l. set-below (at-loop .loop .places) (start .args .base + at-loop .loop .i) (at-loop .loop .n) (start .args .base) (omega arith) k l ∙ at-loop .loop .inv .0 .kept k l })
     (λ c. search needs)
     (λ c. search needs)
     (λ c. search needs)
     (λ c. search needs)
     (λ c.
-    let turn = c .before .before .before .before .before in
-    (marking-set _ _ _ (λ b. c .before .before .before .before .before .before .before .before .before .args .base + b) _ _ _ _ (turn .loop .i) _ _ (turn .loop .inv .0) (c .before .before .before .before .loop-test .taken) (omega (arith, turn .loop .inv .1, turn .loop .inv .0 .counts)) (λ j l. omega arith) (omega arith) _ (c .before .before .before .check-condition .ensures ∙ ap shown (c .before .next .given .1)), simp length-set (turn .loop .inv .1)))
+    let at-check-condition = c .before .before .before in
+    let turn = at-check-condition .before in
+    let at-loop = turn .before in
+    let start = at-loop .before .before .before .before in
+    (marking-set _ _ _ (λ b. start .args .base + b) _ _ _ _ (at-loop .loop .i) _ _ (at-loop .loop .inv .0) (turn .loop-test .taken) (omega (arith, at-loop .loop .inv .1, at-loop .loop .inv .0 .counts)) (λ j l. omega arith) (omega arith) _ (at-check-condition .check-condition .ensures ∙ ap shown (c .before .next .given .1)), simp length-set (at-loop .loop .inv .1)))
     (λ c. search needs)
     (λ c.
     let turn = c .before in

@@ -17,11 +17,27 @@ check-claim-spec =
     (λ c κs. search needs)
     (λ c. search needs)
     (λ c. search needs)
-    (λ c. between-within 0 (length (c .before .before .before .before .before .before .before .args .domains .now)) 4 _ _ _ _ (c .before .before .before .before .read-between .ensures ∙ ap said (c .before .before .fluent .given .1)) .1)
+    (λ c.
+    let at-fluent = c .before .before in
+    let at-read-between = at-fluent .before .before in
+    let start = at-read-between .before .before .before in
+    between-within 0 (length (start .args .domains .now)) 4 _ _ _ _ (at-read-between .read-between .ensures ∙ ap said (at-fluent .fluent .given .1)) .1)
     (λ c κs. search needs)
     (λ c κs. search needs)
     (λ c. search needs)
     (λ c. search needs)
-    (λ c. rw (c .before .before .before .read-between .ensures, c .before .k .given .1))
-    (λ c. rw (c .before .before .before .before .before .before .before .before .before .read-between .ensures, c .before .before .before .before .before .before .before .fluent .given .1, c .before .before .before .before .wide .ensures, c .before .before .before .read-between2 .ensures, c .before .k2 .given .1))
-    (λ c. rw (c .before .before .before .before .before .before .before .before .before .read-between .ensures, c .before .before .before .before .before .before .before .fluent .given .1, c .before .before .before .before .wide .ensures, c .before .before .before .read-between2 .ensures, c .before .n .given .1)))
+    (λ c.
+    let at-read-between = c .before .before .before in
+    rw (at-read-between .read-between .ensures, c .before .k .given .1))
+    (λ c.
+    let at-read-between2 = c .before .before .before in
+    let at-wide = at-read-between2 .before in
+    let at-fluent = at-wide .before .before .before in
+    let at-read-between = at-fluent .before .before in
+    rw (at-read-between .read-between .ensures, at-fluent .fluent .given .1, at-wide .wide .ensures, at-read-between2 .read-between2 .ensures, c .before .k2 .given .1))
+    (λ c.
+    let at-read-between2 = c .before .before .before in
+    let at-wide = at-read-between2 .before in
+    let at-fluent = at-wide .before .before .before in
+    let at-read-between = at-fluent .before .before in
+    rw (at-read-between .read-between .ensures, at-fluent .fluent .given .1, at-wide .wide .ensures, at-read-between2 .read-between2 .ensures, c .before .n .given .1)))

@@ -28,13 +28,25 @@ check-condition-spec =
     (λ c κs. search needs)
     (λ c. search needs)
     (λ c. search needs)
-    (λ c. rw (c .before .before .before .read-between .ensures, c .before .count .given .1))
+    (λ c.
+    let at-read-between = c .before .before .before in
+    rw (at-read-between .read-between .ensures, c .before .count .given .1))
     (λ c κs. search needs)
     (λ c. search needs)
-    (λ c. rw (c .before .before .before .before .before .loop .inv, many-forget _ _ _ _ (c .before .before .before .before .loop-test .taken), c .before .before .before .check-alternative .ensures, c .before .k2 .given .1))
+    (λ c.
+    let at-check-alternative = c .before .before .before in
+    let turn = at-check-alternative .before in
+    let at-loop = turn .before in
+    rw (at-loop .loop .inv, many-forget _ _ _ _ (turn .loop-test .taken), at-check-alternative .check-alternative .ensures, c .before .k2 .given .1))
     (λ c. search needs)
     (λ c. search needs)
     (λ c. search needs)
-    (λ c. rw (c .before .before .before .before .before .loop .inv, many-forget _ _ _ _ (c .before .before .before .before .loop-test .taken), c .before .before .before .check-alternative .ensures, c .before .next .given .1))
-    (λ c. rw (c .before .before .before .read-between .ensures, c .before .k .given .1))
+    (λ c.
+    let at-check-alternative = c .before .before .before in
+    let turn = at-check-alternative .before in
+    let at-loop = turn .before in
+    rw (at-loop .loop .inv, many-forget _ _ _ _ (turn .loop-test .taken), at-check-alternative .check-alternative .ensures, c .before .next .given .1))
+    (λ c.
+    let at-read-between = c .before .before .before in
+    rw (at-read-between .read-between .ensures, c .before .k .given .1))
     (λ c. rw (c .before .loop .inv, runs-none _ _ _ _ _ _ _ (c .loop-test .left))))

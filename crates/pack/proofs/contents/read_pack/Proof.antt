@@ -16,22 +16,37 @@ read-pack-spec =
     (tie.spec
     (λ c κs. search needs)
     (λ c.
-    let start = c .before .before .before .before in
-    record { answer = ap (told forget) (pack-long (start .args .s .now) (c .before .if1 .taken)) ∙ ap replied (sym (c .refusal .ensures .answer)); found = λ p e. never-gives (sym (pack-long (start .args .s .now) (c .before .if1 .taken)) ∙ e); few = c .refusal .ensures .few; long = c .refusal .ensures .long })
+    let at-if1 = c .before in
+    let start = at-if1 .before .before .before in
+    record { answer = ap (told forget) (pack-long (start .args .s .now) (at-if1 .if1 .taken)) ∙ ap replied (sym (c .refusal .ensures .answer)); found = λ p e. never-gives (sym (pack-long (start .args .s .now) (at-if1 .if1 .taken)) ∙ e); few = c .refusal .ensures .few; long = c .refusal .ensures .long })
     (λ c κs. search needs)
     (λ c. search needs)
     (λ c. search needs)
     (λ c κs. search needs)
-    (λ c. c .before .before .before .before .read-parts .kept .1 .0)
     (λ c.
-    let start = c .before .before .before .before .before .before .before .before .before in
-    record { answer = pack-told (start .args .s .now) (c .before .before .before .before .read-parts .result .answer) (c .before .before .before .before .before .before .if1 .left) (c .before .before .before .before .read-parts .ensures .answer) ∙ ended-refused (length (start .args .s .now)) _ _ _ (c .enum-told .given .1); found = λ p e. c .before .before .before .before .read-parts .ensures .found p _ (pack-all (start .args .s .now) (c .before .before .before .before .before .before .if1 .left) p e); few = c .before .before .before .before .read-parts .ensures .few; long = c .before .before .before .before .read-parts .ensures .long })
-    (λ c. c .before .before .before .before .before .before .read-parts .kept .1 .0)
+    let at-read-parts = c .before .before .before .before in
+    at-read-parts .read-parts .kept .1 .0)
     (λ c.
-    let start = c .before .before .before .before .before .before .before .before .before .before .before in
-    record { answer = pack-told (start .args .s .now) (c .before .before .before .before .before .before .read-parts .result .answer) (c .before .before .before .before .before .before .before .before .if1 .left) (c .before .before .before .before .before .before .read-parts .ensures .answer) ∙ ended-passed _ _ _ (c .before .before .answer .given .1) (c .if2 .taken); found = λ p e. c .before .before .before .before .before .before .read-parts .ensures .found p _ (pack-all (start .args .s .now) (c .before .before .before .before .before .before .before .before .if1 .left) p e); few = c .before .before .before .before .before .before .read-parts .ensures .few; long = c .before .before .before .before .before .before .read-parts .ensures .long })
-    (λ c. c .before .before .before .before .before .before .before .read-parts .kept .1 .0)
+    let at-read-parts = c .before .before .before .before in
+    let at-if1 = at-read-parts .before .before in
+    let start = at-if1 .before .before .before in
+    record { answer = pack-told (start .args .s .now) (at-read-parts .read-parts .result .answer) (at-if1 .if1 .left) (at-read-parts .read-parts .ensures .answer) ∙ ended-refused (length (start .args .s .now)) _ _ _ (c .enum-told .given .1); found = λ p e. at-read-parts .read-parts .ensures .found p _ (pack-all (start .args .s .now) (at-if1 .if1 .left) p e); few = at-read-parts .read-parts .ensures .few; long = at-read-parts .read-parts .ensures .long })
     (λ c.
-    let start = c .before .before .before .before .before .before .before .before .before .before .before .before in
-    let a = pack-told (start .args .s .now) (c .before .before .before .before .before .before .before .read-parts .result .answer) (c .before .before .before .before .before .before .before .before .before .if1 .left) (c .before .before .before .before .before .before .before .read-parts .ensures .answer) ∙ ended-early _ _ _ (c .before .before .before .answer .given .1) (c .before .if2 .left) in
+    let at-read-parts = c .before .before .before .before .before .before in
+    at-read-parts .read-parts .kept .1 .0)
+    (λ c.
+    let at-answer = c .before .before in
+    let at-read-parts = at-answer .before .before .before .before in
+    let at-if1 = at-read-parts .before .before in
+    let start = at-if1 .before .before .before in
+    record { answer = pack-told (start .args .s .now) (at-read-parts .read-parts .result .answer) (at-if1 .if1 .left) (at-read-parts .read-parts .ensures .answer) ∙ ended-passed _ _ _ (at-answer .answer .given .1) (c .if2 .taken); found = λ p e. at-read-parts .read-parts .ensures .found p _ (pack-all (start .args .s .now) (at-if1 .if1 .left) p e); few = at-read-parts .read-parts .ensures .few; long = at-read-parts .read-parts .ensures .long })
+    (λ c.
+    let at-read-parts = c .before .before .before .before .before .before .before in
+    at-read-parts .read-parts .kept .1 .0)
+    (λ c.
+    let at-answer = c .before .before .before in
+    let at-read-parts = at-answer .before .before .before .before in
+    let at-if1 = at-read-parts .before .before in
+    let start = at-if1 .before .before .before in
+    let a = pack-told (start .args .s .now) (at-read-parts .read-parts .result .answer) (at-if1 .if1 .left) (at-read-parts .read-parts .ensures .answer) ∙ ended-early _ _ _ (at-answer .answer .given .1) (c .before .if2 .left) in
     record { answer = a ∙ ap replied (sym (c .refusal2 .ensures .answer)); found = λ p e. no-pack (start .args .s .now) _ _ p a e; few = c .refusal2 .ensures .few; long = c .refusal2 .ensures .long }))

@@ -21,20 +21,35 @@ copy-bytes-spec =
     Inv-loop
     μ-loop
     (λ c. (copying-start _ _ _ _ _ _, omega arith))
-    (λ c. omega (arith, c .before .before .pre .source (c .before .loop .i) (c .loop-test .taken)))
-    (λ c. c .before .before .before .pre .source (c .before .before .loop .i) (c .before .loop-test .taken))
-    (λ c. omega (arith, c .before .before .before .pre .enough (c .before .before .loop .i) (c .before .loop-test .taken)))
-    (λ c. omega (arith, c .before .before .before .pre .room))
-    (λ c. omega (arith, c .before .before .before .pre .room, c .before .before .loop .inv .0 .only .long))
+    (λ c.
+    let start = c .before .before in
+    omega (arith, start .pre .source (c .before .loop .i) (c .loop-test .taken)))
+    (λ c.
+    let at-loop = c .before .before in
+    let start = at-loop .before in
+    start .pre .source (at-loop .loop .i) (c .before .loop-test .taken))
+    (λ c.
+    let at-loop = c .before .before in
+    let start = at-loop .before in
+    omega (arith, start .pre .enough (at-loop .loop .i) (c .before .loop-test .taken)))
+    (λ c.
+    let start = c .before .before .before in
+    omega (arith, start .pre .room))
+    (λ c.
+    let at-loop = c .before .before in
+    let start = at-loop .before in
+    omega (arith, start .pre .room, at-loop .loop .inv .0 .only .long))
     (λ c. search needs)
     (λ c. search needs)
     (λ c.
-    let turn = c .before .before in
-    (copying-more _ _ _ _ _ _ _ (turn .loop .i) _ (turn .loop .inv .0) (c .before .loop-test .taken) (omega (arith, c .before .before .before .pre .room, turn .loop .inv .0 .only .long)) refl, omega arith))
+    let at-loop = c .before .before in
+    let start = at-loop .before in
+    (copying-more _ _ _ _ _ _ _ (at-loop .loop .i) _ (at-loop .loop .inv .0) (c .before .loop-test .taken) (omega (arith, start .pre .room, at-loop .loop .inv .0 .only .long)) refl, omega arith))
     (λ c. c .before .loop .inv .0 .only .long)
     (λ c.
-    let turn = c .before in
-    let same : (turn .loop .i) ≡ c .before .before .args .count = (let q = turn .loop .inv .1 in
+    let at-loop = c .before in
+    let start = at-loop .before in
+    let same : (at-loop .loop .i) ≡ start .args .count = (let q = at-loop .loop .inv .1 in
     let r = (c .loop-test .left) in
     omega arith) in
-    record { copied = λ i l. turn .loop .inv .0 .copied i (omega arith); only = turn .loop .inv .0 .only }))
+    record { copied = λ i l. at-loop .loop .inv .0 .copied i (omega arith); only = at-loop .loop .inv .0 .only }))

@@ -15,11 +15,19 @@ copy-row-spec =
     (λ c.
     let start = c .before .before .before .before .before .before in
     omega (arith, row-ends (start .args .s .now) (start .args .from) (start .args .fluents) (start .args .characters) _ _ 18446744073709551615 (node-bytes (start .pre .dimensions) (start .args .fluents) (start .args .characters) (start .pre .sized) (start .pre .nodes) (start .pre .few) (start .args .s .now) (start .args .from) (start .pre .value) (start .pre .end) (start .pre .reads)) (omega arith) (omega arith) .0))
-    (λ c. omega (arith, c .before .before .before .before .before .before .before .pre .room))
-    (λ c κs.
-    let start = c .before .before .before .before .before .before .before in
-    row-beliefs _ _ _ _ _ _ (c .before .before .before .copy-bytes .last .1 .1 .0) (start .args .to) (node-bytes (start .pre .dimensions) (start .args .fluents) (start .args .characters) (start .pre .sized) (start .pre .nodes) (start .pre .few) (start .args .s .now) (start .args .from) (start .pre .value) (start .pre .end) (start .pre .reads)) (omega (arith, start .pre .room, c .before .before .before .copy-bytes .ensures .only .long)))
-    (λ c. c .before .before .copy-bytes2 .ensures .only .long ∙ c .before .before .before .before .before .before .copy-bytes .ensures .only .long)
     (λ c.
-    let start = c .before .before .before .before .before .before .before .before .before .before in
-    row-copied (start .args .s .now) (start .args .from) (start .args .buffer .now) (c .before .before .before .before .before .before .copy-bytes .last .1 .1 .0) (c .before .before .copy-bytes2 .last .1 .1 .0) (start .args .to) (start .args .fluents) (start .args .characters) (c .before .before .before .before .before .before .copy-bytes .ensures) (c .before .before .copy-bytes2 .ensures)))
+    let start = c .before .before .before .before .before .before .before in
+    omega (arith, start .pre .room))
+    (λ c κs.
+    let at-copy-bytes = c .before .before .before in
+    let start = at-copy-bytes .before .before .before .before in
+    row-beliefs _ _ _ _ _ _ (at-copy-bytes .copy-bytes .last .1 .1 .0) (start .args .to) (node-bytes (start .pre .dimensions) (start .args .fluents) (start .args .characters) (start .pre .sized) (start .pre .nodes) (start .pre .few) (start .args .s .now) (start .args .from) (start .pre .value) (start .pre .end) (start .pre .reads)) (omega (arith, start .pre .room, at-copy-bytes .copy-bytes .ensures .only .long)))
+    (λ c.
+    let at-copy-bytes2 = c .before .before in
+    let at-copy-bytes = at-copy-bytes2 .before .before .before .before in
+    at-copy-bytes2 .copy-bytes2 .ensures .only .long ∙ at-copy-bytes .copy-bytes .ensures .only .long)
+    (λ c.
+    let at-copy-bytes2 = c .before .before in
+    let at-copy-bytes = at-copy-bytes2 .before .before .before .before in
+    let start = at-copy-bytes .before .before .before .before in
+    row-copied (start .args .s .now) (start .args .from) (start .args .buffer .now) (at-copy-bytes .copy-bytes .last .1 .1 .0) (at-copy-bytes2 .copy-bytes2 .last .1 .1 .0) (start .args .to) (start .args .fluents) (start .args .characters) (at-copy-bytes .copy-bytes .ensures) (at-copy-bytes2 .copy-bytes2 .ensures)))

@@ -29,8 +29,12 @@ copy-table-spec =
     (tie.spec
     Inv-loop
     μ-loop
-    (λ c. omega (arith, c .before .before .pre .few))
-    (λ c. omega (arith, c .before .before .pre .room))
+    (λ c.
+    let start = c .before .before in
+    omega (arith, start .pre .few))
+    (λ c.
+    let start = c .before .before in
+    omega (arith, start .pre .room))
     (λ c.
     let start = c .before .before in
     let f = start .pre .sized .fluents in
@@ -39,31 +43,34 @@ copy-table-spec =
     let h = start .pre .sized .small .characters in
     omega arith)
     (λ c. (λ d sized t end e. record { rest = t; reads = e; same = refl }, omega arith, refl, λ p l. refl, λ p l. refl, omega arith))
-    (λ c. omega (arith, c .before .before .before .before .before .pre .room))
     (λ c.
     let start = c .before .before .before .before .before in
-    let turn = c .before .before in
+    omega (arith, start .pre .room))
+    (λ c.
+    let at-loop = c .before .before in
+    let start = at-loop .before .before .before in
     omega (
       arith,
       start .pre .room,
-      (row-fits (turn .loop .i) (start .args .nodes) ((start .args .fluents) + (start .args .characters)) (let q = turn .loop .inv .1 in
+      (row-fits (at-loop .loop .i) (start .args .nodes) ((start .args .fluents) + (start .args .characters)) (let q = at-loop .loop .inv .1 in
           let r = (c .before .loop-test .taken) in
           omega arith)),
     ))
     (λ c.
-    let start = c .before .before .before .before .before in
-    let turn = c .before .before in
+    let at-loop = c .before .before in
+    let start = at-loop .before .before .before in
     omega (
       arith,
       start .pre .room,
-      (row-fits (turn .loop .i) (start .args .nodes) ((start .args .fluents) + (start .args .characters)) (let q = turn .loop .inv .1 in
+      (row-fits (at-loop .loop .i) (start .args .nodes) ((start .args .fluents) + (start .args .characters)) (let q = at-loop .loop .inv .1 in
           let r = (c .before .loop-test .taken) in
           omega arith)),
     ))
     (λ c κs.
-    let start = c .before .before .before .before .before in
-    let turn = c .before .before in
-    let x = rowing-one _ _ _ _ _ _ _ _ (turn .loop .inv .0 (start .pre .dimensions) (start .pre .sized) (start .pre .value) (start .pre .end) (start .pre .reads)) (c .before .loop-test .taken) in
+    let turn = c .before in
+    let at-loop = turn .before in
+    let start = at-loop .before .before .before in
+    let x = rowing-one _ _ _ _ _ _ _ _ (at-loop .loop .inv .0 (start .pre .dimensions) (start .pre .sized) (start .pre .value) (start .pre .end) (start .pre .reads)) (turn .loop-test .taken) in
     record {
       dimensions = (start .pre .dimensions);
       sized = start .pre .sized;
@@ -72,38 +79,44 @@ copy-table-spec =
       value = x .item;
       end = x .place;
       reads = x .here;
-      room = (let q = (turn .loop .inv .2 ∙ length-set (start .args .buffer .now) (start .args .base) (start .args .nodes)) in
+      room = (let q = (at-loop .loop .inv .2 ∙ length-set (start .args .buffer .now) (start .args .base) (start .args .nodes)) in
           omega (
             arith,
             start .pre .room,
-            (row-fits (turn .loop .i) (start .args .nodes) ((start .args .fluents) + (start .args .characters)) (let q = turn .loop .inv .1 in
-                let r = (c .before .loop-test .taken) in
+            (row-fits (at-loop .loop .i) (start .args .nodes) ((start .args .fluents) + (start .args .characters)) (let q = at-loop .loop .inv .1 in
+                let r = (turn .loop-test .taken) in
                 omega arith)),
           ));
     })
-    (λ c. omega (arith, c .before .before .before .before .before .loop .inv .1, c .before .before .before .before .before .before .before .before .pre .few))
     (λ c.
-    let start = c .before .before .before .before .before .before .before .before in
-    let turn = c .before .before .before .before .before in
-    let x = rowing-one _ _ _ _ _ _ _ _ (turn .loop .inv .0 (start .pre .dimensions) (start .pre .sized) (start .pre .value) (start .pre .end) (start .pre .reads)) (c .before .before .before .before .loop-test .taken) in
-    omega (arith, row-ends (start .args .s .now) (turn .loop .from) (start .args .fluents) (start .args .characters) _ _ 18446744073709551615 (node-bytes (start .pre .dimensions) (start .args .fluents) (start .args .characters) (start .pre .sized) (start .args .nodes) (start .pre .few) (start .args .s .now) (turn .loop .from) (x .item) (x .place) (x .here)) (turn .loop .inv .5) (omega arith) .1))
+    let at-loop = c .before .before .before .before .before in
+    let start = at-loop .before .before .before in
+    omega (arith, at-loop .loop .inv .1, start .pre .few))
+    (λ c.
+    let turn = c .before .before .before .before in
+    let at-loop = turn .before in
+    let start = at-loop .before .before .before in
+    let x = rowing-one _ _ _ _ _ _ _ _ (at-loop .loop .inv .0 (start .pre .dimensions) (start .pre .sized) (start .pre .value) (start .pre .end) (start .pre .reads)) (turn .loop-test .taken) in
+    omega (arith, row-ends (start .args .s .now) (at-loop .loop .from) (start .args .fluents) (start .args .characters) _ _ 18446744073709551615 (node-bytes (start .pre .dimensions) (start .args .fluents) (start .args .characters) (start .pre .sized) (start .args .nodes) (start .pre .few) (start .args .s .now) (at-loop .loop .from) (x .item) (x .place) (x .here)) (at-loop .loop .inv .5) (omega arith) .1))
     (λ c. search needs)
     (λ c. search needs)
     (λ c.
-    let start = c .before .before .before .before .before .before .before .before in
-    let turn = c .before .before .before .before .before in (
-      λ d sized t end e. rowing-next d (start .args .fluents) (start .args .characters) sized (start .args .s .now) (turn .loop .from) (start .args .nodes) (turn .loop .left) ((start .args .base) + 1) (turn .loop .i) (turn .loop .buffer) _ t end (start .pre .few) (rowing-one _ _ _ _ _ _ _ _ (turn .loop .inv .0 d sized t end e) (c .before .before .before .before .loop-test .taken)) (c .before .before .copy-row .ensures),
-      omega (arith, turn .loop .inv .1),
-      c .before .before .copy-row .ensures .only .long ∙ turn .loop .inv .2,
-      λ p l. c .before .before .copy-row .ensures .only .below p (omega arith) ∙ turn .loop .inv .3 p l,
-      λ p l. c .before .before .copy-row .ensures .only .above p (omega (
+    let at-copy-row = c .before .before in
+    let turn = at-copy-row .before .before in
+    let at-loop = turn .before in
+    let start = at-loop .before .before .before in (
+      λ d sized t end e. rowing-next d (start .args .fluents) (start .args .characters) sized (start .args .s .now) (at-loop .loop .from) (start .args .nodes) (at-loop .loop .left) ((start .args .base) + 1) (at-loop .loop .i) (at-loop .loop .buffer) _ t end (start .pre .few) (rowing-one _ _ _ _ _ _ _ _ (at-loop .loop .inv .0 d sized t end e) (turn .loop-test .taken)) (at-copy-row .copy-row .ensures),
+      omega (arith, at-loop .loop .inv .1),
+      at-copy-row .copy-row .ensures .only .long ∙ at-loop .loop .inv .2,
+      λ p l. at-copy-row .copy-row .ensures .only .below p (omega arith) ∙ at-loop .loop .inv .3 p l,
+      λ p l. at-copy-row .copy-row .ensures .only .above p (omega (
         arith,
-        (row-fits (turn .loop .i) (start .args .nodes) ((start .args .fluents) + (start .args .characters)) (let q = turn .loop .inv .1 in
-            let r = (c .before .before .before .before .loop-test .taken) in
+        (row-fits (at-loop .loop .i) (start .args .nodes) ((start .args .fluents) + (start .args .characters)) (let q = at-loop .loop .inv .1 in
+            let r = (turn .loop-test .taken) in
             omega arith)),
-      )) ∙ turn .loop .inv .4 p l,
-      let x = rowing-one _ _ _ _ _ _ _ _ (turn .loop .inv .0 (start .pre .dimensions) (start .pre .sized) (start .pre .value) (start .pre .end) (start .pre .reads)) (c .before .before .before .before .loop-test .taken) in
-          omega (arith, row-ends (start .args .s .now) (turn .loop .from) (start .args .fluents) (start .args .characters) _ _ 18446744073709551615 (node-bytes (start .pre .dimensions) (start .args .fluents) (start .args .characters) (start .pre .sized) (start .args .nodes) (start .pre .few) (start .args .s .now) (turn .loop .from) (x .item) (x .place) (x .here)) (turn .loop .inv .5) (omega arith) .1),
+      )) ∙ at-loop .loop .inv .4 p l,
+      let x = rowing-one _ _ _ _ _ _ _ _ (at-loop .loop .inv .0 (start .pre .dimensions) (start .pre .sized) (start .pre .value) (start .pre .end) (start .pre .reads)) (turn .loop-test .taken) in
+          omega (arith, row-ends (start .args .s .now) (at-loop .loop .from) (start .args .fluents) (start .args .characters) _ _ 18446744073709551615 (node-bytes (start .pre .dimensions) (start .args .fluents) (start .args .characters) (start .pre .sized) (start .args .nodes) (start .pre .few) (start .args .s .now) (at-loop .loop .from) (x .item) (x .place) (x .here)) (at-loop .loop .inv .5) (omega arith) .1),
     ))
     (λ c.
     let start = c .before .before .before .before in

@@ -29,14 +29,30 @@ check-consenters-spec =
     (λ c κs. search needs)
     (λ c. search needs)
     (λ c. search needs)
-    (λ c. rw (c .before .before .before .read-between .ensures, c .before .count .given .1))
+    (λ c.
+    let at-read-between = c .before .before .before in
+    rw (at-read-between .read-between .ensures, c .before .count .given .1))
     (λ c κs. search needs)
     (λ c. search needs)
-    (λ c. rw (c .before .before .before .before .before .loop .inv, runs-one _ _ _ _ _ _ _ (c .before .before .before .before .loop-test .taken), c .before .before .before .read-rising .ensures, c .before .k2 .given .1))
+    (λ c.
+    let at-read-rising = c .before .before .before in
+    let turn = at-read-rising .before in
+    let at-loop = turn .before in
+    rw (at-loop .loop .inv, runs-one _ _ _ _ _ _ _ (turn .loop-test .taken), at-read-rising .read-rising .ensures, c .before .k2 .given .1))
     (λ c. search needs)
-    (λ c. omega (arith, rising-below (c .before .before .before .before .before .before .before .before .before .before .before .before .args .characters) (c .before .before .before .before .before .loop .least) _ _ _ _ (c .before .before .before .read-rising .ensures ∙ ap said (c .before .v .given .1))))
+    (λ c.
+    let at-read-rising = c .before .before .before in
+    let at-loop = at-read-rising .before .before in
+    let start = at-loop .before .before .before .before .before .before .before in
+    omega (arith, rising-below (start .args .characters) (at-loop .loop .least) _ _ _ _ (at-read-rising .read-rising .ensures ∙ ap said (c .before .v .given .1))))
     (λ c. search needs)
     (λ c. search needs)
-    (λ c. rw (c .before .before .before .before .before .loop .inv, runs-one _ _ _ _ _ _ _ (c .before .before .before .before .loop-test .taken), c .before .before .before .read-rising .ensures, c .before .v .given .1))
-    (λ c. rw (c .before .before .before .read-between .ensures, c .before .k .given .1))
+    (λ c.
+    let at-read-rising = c .before .before .before in
+    let turn = at-read-rising .before in
+    let at-loop = turn .before in
+    rw (at-loop .loop .inv, runs-one _ _ _ _ _ _ _ (turn .loop-test .taken), at-read-rising .read-rising .ensures, c .before .v .given .1))
+    (λ c.
+    let at-read-between = c .before .before .before in
+    rw (at-read-between .read-between .ensures, c .before .k .given .1))
     (λ c. rw (c .before .loop .inv, runs-none _ _ _ _ _ _ _ (c .loop-test .left))))

@@ -14,5 +14,10 @@ check-effect-spec =
     (λ c. search needs)
     (λ c. search needs)
     (λ c κs. search needs)
-    (λ c. rw (effect-forget, c .before .before .before .read-between .ensures, c .before .k .given .1))
-    (λ c. rw (effect-forget, c .before .before .before .before .read-between .ensures, c .before .before .n .given .1, c .check-claim .ensures)))
+    (λ c.
+    let at-read-between = c .before .before .before in
+    rw (effect-forget, at-read-between .read-between .ensures, c .before .k .given .1))
+    (λ c.
+    let at-n = c .before .before in
+    let at-read-between = at-n .before .before in
+    rw (effect-forget, at-read-between .read-between .ensures, at-n .n .given .1, c .check-claim .ensures)))

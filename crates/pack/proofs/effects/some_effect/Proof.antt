@@ -22,8 +22,11 @@ abbrev μ-loop : tie.MeasureT-loop
 μ-loop s at w n₀ left₀ n left = left
 
 -- the next effect
-next : (c : tie.In-loop Inv-loop μ-loop) → let start = c .before .before .before .before .before in (d : Dimensions) → Small d → (xs : List Effect) (end : ℕ) → effectsAt d (start .args .s .now) (start .args .at) ≡ done xs end
-    → Next (effectAt d) (start .args .s .now) (c .before .loop .n) (c .before .loop .left) (someOf (asks (start .args .w))) xs end
+next : (c : tie.In-loop Inv-loop μ-loop) →
+    let at-loop = c .before in
+    let start = at-loop .before .before .before .before in
+    (d : Dimensions) → Small d → (xs : List Effect) (end : ℕ) → effectsAt d (start .args .s .now) (start .args .at) ≡ done xs end
+    → Next (effectAt d) (start .args .s .now) (at-loop .loop .n) (at-loop .loop .left) (someOf (asks (start .args .w))) xs end
 next c d small xs end e = left-one _ _ _ _ _ _ _ (c .before .loop .inv d small xs end e) (c .loop-test .taken)
 
 pub some-effect-spec : {M : Type 1} → statement M
@@ -60,10 +63,11 @@ some-effect-spec =
     (λ c. search needs)
     (λ c. search needs)
     (λ c.
-    let turn = c .before .before .before in
+    let at-is-wanted = c .before .before in
+    let turn = at-is-wanted .before in
     λ d small xs end e.
     let x = next turn d small xs end e in
     left-next _ _ _ _ _ _ _ x _ (sym (c .after-effect .ensures d small (x .item) (x .place) (x .here)))
-    (some-on _ (x .item) (x .rest) (sym (c .before .before .is-wanted .ensures d small (x .item) (x .place) (x .here)) ∙ c .before .if1 .left)))
+    (some-on _ (x .item) (x .rest) (sym (at-is-wanted .is-wanted .ensures d small (x .item) (x .place) (x .here)) ∙ c .before .if1 .left)))
     (λ c.
     λ d small xs end e. sym (left-none _ _ _ _ _ _ _ (c .before .loop .inv d small xs end e) (c .loop-test .left) ∙ some-nil _)))

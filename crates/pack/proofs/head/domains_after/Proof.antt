@@ -22,10 +22,21 @@ domains-after-spec =
     (λ c. search needs)
     (λ c κs. search needs)
     (λ c. search needs)
-    (λ c κs. let start = c .before .before .before .before .before .before .before .before .before in subst (λ (n : Number). valueOf n ≤ 24) (c .before .fluents2 .given .1) (start .pre .1))
-    (λ c. record { reads = rw (c .before .before .version .given .1, c .no-head .ensures .answer); few = c .no-head .ensures .few; long = c .no-head .ensures .long; small = c .no-head .ensures .small })
-    (λ c. record { reads = rw (c .before .before .before .before .enum-told .given .1, c .before .before .characters .given .1, c .no-head2 .ensures .answer); few = c .no-head2 .ensures .few; long = c .no-head2 .ensures .long; small = c .no-head2 .ensures .small })
-    (λ c. record { reads = rw (c .before .before .before .before .before .before .before .enum-told .given .1, c .before .before .before .before .before .characters2 .given .1, c .before .before .fluents .given .1, c .no-head3 .ensures .answer); few = c .no-head3 .ensures .few; long = c .no-head3 .ensures .long; small = c .no-head3 .ensures .small })
+    (λ c κs.
+    let start = c .before .before .before .before .before .before .before .before .before in
+    subst (λ (n : Number). valueOf n ≤ 24) (c .before .fluents2 .given .1) (start .pre .1))
+    (λ c.
+    let at-version = c .before .before in
+    record { reads = rw (at-version .version .given .1, c .no-head .ensures .answer); few = c .no-head .ensures .few; long = c .no-head .ensures .long; small = c .no-head .ensures .small })
+    (λ c.
+    let at-characters = c .before .before in
+    let at-enum-told = at-characters .before .before in
+    record { reads = rw (at-enum-told .enum-told .given .1, at-characters .characters .given .1, c .no-head2 .ensures .answer); few = c .no-head2 .ensures .few; long = c .no-head2 .ensures .long; small = c .no-head2 .ensures .small })
+    (λ c.
+    let at-fluents = c .before .before in
+    let at-characters2 = at-fluents .before .before .before in
+    let at-enum-told = at-characters2 .before .before in
+    record { reads = rw (at-enum-told .enum-told .given .1, at-characters2 .characters2 .given .1, at-fluents .fluents .given .1, c .no-head3 .ensures .answer); few = c .no-head3 .ensures .few; long = c .no-head3 .ensures .long; small = c .no-head3 .ensures .small })
     (λ c.
     let sizes = c .before in
     let fluents = sizes .before .before in

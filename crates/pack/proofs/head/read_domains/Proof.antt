@@ -26,21 +26,34 @@ read-domains-spec =
     (tie.spec
     Inv-loop
     μ-loop
-    (λ c. (sym (mapped-id (many (between 1 129 3) (c .before .args .fluents) (c .before .args .s .now) (c .before .args .at))), omega arith, c .before .pre, refl))
+    (λ c.
+    let start = c .before in
+    (sym (mapped-id (many (between 1 129 3) (start .args .fluents) (start .args .s .now) (start .args .at))), omega arith, start .pre, refl))
     (λ c κs. search needs)
     (λ c. search needs)
     (λ c.
-    let turn = c .before .before .before .before .before in
-    record { reads = rw (turn .loop .inv .0, stored-one (between 1 129 3) (turn .loop .sizes) (turn .loop .i) _ _ _ (c .before .before .before .before .loop-test .taken) (omega (arith, turn .loop .inv)), c .before .before .before .read-between .ensures, c .before .k .given .1); long = turn .loop .inv .3 })
+    let at-read-between = c .before .before .before in
+    let turn = at-read-between .before in
+    let at-loop = turn .before in
+    record { reads = rw (at-loop .loop .inv .0, stored-one (between 1 129 3) (at-loop .loop .sizes) (at-loop .loop .i) _ _ _ (turn .loop-test .taken) (omega (arith, at-loop .loop .inv)), at-read-between .read-between .ensures, c .before .k .given .1); long = at-loop .loop .inv .3 })
     (λ c. search needs)
-    (λ c. omega (arith, between-within 1 129 3 _ _ _ _ (c .before .before .before .read-between .ensures ∙ ap said (c .before .v .given .1)) .1))
-    (λ c. omega (arith, c .before .before .before .before .before .loop .inv))
-    (λ c. omega (arith, c .before .before .before .before .before .loop .inv))
+    (λ c.
+    let at-read-between = c .before .before .before in
+    omega (arith, between-within 1 129 3 _ _ _ _ (at-read-between .read-between .ensures ∙ ap said (c .before .v .given .1)) .1))
+    (λ c.
+    let at-loop = c .before .before .before .before .before in
+    omega (arith, at-loop .loop .inv))
+    (λ c.
+    let at-loop = c .before .before .before .before .before in
+    omega (arith, at-loop .loop .inv))
     (λ c. search needs)
     (λ c. search needs)
     (λ c.
-    let turn = c .before .before .before .before .before in
-    (rw (turn .loop .inv .0, stored-one (between 1 129 3) (turn .loop .sizes) (turn .loop .i) _ _ _ (c .before .before .before .before .loop-test .taken) (omega (arith, turn .loop .inv)), c .before .before .before .read-between .ensures, c .before .v .given .1), omega (arith, turn .loop .inv), turn .loop .inv .2, simp length-set (turn .loop .inv .3)))
+    let at-read-between = c .before .before .before in
+    let turn = at-read-between .before in
+    let at-loop = turn .before in
+    (rw (at-loop .loop .inv .0, stored-one (between 1 129 3) (at-loop .loop .sizes) (at-loop .loop .i) _ _ _ (turn .loop-test .taken) (omega (arith, at-loop .loop .inv)), at-read-between .read-between .ensures, c .before .v .given .1), omega (arith, at-loop .loop .inv), at-loop .loop .inv .2, simp length-set (at-loop .loop .inv .3)))
     (λ c.
-    let turn = c .before in
-    record { reads = turn .loop .inv .0 ∙ stored-all _ _ (turn .loop .i) _ (turn .before .before .args .fluents) _ _ (c .loop-test .left) (omega (arith, turn .loop .inv, c .loop-test .left)); long = turn .loop .inv .3 }))
+    let at-loop = c .before in
+    let start = at-loop .before .before in
+    record { reads = at-loop .loop .inv .0 ∙ stored-all _ _ (at-loop .loop .i) _ (start .args .fluents) _ _ (c .loop-test .left) (omega (arith, at-loop .loop .inv, c .loop-test .left)); long = at-loop .loop .inv .3 }))

@@ -20,8 +20,11 @@ abbrev μ-loop : tie.MeasureT-loop
 μ-loop s at n₀ left₀ n left = left
 
 -- the next test
-next : (c : tie.In-loop Inv-loop μ-loop) → let start = c .before .before .before .before .before in (d : Dimensions) → Small d → (xs : List Test) (end : ℕ) → alternativeAt d (start .args .s .now) (start .args .at) ≡ done xs end
-    → Next (testAt d) (start .args .s .now) (c .before .loop .n) (c .before .loop .left) (λ (l : List Test). tt {0}) xs end
+next : (c : tie.In-loop Inv-loop μ-loop) →
+    let at-loop = c .before in
+    let start = at-loop .before .before .before .before in
+    (d : Dimensions) → Small d → (xs : List Test) (end : ℕ) → alternativeAt d (start .args .s .now) (start .args .at) ≡ done xs end
+    → Next (testAt d) (start .args .s .now) (at-loop .loop .n) (at-loop .loop .left) (λ (l : List Test). tt {0}) xs end
 next c d small xs end e = left-one _ _ _ _ _ _ _ (c .before .loop .inv d small xs end e) (c .loop-test .taken)
 
 pub after-alternative-spec : {M : Type 1} → statement M

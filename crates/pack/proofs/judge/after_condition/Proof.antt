@@ -41,6 +41,8 @@ after-condition-spec =
     record { over = start .pre .over; small = start .pre .small; value = x .item; end = x .place; reads = x .here })
     (λ c. search needs)
     (λ c. search needs)
-    (λ c. λ d small xs end e. let x = left-one _ _ _ _ _ _ _ (c .before .before .loop .inv d small xs end e) (c .before .loop-test .taken) in
+    (λ c.
+    let at-loop = c .before .before in
+    λ d small xs end e. let x = left-one _ _ _ _ _ _ _ (at-loop .loop .inv d small xs end e) (c .before .loop-test .taken) in
     left-next _ _ _ _ _ _ _ x _ (sym (c .after-alternative .ensures d small (x .item) (x .place) (x .here))) refl)
     (λ c. λ d small xs end e. left-end _ _ (λ (l : Condition). tt {0}) _ _ _ _ (c .before .loop .inv d small xs end e) (c .loop-test .left)))

@@ -22,8 +22,11 @@ abbrev μ-loop : tie.MeasureT-loop
 μ-loop s at buffer t node n₀ left₀ n left = left
 
 -- the next test
-next : (c : tie.In-loop Inv-loop μ-loop) → let start = c .before .before .before .before .before .before in (d : Dimensions) → Over d (start .args .t) → (xs : List Test) (end : ℕ) → alternativeAt d (start .args .s .now) (start .args .at) ≡ done xs end
-    → Next (testAt d) (start .args .s .now) (c .before .loop .n) (c .before .loop .left) (allPass (stateOf (start .args .t) (start .args .buffer .now) (start .args .node))) xs end
+next : (c : tie.In-loop Inv-loop μ-loop) →
+    let at-loop = c .before in
+    let start = at-loop .before .before .before .before .before in
+    (d : Dimensions) → Over d (start .args .t) → (xs : List Test) (end : ℕ) → alternativeAt d (start .args .s .now) (start .args .at) ≡ done xs end
+    → Next (testAt d) (start .args .s .now) (at-loop .loop .n) (at-loop .loop .left) (allPass (stateOf (start .args .t) (start .args .buffer .now) (start .args .node))) xs end
 next c d over xs end e = left-one _ _ _ _ _ _ _ (c .before .loop .inv d over xs end e) (c .loop-test .taken)
 
 pub all-pass-spec : {M : Type 1} → statement M
@@ -55,13 +58,15 @@ all-pass-spec =
     (λ c. search needs)
     (λ c.
     let at-test = c .before .before in
+    let turn = at-test .before in
     λ d over xs end e.
-    let x = next (at-test .before) d over xs end e in
+    let x = next turn d over xs end e in
     left-next _ _ _ _ _ _ _ x _ (sym (c .after-test .ensures d (over .small) (x .item) (x .place) (x .here)))
     (all-next _ (x .item) (x .rest) (sym (at-test .passes .ensures d over (x .item) (x .place) (x .here)) ∙ c .before .if1 .taken)))
     (λ c.
     let at-test = c .before in
+    let turn = at-test .before in
     λ d over xs end e.
-    let x = next (at-test .before) d over xs end e in
+    let x = next turn d over xs end e in
     sym (x .same ∙ all-fails _ (x .item) (x .rest) (sym (at-test .passes .ensures d over (x .item) (x .place) (x .here)) ∙ c .if1 .left)))
     (λ c d over xs end e. sym (left-none _ _ _ _ _ _ _ (c .before .loop .inv d over xs end e) (c .loop-test .left) ∙ all-none _)))

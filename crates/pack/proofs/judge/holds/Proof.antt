@@ -42,25 +42,37 @@ holds-spec =
     let x = (left-one _ _ _ _ _ _ _ (c .before .loop .inv (start .pre .dimensions) (start .pre .over) (start .pre .value) (start .pre .end) (start .pre .reads)) (c .loop-test .taken)) in
     record { table = start .pre .table; there = start .pre .there; dimensions = (start .pre .dimensions); over = start .pre .over; value = x .item; end = x .place; reads = x .here })
     (λ c.
-    let start = c .before .before .before .before .before .before .before .before in
-    let met : c .before .all-pass .result ≡ true = c .if1 .taken in
-    λ d over xs end e. let x = left-one _ _ _ _ _ _ _ (c .before .before .before .loop .inv d over xs end e) (c .before .before .loop-test .taken) in
-    sym (x .same ∙ some-holds (stateOf (start .args .t) (start .args .buffer .now) (start .args .node)) (x .item) (x .rest) (sym (c .before .all-pass .ensures d over (x .item) (x .place) (x .here)) ∙ met)))
+    let at-all-pass = c .before in
+    let turn = at-all-pass .before in
+    let at-loop = turn .before in
+    let start = at-loop .before .before .before .before .before in
+    let met : at-all-pass .all-pass .result ≡ true = c .if1 .taken in
+    λ d over xs end e. let x = left-one _ _ _ _ _ _ _ (at-loop .loop .inv d over xs end e) (turn .loop-test .taken) in
+    sym (x .same ∙ some-holds (stateOf (start .args .t) (start .args .buffer .now) (start .args .node)) (x .item) (x .rest) (sym (at-all-pass .all-pass .ensures d over (x .item) (x .place) (x .here)) ∙ met)))
     (λ c.
-    let start = c .before .before .before .before .before .before .before .before .before in
+    let at-all-pass = c .before .before in
+    let turn = at-all-pass .before in
+    let at-loop = turn .before in
+    let start = at-loop .before .before .before .before .before in
     let z = stateOf (start .args .t) (start .args .buffer .now) (start .args .node) in
-    λ d over xs end e. let x = left-one _ _ _ _ _ _ _ (c .before .before .before .before .loop .inv d over xs end e) (c .before .before .before .loop-test .taken) in
-    sym (left-last _ _ _ _ _ _ _ x (omega (arith, c .if2 .taken)) (some-next z (x .item) (x .rest) (sym (c .before .before .all-pass .ensures d over (x .item) (x .place) (x .here)) ∙ c .before .if1 .left)) ∙ some-none z))
+    λ d over xs end e. let x = left-one _ _ _ _ _ _ _ (at-loop .loop .inv d over xs end e) (turn .loop-test .taken) in
+    sym (left-last _ _ _ _ _ _ _ x (omega (arith, c .if2 .taken)) (some-next z (x .item) (x .rest) (sym (at-all-pass .all-pass .ensures d over (x .item) (x .place) (x .here)) ∙ c .before .if1 .left)) ∙ some-none z))
     (λ c κs.
-    let start = c .before .before .before .before .before .before .before .before .before in
-    let x = (left-one _ _ _ _ _ _ _ (c .before .before .before .before .loop .inv (start .pre .dimensions) (start .pre .over) (start .pre .value) (start .pre .end) (start .pre .reads)) (c .before .before .before .loop-test .taken)) in
+    let turn = c .before .before .before in
+    let at-loop = turn .before in
+    let start = at-loop .before .before .before .before .before in
+    let x = (left-one _ _ _ _ _ _ _ (at-loop .loop .inv (start .pre .dimensions) (start .pre .over) (start .pre .value) (start .pre .end) (start .pre .reads)) (turn .loop-test .taken)) in
     record { over = (start .pre .dimensions); small = start .pre .over .small; value = x .item; end = x .place; reads = x .here })
     (λ c. search needs)
     (λ c. search needs)
     (λ c.
-    let start = c .before .before .before .before .before .before .before .before .before .before in
-    λ d over xs end e. let x = left-one _ _ _ _ _ _ _ (c .before .before .before .before .before .loop .inv d over xs end e) (c .before .before .before .before .loop-test .taken) in
-    left-next _ _ _ _ _ _ _ x _ (sym (c .after-alternative .ensures d (over .small) (x .item) (x .place) (x .here))) (some-next (stateOf (start .args .t) (start .args .buffer .now) (start .args .node)) (x .item) (x .rest) (sym (c .before .before .before .all-pass .ensures d over (x .item) (x .place) (x .here)) ∙ c .before .before .if1 .left)))
+    let at-if1 = c .before .before in
+    let at-all-pass = at-if1 .before in
+    let turn = at-all-pass .before in
+    let at-loop = turn .before in
+    let start = at-loop .before .before .before .before .before in
+    λ d over xs end e. let x = left-one _ _ _ _ _ _ _ (at-loop .loop .inv d over xs end e) (turn .loop-test .taken) in
+    left-next _ _ _ _ _ _ _ x _ (sym (c .after-alternative .ensures d (over .small) (x .item) (x .place) (x .here))) (some-next (stateOf (start .args .t) (start .args .buffer .now) (start .args .node)) (x .item) (x .rest) (sym (at-all-pass .all-pass .ensures d over (x .item) (x .place) (x .here)) ∙ at-if1 .if1 .left)))
     (λ c.
     let start = c .before .before .before .before .before .before in
     λ d over xs end e. sym (left-none _ _ _ _ _ _ _ (c .before .loop .inv d over xs end e) (c .loop-test .left) ∙ some-none (stateOf (start .args .t) (start .args .buffer .now) (start .args .node)))))

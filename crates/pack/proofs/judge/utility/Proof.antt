@@ -48,41 +48,57 @@ utility-spec =
     let q = rule-parts (start .pre .dimensions) (start .args .s .now) (turn .loop .n) (x .item) (x .place) (x .here) in
     record { table = start .pre .table; there = start .pre .there; dimensions = (start .pre .dimensions); over = start .pre .over; value = x .item .condition; end = q .middle; reads = q .condition })
     (λ c.
-    let start = c .before .before .before .before .before .before .before .before .before in
-    let turn = c .before .before .before .before in
+    let at-holds = c .before .before in
+    let turn = at-holds .before in
+    let at-loop = turn .before in
+    let start = at-loop .before .before .before .before .before in
     let z = stateOf (start .args .t) (start .args .buffer .now) (start .args .node) in
-    λ d over xs end e. let x = left-one _ _ _ _ _ _ _ (turn .loop .inv d over xs end e) (c .before .before .before .loop-test .taken) in
-    let q = rule-parts d (start .args .s .now) (turn .loop .n) (x .item) (x .place) (x .here) in
-    sym (left-last _ _ _ _ _ _ _ x (omega (arith, c .if2 .taken)) (rule-next z (x .item) (x .rest) (sym (c .before .before .holds .ensures d over (x .item .condition) (q .middle) (q .condition)) ∙ not-true (c .before .before .holds .result) (c .before .if1 .taken))) ∙ rule-none z))
+    λ d over xs end e. let x = left-one _ _ _ _ _ _ _ (at-loop .loop .inv d over xs end e) (turn .loop-test .taken) in
+    let q = rule-parts d (start .args .s .now) (at-loop .loop .n) (x .item) (x .place) (x .here) in
+    sym (left-last _ _ _ _ _ _ _ x (omega (arith, c .if2 .taken)) (rule-next z (x .item) (x .rest) (sym (at-holds .holds .ensures d over (x .item .condition) (q .middle) (q .condition)) ∙ not-true (at-holds .holds .result) (c .before .if1 .taken))) ∙ rule-none z))
     (λ c κs.
-    let start = c .before .before .before .before .before .before .before .before in
-    let turn = c .before .before .before in
-    let x = left-one _ _ _ _ _ _ _ (turn .loop .inv (start .pre .dimensions) (start .pre .over) (start .pre .value) (start .pre .end) (start .pre .reads)) (c .before .before .loop-test .taken) in
-    let q = rule-parts (start .pre .dimensions) (start .args .s .now) (turn .loop .n) (x .item) (x .place) (x .here) in
+    let turn = c .before .before in
+    let at-loop = turn .before in
+    let start = at-loop .before .before .before .before .before in
+    let x = left-one _ _ _ _ _ _ _ (at-loop .loop .inv (start .pre .dimensions) (start .pre .over) (start .pre .value) (start .pre .end) (start .pre .reads)) (turn .loop-test .taken) in
+    let q = rule-parts (start .pre .dimensions) (start .args .s .now) (at-loop .loop .n) (x .item) (x .place) (x .here) in
     record { over = (start .pre .dimensions); small = start .pre .over .small; value = x .item .condition; end = q .middle; reads = q .condition })
     (λ c κs. search needs)
     (λ c. search needs)
     (λ c.
-    let start = c .before .before .before .before .before .before .before .before .before .before .before .before in
-    let turn = c .before .before .before .before .before .before .before in
-    λ d over xs end e. let x = left-one _ _ _ _ _ _ _ (turn .loop .inv d over xs end e) (c .before .before .before .before .before .before .loop-test .taken) in
-    let q = rule-parts d (start .args .s .now) (turn .loop .n) (x .item) (x .place) (x .here) in
-    never (sym (c .before .before .read-number .ensures ∙ ap said (c .enum-told .given .1)) ∙ ap (numberAt (start .args .s .now)) (c .before .before .before .after-condition .ensures d (over .small) (x .item .condition) (q .middle) (q .condition)) ∙ q .number))
+    let at-read-number = c .before .before in
+    let at-after-condition = at-read-number .before in
+    let turn = at-after-condition .before .before .before in
+    let at-loop = turn .before in
+    let start = at-loop .before .before .before .before .before in
+    λ d over xs end e. let x = left-one _ _ _ _ _ _ _ (at-loop .loop .inv d over xs end e) (turn .loop-test .taken) in
+    let q = rule-parts d (start .args .s .now) (at-loop .loop .n) (x .item) (x .place) (x .here) in
+    never (sym (at-read-number .read-number .ensures ∙ ap said (c .enum-told .given .1)) ∙ ap (numberAt (start .args .s .now)) (at-after-condition .after-condition .ensures d (over .small) (x .item .condition) (q .middle) (q .condition)) ∙ q .number))
     (λ c. search needs)
     (λ c.
-    let start = c .before .before .before .before .before .before .before .before .before .before .before .before .before .before in
-    let turn = c .before .before .before .before .before .before .before .before .before in
-    λ d over xs end e. let x = left-one _ _ _ _ _ _ _ (turn .loop .inv d over xs end e) (c .before .before .before .before .before .before .before .before .loop-test .taken) in
-    let q = rule-parts d (start .args .s .now) (turn .loop .n) (x .item) (x .place) (x .here) in
-    same-value (sym (c .before .before .before .before .read-number .ensures ∙ ap said (c .before .before .value .given .1)) ∙ ap (numberAt (start .args .s .now)) (c .before .before .before .before .before .after-condition .ensures d (over .small) (x .item .condition) (q .middle) (q .condition)) ∙ q .number) ∙ sym (x .same ∙ rule-holds (stateOf (start .args .t) (start .args .buffer .now) (start .args .node)) (x .item) (x .rest) (sym (c .before .before .before .before .before .before .before .holds .ensures d over (x .item .condition) (q .middle) (q .condition)) ∙ c .if3 .taken)))
+    let at-value = c .before .before in
+    let at-read-number = at-value .before .before in
+    let at-after-condition = at-read-number .before in
+    let at-holds = at-after-condition .before .before in
+    let turn = at-holds .before in
+    let at-loop = turn .before in
+    let start = at-loop .before .before .before .before .before in
+    λ d over xs end e. let x = left-one _ _ _ _ _ _ _ (at-loop .loop .inv d over xs end e) (turn .loop-test .taken) in
+    let q = rule-parts d (start .args .s .now) (at-loop .loop .n) (x .item) (x .place) (x .here) in
+    same-value (sym (at-read-number .read-number .ensures ∙ ap said (at-value .value .given .1)) ∙ ap (numberAt (start .args .s .now)) (at-after-condition .after-condition .ensures d (over .small) (x .item .condition) (q .middle) (q .condition)) ∙ q .number) ∙ sym (x .same ∙ rule-holds (stateOf (start .args .t) (start .args .buffer .now) (start .args .node)) (x .item) (x .rest) (sym (at-holds .holds .ensures d over (x .item .condition) (q .middle) (q .condition)) ∙ c .if3 .taken)))
     (λ c. search needs)
     (λ c. search needs)
     (λ c.
-    let start = c .before .before .before .before .before .before .before .before .before .before .before .before .before .before in
-    let turn = c .before .before .before .before .before .before .before .before .before in
-    λ d over xs end e. let x = left-one _ _ _ _ _ _ _ (turn .loop .inv d over xs end e) (c .before .before .before .before .before .before .before .before .loop-test .taken) in
-    let q = rule-parts d (start .args .s .now) (turn .loop .n) (x .item) (x .place) (x .here) in
-    left-next _ _ _ _ _ _ _ x _ (sym (same-place (sym (c .before .before .before .before .read-number .ensures ∙ ap said (c .before .before .value .given .1)) ∙ ap (numberAt (start .args .s .now)) (c .before .before .before .before .before .after-condition .ensures d (over .small) (x .item .condition) (q .middle) (q .condition)) ∙ q .number))) (rule-next (stateOf (start .args .t) (start .args .buffer .now) (start .args .node)) (x .item) (x .rest) (sym (c .before .before .before .before .before .before .before .holds .ensures d over (x .item .condition) (q .middle) (q .condition)) ∙ c .if3 .left)))
+    let at-value = c .before .before in
+    let at-read-number = at-value .before .before in
+    let at-after-condition = at-read-number .before in
+    let at-holds = at-after-condition .before .before in
+    let turn = at-holds .before in
+    let at-loop = turn .before in
+    let start = at-loop .before .before .before .before .before in
+    λ d over xs end e. let x = left-one _ _ _ _ _ _ _ (at-loop .loop .inv d over xs end e) (turn .loop-test .taken) in
+    let q = rule-parts d (start .args .s .now) (at-loop .loop .n) (x .item) (x .place) (x .here) in
+    left-next _ _ _ _ _ _ _ x _ (sym (same-place (sym (at-read-number .read-number .ensures ∙ ap said (at-value .value .given .1)) ∙ ap (numberAt (start .args .s .now)) (at-after-condition .after-condition .ensures d (over .small) (x .item .condition) (q .middle) (q .condition)) ∙ q .number))) (rule-next (stateOf (start .args .t) (start .args .buffer .now) (start .args .node)) (x .item) (x .rest) (sym (at-holds .holds .ensures d over (x .item .condition) (q .middle) (q .condition)) ∙ c .if3 .left)))
     (λ c.
     let start = c .before .before .before .before .before .before in
     λ d over xs end e. sym (left-none _ _ _ _ _ _ _ (c .before .loop .inv d over xs end e) (c .loop-test .left) ∙ rule-none (stateOf (start .args .t) (start .args .buffer .now) (start .args .node)))))

@@ -25,9 +25,17 @@ check-beliefs-spec =
     (λ c. search needs)
     (λ c κs. search needs)
     (λ c. search needs)
-    (λ c. rw (c .before .before .before .before .before .loop .inv, many-forget _ _ _ _ (c .before .before .before .before .loop-test .taken), c .before .before .before .read-belief .ensures, c .before .k .given .1))
+    (λ c.
+    let at-read-belief = c .before .before .before in
+    let turn = at-read-belief .before in
+    let at-loop = turn .before in
+    rw (at-loop .loop .inv, many-forget _ _ _ _ (turn .loop-test .taken), at-read-belief .read-belief .ensures, c .before .k .given .1))
     (λ c. search needs)
     (λ c. search needs)
     (λ c. search needs)
-    (λ c. rw (c .before .before .before .before .before .loop .inv, many-forget _ _ _ _ (c .before .before .before .before .loop-test .taken), c .before .before .before .read-belief .ensures, c .before .next .given .1))
+    (λ c.
+    let at-read-belief = c .before .before .before in
+    let turn = at-read-belief .before in
+    let at-loop = turn .before in
+    rw (at-loop .loop .inv, many-forget _ _ _ _ (turn .loop-test .taken), at-read-belief .read-belief .ensures, c .before .next .given .1))
     (λ c. rw (c .before .loop .inv, runs-none _ _ _ _ _ _ _ (c .loop-test .left))))

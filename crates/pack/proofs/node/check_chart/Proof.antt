@@ -19,15 +19,21 @@ check-chart-spec =
     (λ c κs. search needs)
     (λ c. search needs)
     (λ c.
-    let start = c .before .before .before .before .before .before in
-    omega (arith, refusal-bounded (start .args .s .now) length (nodesAt (dims (start .args .characters) (start .args .domains .now)) (start .args .s .now) 0) _ _ (nodes-bounded _ _ _ (omega arith)) (c .before .before .before .check-nodes .ensures ∙ ap said (c .before .k .given .1))))
+    let at-check-nodes = c .before .before .before in
+    let start = at-check-nodes .before .before .before in
+    omega (arith, refusal-bounded (start .args .s .now) length (nodesAt (dims (start .args .characters) (start .args .domains .now)) (start .args .s .now) 0) _ _ (nodes-bounded _ _ _ (omega arith)) (at-check-nodes .check-nodes .ensures ∙ ap said (c .before .k .given .1))))
     (λ c. search needs)
     (λ c.
-    let start = c .before .before .before .before .before .before in
-    chart-refused length (length (start .args .s .now)) (nodesAt (dims (start .args .characters) (start .args .domains .now)) (start .args .s .now) 0) _ _ (c .before .before .before .check-nodes .ensures ∙ ap said (c .before .k .given .1)))
+    let at-check-nodes = c .before .before .before in
+    let start = at-check-nodes .before .before .before in
+    chart-refused length (length (start .args .s .now)) (nodesAt (dims (start .args .characters) (start .args .domains .now)) (start .args .s .now) 0) _ _ (at-check-nodes .check-nodes .ensures ∙ ap said (c .before .k .given .1)))
     (λ c.
-    let start = c .before .before .before .before .before .before .before in
-    chart-read length (length (start .args .s .now)) (nodesAt (dims (start .args .characters) (start .args .domains .now)) (start .args .s .now) 0) _ _ (c .before .before .before .before .check-nodes .ensures ∙ ap said (c .before .before .nodes .given .1)) ∙ rw (eq-eqb _ _ (c .if1 .taken)))
+    let at-nodes = c .before .before in
+    let at-check-nodes = at-nodes .before .before in
+    let start = at-check-nodes .before .before .before in
+    chart-read length (length (start .args .s .now)) (nodesAt (dims (start .args .characters) (start .args .domains .now)) (start .args .s .now) 0) _ _ (at-check-nodes .check-nodes .ensures ∙ ap said (at-nodes .nodes .given .1)) ∙ rw (eq-eqb _ _ (c .if1 .taken)))
     (λ c.
-    let start = c .before .before .before .before .before .before .before in
-    chart-read length (length (start .args .s .now)) (nodesAt (dims (start .args .characters) (start .args .domains .now)) (start .args .s .now) 0) _ _ (c .before .before .before .before .check-nodes .ensures ∙ ap said (c .before .before .nodes .given .1)) ∙ rw (ne-eqb _ _ (c .if1 .left))))
+    let at-nodes = c .before .before in
+    let at-check-nodes = at-nodes .before .before in
+    let start = at-check-nodes .before .before .before in
+    chart-read length (length (start .args .s .now)) (nodesAt (dims (start .args .characters) (start .args .domains .now)) (start .args .s .now) 0) _ _ (at-check-nodes .check-nodes .ensures ∙ ap said (at-nodes .nodes .given .1)) ∙ rw (ne-eqb _ _ (c .if1 .left))))

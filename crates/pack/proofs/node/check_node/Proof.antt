@@ -13,5 +13,10 @@ check-node-spec =
     (λ c. search needs)
     (λ c. search needs)
     (λ c κs. search needs)
-    (λ c. rw (node-forget, c .before .before .before .check-values .ensures, c .before .k .given .1))
-    (λ c. rw (node-forget, c .before .before .before .before .check-values .ensures, c .before .before .n .given .1, c .check-beliefs .ensures)))
+    (λ c.
+    let at-check-values = c .before .before .before in
+    rw (node-forget, at-check-values .check-values .ensures, c .before .k .given .1))
+    (λ c.
+    let at-n = c .before .before in
+    let at-check-values = at-n .before .before in
+    rw (node-forget, at-check-values .check-values .ensures, at-n .n .given .1, c .check-beliefs .ensures)))

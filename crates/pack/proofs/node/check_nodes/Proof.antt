@@ -15,6 +15,16 @@ check-nodes-spec =
     (λ c κs. search needs)
     (λ c. search needs)
     (λ c. search needs)
-    (λ c. rw (nodes-length, c .before .before .before .read-between .ensures, c .before .k .given .1))
-    (λ c. rw (nodes-length, c .before .before .before .before .before .before .before .read-between .ensures, c .before .before .before .before .before .nodes .given .1, c .before .before .before .check-rows .ensures, c .before .k2 .given .1))
-    (λ c. rw (nodes-length, c .before .before .before .before .before .before .before .read-between .ensures, c .before .before .before .before .before .nodes .given .1, c .before .before .before .check-rows .ensures, c .before .n .given .1)))
+    (λ c.
+    let at-read-between = c .before .before .before in
+    rw (nodes-length, at-read-between .read-between .ensures, c .before .k .given .1))
+    (λ c.
+    let at-check-rows = c .before .before .before in
+    let at-nodes = at-check-rows .before .before in
+    let at-read-between = at-nodes .before .before in
+    rw (nodes-length, at-read-between .read-between .ensures, at-nodes .nodes .given .1, at-check-rows .check-rows .ensures, c .before .k2 .given .1))
+    (λ c.
+    let at-check-rows = c .before .before .before in
+    let at-nodes = at-check-rows .before .before in
+    let at-read-between = at-nodes .before .before in
+    rw (nodes-length, at-read-between .read-between .ensures, at-nodes .nodes .given .1, at-check-rows .check-rows .ensures, c .before .n .given .1)))

@@ -26,9 +26,17 @@ check-rows-spec =
     (λ c. search needs)
     (λ c κs. search needs)
     (λ c. search needs)
-    (λ c. rw (c .before .before .before .before .before .loop .inv, many-forget _ _ _ _ (c .before .before .before .before .loop-test .taken), c .before .before .before .check-node .ensures, c .before .k .given .1))
+    (λ c.
+    let at-check-node = c .before .before .before in
+    let turn = at-check-node .before in
+    let at-loop = turn .before in
+    rw (at-loop .loop .inv, many-forget _ _ _ _ (turn .loop-test .taken), at-check-node .check-node .ensures, c .before .k .given .1))
     (λ c. search needs)
     (λ c. search needs)
     (λ c. search needs)
-    (λ c. rw (c .before .before .before .before .before .loop .inv, many-forget _ _ _ _ (c .before .before .before .before .loop-test .taken), c .before .before .before .check-node .ensures, c .before .next .given .1))
+    (λ c.
+    let at-check-node = c .before .before .before in
+    let turn = at-check-node .before in
+    let at-loop = turn .before in
+    rw (at-loop .loop .inv, many-forget _ _ _ _ (turn .loop-test .taken), at-check-node .check-node .ensures, c .before .next .given .1))
     (λ c. rw (c .before .loop .inv, runs-none _ _ _ _ _ _ _ (c .loop-test .left))))

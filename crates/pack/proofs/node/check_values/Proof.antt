@@ -30,10 +30,20 @@ check-values-spec =
     (λ c κs. search needs)
     (λ c κs. search needs)
     (λ c. search needs)
-    (λ c. rw (c .before .before .before .before .before .before .before .loop .inv .0, runs-one _ _ _ _ _ _ _ (c .before .before .before .before .before .before .loop-test .taken), c .before .before .before .before .wide .ensures, c .before .before .before .read-between .ensures, c .before .k .given .1))
+    (λ c.
+    let at-read-between = c .before .before .before in
+    let at-wide = at-read-between .before in
+    let turn = at-wide .before .before in
+    let at-loop = turn .before in
+    rw (at-loop .loop .inv .0, runs-one _ _ _ _ _ _ _ (turn .loop-test .taken), at-wide .wide .ensures, at-read-between .read-between .ensures, c .before .k .given .1))
     (λ c. search needs)
     (λ c. search needs)
     (λ c. search needs)
     (λ c. search needs)
-    (λ c. (rw (c .before .before .before .before .before .before .before .loop .inv .0, runs-one _ _ _ _ _ _ _ (c .before .before .before .before .before .before .loop-test .taken), c .before .before .before .before .wide .ensures, c .before .before .before .read-between .ensures, c .before .next .given .1), omega arith))
+    (λ c.
+    let at-read-between = c .before .before .before in
+    let at-wide = at-read-between .before in
+    let turn = at-wide .before .before in
+    let at-loop = turn .before in
+    (rw (at-loop .loop .inv .0, runs-one _ _ _ _ _ _ _ (turn .loop-test .taken), at-wide .wide .ensures, at-read-between .read-between .ensures, c .before .next .given .1), omega arith))
     (λ c. rw (c .before .loop .inv .0, runs-none _ _ _ _ _ _ _ (c .loop-test .left))))

@@ -30,10 +30,16 @@ rows-after-spec =
     (λ c. search needs)
     (λ c. search needs)
     (λ c. rw (c .before .answer .given .1))
-    (λ c. rw (c .before .before .before .enum-told .given .1, c .before .count .given .1))
     (λ c.
-    let count = c .before .before .before .before .before .before .before in
-    rw (count .before .before .enum-told .given .1, count .count2 .given .1, counted (count .count2 .given .0 .0) _, c .before .before .before .check-rows .ensures, c .before .k .given .1))
+    let at-enum-told = c .before .before .before in
+    rw (at-enum-told .enum-told .given .1, c .before .count .given .1))
     (λ c.
-    let count = c .before .before .before .before .before .before .before in
-    rw (count .before .before .enum-told .given .1, count .count2 .given .1, counted (count .count2 .given .0 .0) _, c .before .before .before .check-rows .ensures, c .before .n .given .1)))
+    let at-check-rows = c .before .before .before in
+    let count = at-check-rows .before .before .before .before in
+    let at-enum-told = count .before .before in
+    rw (at-enum-told .enum-told .given .1, count .count2 .given .1, counted (count .count2 .given .0 .0) _, at-check-rows .check-rows .ensures, c .before .k .given .1))
+    (λ c.
+    let at-check-rows = c .before .before .before in
+    let count = at-check-rows .before .before .before .before in
+    let at-enum-told = count .before .before in
+    rw (at-enum-told .enum-told .given .1, count .count2 .given .1, counted (count .count2 .given .0 .0) _, at-check-rows .check-rows .ensures, c .before .n .given .1)))

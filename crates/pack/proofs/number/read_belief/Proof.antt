@@ -15,7 +15,18 @@ read-belief-spec =
     (λ c. search needs)
     (λ c. search needs)
     (λ c. search needs)
-    (λ c. rw (c .before .before .before .read-number .ensures, c .before .k .given .1))
-    (λ c. search (needs, tests, c .before .before .before .before .read-number .ensures, c .before .before .v .given .1))
-    (λ c. search (needs, tests, c .before .before .before .before .before .read-number .ensures, c .before .before .before .v .given .1))
-    (λ c. search (needs, tests, c .before .before .before .before .before .read-number .ensures, c .before .before .before .v .given .1)))
+    (λ c.
+    let at-read-number = c .before .before .before in
+    rw (at-read-number .read-number .ensures, c .before .k .given .1))
+    (λ c.
+    let at-v = c .before .before in
+    let at-read-number = at-v .before .before in
+    search (needs, tests, at-read-number .read-number .ensures, at-v .v .given .1))
+    (λ c.
+    let at-v = c .before .before .before in
+    let at-read-number = at-v .before .before in
+    search (needs, tests, at-read-number .read-number .ensures, at-v .v .given .1))
+    (λ c.
+    let at-v = c .before .before .before in
+    let at-read-number = at-v .before .before in
+    search (needs, tests, at-read-number .read-number .ensures, at-v .v .given .1)))

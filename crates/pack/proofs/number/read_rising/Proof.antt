@@ -14,7 +14,18 @@ read-rising-spec =
     (λ c κs. search needs)
     (λ c. search needs)
     (λ c. search needs)
-    (λ c. rw (c .before .before .before .before .read-number .ensures, c .before .before .v .given .1, le-ltb (c .before .before .v .given .0 .0) 0 (omega arith), le-ltb _ _ (c .if1 .taken)))
-    (λ c. rw (c .before .before .before .before .before .read-number .ensures, c .before .before .before .v .given .1, le-ltb (c .before .before .before .v .given .0 .0) 0 (omega arith), lt-ltb _ _ (c .before .if1 .left), lt-ltb _ _ (c .if2 .taken)))
-    (λ c. rw (c .before .before .before .read-number .ensures, c .before .k .given .1))
-    (λ c. rw (c .before .before .before .before .before .read-number .ensures, c .before .before .before .v .given .1, le-ltb (c .before .before .before .v .given .0 .0) 0 (omega arith), lt-ltb _ _ (c .before .if1 .left), le-ltb _ _ (c .if2 .left))))
+    (λ c.
+    let at-v = c .before .before in
+    let at-read-number = at-v .before .before in
+    rw (at-read-number .read-number .ensures, at-v .v .given .1, le-ltb (at-v .v .given .0 .0) 0 (omega arith), le-ltb _ _ (c .if1 .taken)))
+    (λ c.
+    let at-v = c .before .before .before in
+    let at-read-number = at-v .before .before in
+    rw (at-read-number .read-number .ensures, at-v .v .given .1, le-ltb (at-v .v .given .0 .0) 0 (omega arith), lt-ltb _ _ (c .before .if1 .left), lt-ltb _ _ (c .if2 .taken)))
+    (λ c.
+    let at-read-number = c .before .before .before in
+    rw (at-read-number .read-number .ensures, c .before .k .given .1))
+    (λ c.
+    let at-v = c .before .before .before in
+    let at-read-number = at-v .before .before in
+    rw (at-read-number .read-number .ensures, at-v .v .given .1, le-ltb (at-v .v .given .0 .0) 0 (omega arith), lt-ltb _ _ (c .before .if1 .left), le-ltb _ _ (c .if2 .left))))

@@ -26,19 +26,30 @@ plain-chain-spec =
     μ-loop
     (λ c κs. search needs)
     (λ c. (refl, refl))
-    (λ c. omega (arith, c .before .before .loop .inv .1, c .before .before .before .before .before .pre))
+    (λ c.
+    let at-loop = c .before .before in
+    let start = at-loop .before .before .before in
+    omega (arith, at-loop .loop .inv .1, start .pre))
     (λ c κs. search needs)
     (λ c. unsaid)
-    (λ c. omega (arith, c .before .before .before .before .loop .inv .1, c .before .before .before .before .before .before .before .pre))
+    (λ c.
+    let at-loop = c .before .before .before .before in
+    let start = at-loop .before .before .before in
+    omega (arith, at-loop .loop .inv .1, start .pre))
     (λ c. search needs)
     (λ c. search needs)
     (λ c.
-    let turn = c .before .before .before .before in
-    let start = turn .before .before .before in
-    let more = c .before .before .before .loop-test .taken in
-    let below = turn .before .byte-limit .ensures in (
-      turn .loop .inv .0 ∙ chain-more (start .args .characters) (start .args .s .now) (turn .loop .n) (turn .loop .left) (c .before .wide .result) more
-          (omega (arith, turn .loop .inv .1, start .pre, more)) (c .before .wide .ensures) (omega (arith, c .if1 .left, below .0)) (omega (arith, c .if1 .left, below .1)),
-      omega (arith, turn .loop .inv .1, more),
+    let at-wide = c .before in
+    let turn = at-wide .before .before in
+    let at-loop = turn .before in
+    let at-byte-limit = at-loop .before in
+    let start = at-byte-limit .before .before in
+    let more = turn .loop-test .taken in
+    let below = at-byte-limit .byte-limit .ensures in (
+      at-loop .loop .inv .0 ∙ chain-more (start .args .characters) (start .args .s .now) (at-loop .loop .n) (at-loop .loop .left) (at-wide .wide .result) more
+          (omega (arith, at-loop .loop .inv .1, start .pre, more)) (at-wide .wide .ensures) (omega (arith, c .if1 .left, below .0)) (omega (arith, c .if1 .left, below .1)),
+      omega (arith, at-loop .loop .inv .1, more),
     ))
-    (λ c said. rw (c .before .loop .inv .0, runs-none _ _ _ _ _ _ _ (c .loop-test .left)) (ap (done tt) (omega (arith, c .before .loop .inv .1, c .loop-test .left)))))
+    (λ c said.
+    let at-loop = c .before in
+    rw (at-loop .loop .inv .0, runs-none _ _ _ _ _ _ _ (c .loop-test .left)) (ap (done tt) (omega (arith, at-loop .loop .inv .1, c .loop-test .left)))))

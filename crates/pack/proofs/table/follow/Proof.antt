@@ -29,62 +29,72 @@ follow-spec =
     let start = c .before .before in
     (refl, start .pre .1, start .pre .3, start .pre .2))
     (λ c.
-    let start = c .before .before .before .before .before in
+    let at-loop = c .before .before in
+    let start = at-loop .before .before .before in
+    omega (
+      arith,
+      cell-in (start .args .t) (start .args .buffer .now) (start .pre .0) (at-loop .loop .there) (start .args .t .fluents + (getD (start .args .s .now) (at-loop .loop .n) 0)) (at-loop .loop .inv .1) (let v = (valid-first (start .args .t .characters) (start .args .s .now) (at-loop .loop .n) (at-loop .loop .left) (c .before .loop-test .taken) (at-loop .loop .inv .2)) in
+          let w = start .pre .0 .wide in
+          omega arith),
+    ))
+    (λ c.
     let turn = c .before .before in
+    let at-loop = turn .before in
+    let start = at-loop .before .before .before in
     omega (
       arith,
-      cell-in (start .args .t) (start .args .buffer .now) (start .pre .0) (turn .loop .there) (start .args .t .fluents + (getD (start .args .s .now) (turn .loop .n) 0)) (turn .loop .inv .1) (let v = (valid-first (start .args .t .characters) (start .args .s .now) (turn .loop .n) (turn .loop .left) (c .before .loop-test .taken) (turn .loop .inv .2)) in
+      cell-in (start .args .t) (start .args .buffer .now) (start .pre .0) (at-loop .loop .there) (start .args .t .fluents + (getD (start .args .s .now) (at-loop .loop .n) 0)) (at-loop .loop .inv .1) (let v = (valid-first (start .args .t .characters) (start .args .s .now) (at-loop .loop .n) (at-loop .loop .left) (turn .loop-test .taken) (at-loop .loop .inv .2)) in
           let w = start .pre .0 .wide in
           omega arith),
     ))
     (λ c.
-    let start = c .before .before .before .before .before .before in
     let turn = c .before .before .before in
+    let at-loop = turn .before in
+    let start = at-loop .before .before .before in
     omega (
       arith,
-      cell-in (start .args .t) (start .args .buffer .now) (start .pre .0) (turn .loop .there) (start .args .t .fluents + (getD (start .args .s .now) (turn .loop .n) 0)) (turn .loop .inv .1) (let v = (valid-first (start .args .t .characters) (start .args .s .now) (turn .loop .n) (turn .loop .left) (c .before .before .loop-test .taken) (turn .loop .inv .2)) in
+      cell-in (start .args .t) (start .args .buffer .now) (start .pre .0) (at-loop .loop .there) (start .args .t .fluents + (getD (start .args .s .now) (at-loop .loop .n) 0)) (at-loop .loop .inv .1) (let v = (valid-first (start .args .t .characters) (start .args .s .now) (at-loop .loop .n) (at-loop .loop .left) (turn .loop-test .taken) (at-loop .loop .inv .2)) in
           let w = start .pre .0 .wide in
           omega arith),
     ))
     (λ c.
-    let start = c .before .before .before .before .before .before .before in
-    let turn = c .before .before .before .before in
-    omega (
-      arith,
-      cell-in (start .args .t) (start .args .buffer .now) (start .pre .0) (turn .loop .there) (start .args .t .fluents + (getD (start .args .s .now) (turn .loop .n) 0)) (turn .loop .inv .1) (let v = (valid-first (start .args .t .characters) (start .args .s .now) (turn .loop .n) (turn .loop .left) (c .before .before .before .loop-test .taken) (turn .loop .inv .2)) in
-          let w = start .pre .0 .wide in
-          omega arith),
-    ))
-    (λ c. omega (arith, c .before .before .before .before .before .loop .inv .3))
+    let at-loop = c .before .before .before .before .before in
+    omega (arith, at-loop .loop .inv .3))
     (λ c κs. search needs)
     (λ c.
-    let start = c .before .before .before .before .before .before .before .before .before in
-    let turn = c .before .before .before .before .before .before in
+    let turn = c .before .before .before .before .before in
+    let at-loop = turn .before in
+    let start = at-loop .before .before .before in
     omega (
       arith,
-      cell-in (start .args .t) (start .args .buffer .now) (start .pre .0) (turn .loop .there) (start .args .t .fluents + (getD (start .args .s .now) (turn .loop .n) 0)) (turn .loop .inv .1) (let v = (valid-first (start .args .t .characters) (start .args .s .now) (turn .loop .n) (turn .loop .left) (c .before .before .before .before .before .loop-test .taken) (turn .loop .inv .2)) in
+      cell-in (start .args .t) (start .args .buffer .now) (start .pre .0) (at-loop .loop .there) (start .args .t .fluents + (getD (start .args .s .now) (at-loop .loop .n) 0)) (at-loop .loop .inv .1) (let v = (valid-first (start .args .t .characters) (start .args .s .now) (at-loop .loop .n) (at-loop .loop .left) (turn .loop-test .taken) (at-loop .loop .inv .2)) in
           let w = start .pre .0 .wide in
           omega arith),
       c .wide .ensures,
     ))
     (λ c.
-    let start = c .before .before .before .before .before .before .before .before .before .before in
-    let turn = c .before .before .before .before .before .before .before in
+    let turn = c .before .before .before .before .before .before in
+    let at-loop = turn .before in
+    let start = at-loop .before .before .before in
     omega (
       arith,
-      cell-in (start .args .t) (start .args .buffer .now) (start .pre .0) (turn .loop .there) (start .args .t .fluents + (getD (start .args .s .now) (turn .loop .n) 0)) (turn .loop .inv .1) (let v = (valid-first (start .args .t .characters) (start .args .s .now) (turn .loop .n) (turn .loop .left) (c .before .before .before .before .before .before .loop-test .taken) (turn .loop .inv .2)) in
+      cell-in (start .args .t) (start .args .buffer .now) (start .pre .0) (at-loop .loop .there) (start .args .t .fluents + (getD (start .args .s .now) (at-loop .loop .n) 0)) (at-loop .loop .inv .1) (let v = (valid-first (start .args .t .characters) (start .args .s .now) (at-loop .loop .n) (at-loop .loop .left) (turn .loop-test .taken) (at-loop .loop .inv .2)) in
           let w = start .pre .0 .wide in
           omega arith),
       c .before .wide .ensures,
     ))
     (λ c κs. search needs)
-    (λ c. omega (arith, c .before .before .before .before .before .before .before .before .loop .inv .3))
+    (λ c.
+    let at-loop = c .before .before .before .before .before .before .before .before in
+    omega (arith, at-loop .loop .inv .3))
     (λ c. search needs)
     (λ c. search needs)
     (λ c.
-    let start = c .before .before .before .before .before .before .before .before .before .before .before in
-    let turn = c .before .before .before .before .before .before .before .before in
-    (turn .loop .inv .0 ∙ ap (walk (tableOf (start .args .t) (start .args .buffer .now)) (turn .loop .there)) (bytes-one (start .args .s .now) (turn .loop .n) (turn .loop .left) (c .before .before .before .before .before .before .before .loop-test .taken)) ∙ walk-one (start .args .t) (start .args .buffer .now) (start .pre .0) (turn .loop .there) (getD (start .args .s .now) (turn .loop .n) 0) (bytesAt (start .args .s .now) ((turn .loop .n) + 1) ((turn .loop .left) - 1)) (turn .loop .inv .1) (valid-first (start .args .t .characters) (start .args .s .now) (turn .loop .n) (turn .loop .left) (c .before .before .before .before .before .before .before .loop-test .taken) (turn .loop .inv .2)) ∙ ap (λ j. walk (tableOf (start .args .t) (start .args .buffer .now)) j (bytesAt (start .args .s .now) ((turn .loop .n) + 1) ((turn .loop .left) - 1))) (ap (λ k. getD (start .args .buffer .now) (((start .args .t .rows + (turn .loop .there) * start .args .t .width) + start .args .t .fluents) + k) 0) (c .before .before .wide .ensures) ∙ c .wide2 .ensures), omega (arith, belief-in-table (start .args .t) (start .args .buffer .now) (start .pre .0) (turn .loop .there) (getD (start .args .s .now) (turn .loop .n) 0) (turn .loop .inv .1) (valid-first (start .args .t .characters) (start .args .s .now) (turn .loop .n) (turn .loop .left) (c .before .before .before .before .before .before .before .loop-test .taken) (turn .loop .inv .2)), (ap (λ k. getD (start .args .buffer .now) (((start .args .t .rows + (turn .loop .there) * start .args .t .width) + start .args .t .fluents) + k) 0) (c .before .before .wide .ensures) ∙ c .wide2 .ensures)), valid-rest _ (start .args .s .now) (turn .loop .n) (turn .loop .left) (c .before .before .before .before .before .before .before .loop-test .taken) (turn .loop .inv .2), omega (arith, turn .loop .inv .3)))
+    let at-wide = c .before .before in
+    let turn = at-wide .before .before .before .before .before in
+    let at-loop = turn .before in
+    let start = at-loop .before .before .before in
+    (at-loop .loop .inv .0 ∙ ap (walk (tableOf (start .args .t) (start .args .buffer .now)) (at-loop .loop .there)) (bytes-one (start .args .s .now) (at-loop .loop .n) (at-loop .loop .left) (turn .loop-test .taken)) ∙ walk-one (start .args .t) (start .args .buffer .now) (start .pre .0) (at-loop .loop .there) (getD (start .args .s .now) (at-loop .loop .n) 0) (bytesAt (start .args .s .now) ((at-loop .loop .n) + 1) ((at-loop .loop .left) - 1)) (at-loop .loop .inv .1) (valid-first (start .args .t .characters) (start .args .s .now) (at-loop .loop .n) (at-loop .loop .left) (turn .loop-test .taken) (at-loop .loop .inv .2)) ∙ ap (λ j. walk (tableOf (start .args .t) (start .args .buffer .now)) j (bytesAt (start .args .s .now) ((at-loop .loop .n) + 1) ((at-loop .loop .left) - 1))) (ap (λ k. getD (start .args .buffer .now) (((start .args .t .rows + (at-loop .loop .there) * start .args .t .width) + start .args .t .fluents) + k) 0) (at-wide .wide .ensures) ∙ c .wide2 .ensures), omega (arith, belief-in-table (start .args .t) (start .args .buffer .now) (start .pre .0) (at-loop .loop .there) (getD (start .args .s .now) (at-loop .loop .n) 0) (at-loop .loop .inv .1) (valid-first (start .args .t .characters) (start .args .s .now) (at-loop .loop .n) (at-loop .loop .left) (turn .loop-test .taken) (at-loop .loop .inv .2)), (ap (λ k. getD (start .args .buffer .now) (((start .args .t .rows + (at-loop .loop .there) * start .args .t .width) + start .args .t .fluents) + k) 0) (at-wide .wide .ensures) ∙ c .wide2 .ensures)), valid-rest _ (start .args .s .now) (at-loop .loop .n) (at-loop .loop .left) (turn .loop-test .taken) (at-loop .loop .inv .2), omega (arith, at-loop .loop .inv .3)))
     (λ c.
     let start = c .before .before .before .before in
     let turn = c .before in

@@ -11,7 +11,11 @@ after-test-spec =
     tie.close
     (tie.spec
     (λ c. omega (arith, test-read (c .before .pre)))
-    (λ c. omega (arith, test-read (c .before .before .pre)))
+    (λ c.
+    let start = c .before .before in
+    omega (arith, test-read (start .pre)))
     (λ c κs. search needs)
-    (λ c. omega (arith, test-read (c .before .before .before .pre), c .wide .ensures))
+    (λ c.
+    let start = c .before .before .before in
+    omega (arith, test-read (start .pre), c .wide .ensures))
     (λ c d small x n e. omega (arith, test-bytes d small _ _ x n e .ends, c .wide .ensures)))

@@ -10,6 +10,8 @@ pub chain-of-spec : {M : Type 1} → statement M
 chain-of-spec =
     tie.close
     (tie.spec
-    (λ c. omega (arith, test-read (c .before .before .pre)))
+    (λ c.
+    let start = c .before .before in
+    omega (arith, test-read (start .pre)))
     (λ c κs. search needs)
     (λ c d small x n e. sym (c .wide .ensures) ∙ chain-length d small _ _ x n e))

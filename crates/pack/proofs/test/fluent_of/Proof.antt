@@ -19,10 +19,18 @@ pub fluent-of-spec : {M : Type 1} → statement M
 fluent-of-spec =
     tie.close
     (tie.spec
-    (λ c. omega (arith, test-read (c .before .before .pre)))
+    (λ c.
+    let start = c .before .before in
+    omega (arith, test-read (start .pre)))
     (λ c κs. search needs)
-    (λ c. omega (arith, test-read (c .before .before .before .pre), c .wide .ensures))
-    (λ c. omega (arith, test-read (c .before .before .before .pre), c .wide .ensures))
-    (λ c. omega (arith, test-read (c .before .before .before .before .pre), c .before .wide .ensures))
+    (λ c.
+    let start = c .before .before .before in
+    omega (arith, test-read (start .pre), c .wide .ensures))
+    (λ c.
+    let start = c .before .before .before in
+    omega (arith, test-read (start .pre), c .wide .ensures))
+    (λ c.
+    let start = c .before .before .before .before in
+    omega (arith, test-read (start .pre), c .before .wide .ensures))
     (λ c κs. search needs)
     returns)

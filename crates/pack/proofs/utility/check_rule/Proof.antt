@@ -15,6 +15,16 @@ check-rule-spec =
     (λ c κs. search needs)
     (λ c. search needs)
     (λ c. search needs)
-    (λ c. rw (rule-forget, c .before .before .before .check-condition .ensures, c .before .k .given .1))
-    (λ c. rw (rule-forget, c .before .before .before .before .before .before .before .check-condition .ensures, c .before .before .before .before .before .n .given .1, c .before .before .before .read-number .ensures, c .before .k2 .given .1))
-    (λ c. rw (rule-forget, c .before .before .before .before .before .before .before .check-condition .ensures, c .before .before .before .before .before .n .given .1, c .before .before .before .read-number .ensures, c .before .n2 .given .1)))
+    (λ c.
+    let at-check-condition = c .before .before .before in
+    rw (rule-forget, at-check-condition .check-condition .ensures, c .before .k .given .1))
+    (λ c.
+    let at-read-number = c .before .before .before in
+    let at-n = at-read-number .before .before in
+    let at-check-condition = at-n .before .before in
+    rw (rule-forget, at-check-condition .check-condition .ensures, at-n .n .given .1, at-read-number .read-number .ensures, c .before .k2 .given .1))
+    (λ c.
+    let at-read-number = c .before .before .before in
+    let at-n = at-read-number .before .before in
+    let at-check-condition = at-n .before .before in
+    rw (rule-forget, at-check-condition .check-condition .ensures, at-n .n .given .1, at-read-number .read-number .ensures, c .before .n2 .given .1)))

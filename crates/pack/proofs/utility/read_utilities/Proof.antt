@@ -27,25 +27,42 @@ read-utilities-spec =
     μ-loop
     (λ c. search needs)
     (λ c. (marking-start _ _ _ _ _ _ _, refl))
-    (λ c. omega (arith, marking-within _ _ _ _ _ (rules-bounded _) _ _ _ _ _ _ (c .before .loop .inv .0) (c .before .before .before .before .before .pre .2)))
-    (λ c. omega (arith, c .before .loop .inv .0 .counts, c .before .before .before .before .before .pre))
-    (λ c. omega (arith, c .before .loop .inv .0 .counts, c .before .before .before .before .before .pre))
     (λ c.
-    let turn = c .before in
-    omega (arith, turn .loop .inv .1, turn .loop .inv .0 .counts, c .before .before .before .before .before .pre))
+    let start = c .before .before .before .before .before in
+    omega (arith, marking-within _ _ _ _ _ (rules-bounded _) _ _ _ _ _ _ (c .before .loop .inv .0) (start .pre .2)))
+    (λ c.
+    let start = c .before .before .before .before .before in
+    omega (arith, c .before .loop .inv .0 .counts, start .pre))
+    (λ c.
+    let start = c .before .before .before .before .before in
+    omega (arith, c .before .loop .inv .0 .counts, start .pre))
+    (λ c.
+    let at-loop = c .before in
+    let start = at-loop .before .before .before .before in
+    omega (arith, at-loop .loop .inv .1, at-loop .loop .inv .0 .counts, start .pre))
     (λ c κs. search needs)
     (λ c. search needs)
-    (λ c. simp length-set (c .before .before .before .before .before .loop .inv .1))
     (λ c.
-    let turn = c .before .before .before .before .before in
-    record { answer = marking-refused _ _ _ _ _ _ _ _ _ _ _ (turn .loop .inv .0) (c .before .before .before .before .loop-test .taken) _ _ (c .before .before .before .check-rules .ensures ∙ ap shown (c .before .k .given .1)); marked = tt; kept = λ k l. set-below (turn .loop .places) (320 + turn .loop .i) (turn .loop .n) 320 (omega arith) k l ∙ turn .loop .inv .0 .kept k l })
+    let at-loop = c .before .before .before .before .before in
+    simp length-set (at-loop .loop .inv .1))
+    (λ c.
+    let at-check-rules = c .before .before .before in
+    let turn = at-check-rules .before in
+    let at-loop = turn .before in
+    record { answer = marking-refused _ _ _ _ _ _ _ _ _ _ _ (at-loop .loop .inv .0) (turn .loop-test .taken) _ _ (at-check-rules .check-rules .ensures ∙ ap shown (c .before .k .given .1)); marked = tt; kept = λ k l. set-below (at-loop .loop .places) (320 + at-loop .loop .i) (at-loop .loop .n) 320 (omega arith) k l ∙ at-loop .loop .inv .0 .kept k l })
     (λ c. search needs)
-    (λ c. omega (arith, c .before .before .before .before .before .loop .inv .0 .counts, c .before .before .before .before .before .before .before .before .before .pre))
+    (λ c.
+    let at-loop = c .before .before .before .before .before in
+    let start = at-loop .before .before .before .before in
+    omega (arith, at-loop .loop .inv .0 .counts, start .pre))
     (λ c. search needs)
     (λ c. search needs)
     (λ c.
-    let turn = c .before .before .before .before .before in
-    (marking-set _ _ _ (λ b. 320 + b) _ _ _ _ (turn .loop .i) _ _ (turn .loop .inv .0) (c .before .before .before .before .loop-test .taken) (omega (arith, turn .loop .inv .1, turn .loop .inv .0 .counts, c .before .before .before .before .before .before .before .before .before .pre)) (λ j l. omega arith) (omega arith) _ (c .before .before .before .check-rules .ensures ∙ ap shown (c .before .next .given .1)), simp length-set (turn .loop .inv .1)))
+    let at-check-rules = c .before .before .before in
+    let turn = at-check-rules .before in
+    let at-loop = turn .before in
+    let start = at-loop .before .before .before .before in
+    (marking-set _ _ _ (λ b. 320 + b) _ _ _ _ (at-loop .loop .i) _ _ (at-loop .loop .inv .0) (turn .loop-test .taken) (omega (arith, at-loop .loop .inv .1, at-loop .loop .inv .0 .counts, start .pre)) (λ j l. omega arith) (omega arith) _ (at-check-rules .check-rules .ensures ∙ ap shown (c .before .next .given .1)), simp length-set (at-loop .loop .inv .1)))
     (λ c. c .before .loop .inv .1)
     (λ c.
     let turn = c .before in

@@ -19,4 +19,7 @@ utilities-after-spec =
     (λ c κs. let start = c .before .before .before .before .before .before .before in (start .pre .0, start .pre .3, start .pre .4))
     (λ c. rw (c .before .earlier .given .1))
     (λ c. search needs)
-    (λ c. rw (c .before .before .before .before .before .before .enum-told .given .1) (c .before .before .read-utilities .ensures)))
+    (λ c.
+    let at-read-utilities = c .before .before in
+    let at-enum-told = at-read-utilities .before .before .before .before in
+    rw (at-enum-told .enum-told .given .1) (at-read-utilities .read-utilities .ensures)))

@@ -45,10 +45,13 @@ write-effect-spec =
     omega arith)
     (λ c. simp length-set)
     (λ c.
-    let start = c .before .before .before .before .before .before .before .before in
-    effect-meant (start .args .s .now) (start .args .at) (start .args .whom) (start .args .buffer .now) (start .args .row) (start .args .fluents) _ _ _ (c .before .before .before .before .wide .ensures) (c .before .before .before .if1 .taken) (c .before .wide2 .ensures) refl (let b = (effect-bytes (start .pre .dimensions) (start .pre .small) (start .args .s .now) (start .args .at) (start .pre .value) (start .pre .end) (start .pre .reads)) in
+    let at-wide2 = c .before in
+    let at-if1 = at-wide2 .before .before in
+    let at-wide = at-if1 .before in
+    let start = at-wide .before .before .before .before in
+    effect-meant (start .args .s .now) (start .args .at) (start .args .whom) (start .args .buffer .now) (start .args .row) (start .args .fluents) _ _ _ (at-wide .wide .ensures) (at-if1 .if1 .taken) (at-wide2 .wide2 .ensures) refl (let b = (effect-bytes (start .pre .dimensions) (start .pre .small) (start .args .s .now) (start .args .at) (start .pre .value) (start .pre .end) (start .pre .reads)) in
     let w = start .pre .wide in
-    let v = c .before .wide2 .ensures in
+    let v = at-wide2 .wide2 .ensures in
     omega arith) (start .pre .inside))
     (λ c.
     let start = c .before .before .before .before .before in

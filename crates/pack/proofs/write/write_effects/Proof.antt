@@ -42,24 +42,26 @@ write-effects-spec =
     let start = c .before .before .before .before in
     (λ d small wide xs end e. record { rest = xs; reads = counted-starts 17 (effectAt d) (start .args .s .now) (start .args .at) xs end (omega arith) e _ (c .wide .ensures) .0; same = refl }, only-none _ _ _))
     (λ c κs.
-    let start = c .before .before .before .before .before .before .before in
-    let turn = c .before .before in
-    let x = owed-one _ _ _ _ _ _ _ _ (turn .loop .inv .0 (start .pre .dimensions) (start .pre .small) (start .pre .wide) (start .pre .value) (start .pre .end) (start .pre .reads)) (c .before .loop-test .taken) in
-    record { dimensions = (start .pre .dimensions); small = start .pre .small; wide = start .pre .wide; value = x .item; end = x .place; reads = x .here; inside = omega (arith, start .pre .inside, turn .loop .inv .1 .long) })
+    let at-loop = c .before .before in
+    let start = at-loop .before .before .before .before .before in
+    let x = owed-one _ _ _ _ _ _ _ _ (at-loop .loop .inv .0 (start .pre .dimensions) (start .pre .small) (start .pre .wide) (start .pre .value) (start .pre .end) (start .pre .reads)) (c .before .loop-test .taken) in
+    record { dimensions = (start .pre .dimensions); small = start .pre .small; wide = start .pre .wide; value = x .item; end = x .place; reads = x .here; inside = omega (arith, start .pre .inside, at-loop .loop .inv .1 .long) })
     (λ c κs.
     let turn = c .before .before .before .before in
-    let start = turn .before .before .before .before .before .before in
-    let x = owed-one _ _ _ _ _ _ _ _ (turn .before .loop .inv .0 (start .pre .dimensions) (start .pre .small) (start .pre .wide) (start .pre .value) (start .pre .end) (start .pre .reads)) (turn .loop-test .taken) in
+    let at-loop = turn .before in
+    let start = at-loop .before .before .before .before .before in
+    let x = owed-one _ _ _ _ _ _ _ _ (at-loop .loop .inv .0 (start .pre .dimensions) (start .pre .small) (start .pre .wide) (start .pre .value) (start .pre .end) (start .pre .reads)) (turn .loop-test .taken) in
     record { over = start .pre .dimensions; small = start .pre .small; value = x .item; end = x .place; reads = x .here })
     (λ c. search needs)
     (λ c. search needs)
     (λ c.
     let at-effect = c .before .before .before in
-    let turn = at-effect .before .before in (
+    let turn = at-effect .before .before in
+    let at-loop = turn .before in (
       λ d small wide xs end e.
-          let x = owed-one _ _ _ _ _ _ _ _ (turn .before .loop .inv .0 d small wide xs end e) (turn .loop-test .taken) in
+          let x = owed-one _ _ _ _ _ _ _ _ (at-loop .loop .inv .0 d small wide xs end e) (turn .loop-test .taken) in
           owed-next _ _ _ _ _ _ _ _ x _ _ (sym (c .after-effect .ensures d small (x .item) (x .place) (x .here))) (at-effect .write-effect .ensures .values d small wide (x .item) (x .place) (x .here)),
-      only-then _ _ _ _ _ (turn .before .loop .inv .1) (at-effect .write-effect .ensures .only),
+      only-then _ _ _ _ _ (at-loop .loop .inv .1) (at-effect .write-effect .ensures .only),
     ))
     (λ c. c .before .loop .inv .1 .long)
     (λ c.

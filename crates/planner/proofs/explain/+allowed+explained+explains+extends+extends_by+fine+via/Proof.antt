@@ -154,52 +154,88 @@ abbrev allowed-μ-loop : allowed-lts.MeasureT-loop
 allowed-μ-loop pack places p work₀ slot who x k e at count i₀ work i = count - i
 
 allowed-mul-at : (t : ℕ) → allowed-lts.Need-mul-at (allowed-calls t) (allowed-at t) allowed.Post allowed-Inv-loop allowed-μ-loop
-allowed-mul-at t c = let (th, (T, (y, mem))) = c .before .before .before .pre .1 .0 in omega (arith, consent-place y _ (c .before .before .before .pre .1 .1))
+allowed-mul-at t c =
+    let start = c .before .before .before in
+    let (th, (T, (y, mem))) = start .pre .1 .0 in
+    omega (arith, consent-place y _ (start .pre .1 .1))
 
 allowed-add-at : (t : ℕ) → allowed-lts.Need-add-at (allowed-calls t) (allowed-at t) allowed.Post allowed-Inv-loop allowed-μ-loop
-allowed-add-at t c = let (th, (T, (y, mem))) = c .before .before .before .pre .1 .0 in omega (arith, consent-place y _ (c .before .before .before .pre .1 .1))
+allowed-add-at t c =
+    let start = c .before .before .before in
+    let (th, (T, (y, mem))) = start .pre .1 .0 in
+    omega (arith, consent-place y _ (start .pre .1 .1))
 
 allowed-mul-at-2 : (t : ℕ) → allowed-lts.Need-mul-at-2 (allowed-calls t) (allowed-at t) allowed.Post allowed-Inv-loop allowed-μ-loop
-allowed-mul-at-2 t c = let (th, (T, (y, mem))) = c .before .before .before .pre .1 .0 in omega (arith, consent-place y _ (c .before .before .before .pre .1 .1))
+allowed-mul-at-2 t c =
+    let start = c .before .before .before in
+    let (th, (T, (y, mem))) = start .pre .1 .0 in
+    omega (arith, consent-place y _ (start .pre .1 .1))
 
 allowed-shared-slice-read-at : (t : ℕ) → allowed-lts.Need-shared-slice-read-at (allowed-calls t) (allowed-at t) allowed.Post allowed-Inv-loop allowed-μ-loop
-allowed-shared-slice-read-at t c = let (th, (T, (y, mem))) = c .before .before .before .before .pre .1 .0 in omega (arith, consent-place y _ (c .before .before .before .before .pre .1 .1))
+allowed-shared-slice-read-at t c =
+    let start = c .before .before .before .before in
+    let (th, (T, (y, mem))) = start .pre .1 .0 in
+    omega (arith, consent-place y _ (start .pre .1 .1))
 
 allowed-cast-at : (t : ℕ) → allowed-lts.Need-cast-at (allowed-calls t) (allowed-at t) allowed.Post allowed-Inv-loop allowed-μ-loop
-allowed-cast-at t c = omega (arith, c .shared-slice-known3 .given (9 * c .before .before .before .before .args .x + 2))
+allowed-cast-at t c =
+    let start = c .before .before .before .before in
+    omega (arith, c .shared-slice-known3 .given (9 * start .args .x + 2))
 
 allowed-consenters-requires : (t : ℕ) → allowed-lts.Need-consenters-requires (allowed-calls t) (allowed-at t) allowed.Post allowed-Inv-loop allowed-μ-loop
-allowed-consenters-requires t c κs = let (th, (T, (y, mem))) = c .before .before .before .before .pre .1 .0 in consent-readable y _ (c .before .before .before .before .pre .1 .1)
+allowed-consenters-requires t c κs =
+    let start = c .before .before .before .before in
+    let (th, (T, (y, mem))) = start .pre .1 .0 in
+    consent-readable y _ (start .pre .1 .1)
 
 allowed-loop-holds : (t : ℕ) → allowed-lts.Need-loop-holds (allowed-calls t) (allowed-at t) allowed.Post allowed-Inv-loop allowed-μ-loop
 allowed-loop-holds t c = (refl, λ q l. refl, λ q l. refl, λ th T y mem. (mem, λ j l. absurd (omega arith)))
 
 allowed-consenter-requires : (t : ℕ) → allowed-lts.Need-consenter-requires (allowed-calls t) (allowed-at t) allowed.Post allowed-Inv-loop allowed-μ-loop
-allowed-consenter-requires t c κs = let (th, (T, (y, mem))) = c .before .before .before .before .before .before .before .pre .1 .0 in (consent-readable y _ (c .before .before .before .before .before .before .before .pre .1 .1), omega (arith, c .loop-test .taken, consent-count y _ (c .before .before .before .before .before .before .before .pre .1 .1) (c .before .before .consenters .ensures)))
+allowed-consenter-requires t c κs =
+    let at-consenters = c .before .before in
+    let start = at-consenters .before .before .before .before .before in
+    let (th, (T, (y, mem))) = start .pre .1 .0 in
+    (consent-readable y _ (start .pre .1 .1), omega (arith, c .loop-test .taken, consent-count y _ (start .pre .1 .1) (at-consenters .consenters .ensures)))
 
 allowed-fine-requires : (t : ℕ) → allowed-lts.Need-fine-requires (allowed-calls t) (allowed-at t) allowed.Post allowed-Inv-loop allowed-μ-loop
-allowed-fine-requires t c κs = let (m, P) = c .before .before .before .before .before .before .before .before .before .pre in
-    let a = c .before .before .before .before .before .before .before .before .before .args in
+allowed-fine-requires t c κs =
+    let turn = c .before .before in
+    let at-loop = turn .before in
+    let at-consenters = at-loop .before in
+    let start = at-consenters .before .before .before .before .before in
+    let (m, P) = start .pre in
+    let a = start .args in
     let (th, (T, (y, mem))) = P .0 in
-    let (long, low, high, rest) = c .before .before .before .loop .inv in
-    let count = consent-count y _ (P .1) (c .before .before .before .before .consenters .ensures) in
-    let d = consent-each y _ (P .1) {i = c .before .before .before .loop .i} (omega (arith, count, c .before .before .loop-test .taken)) (c .before .consenter .ensures) in
+    let (long, low, high, rest) = at-loop .loop .inv in
+    let count = consent-count y _ (P .1) (at-consenters .consenters .ensures) in
+    let d = consent-each y _ (P .1) {i = at-loop .loop .i} (omega (arith, count, turn .loop-test .taken)) (c .before .consenter .ensures) in
     (omega (arith, m), ((th, (T, (slot-same (a .slot) y low long, rest th T y mem .0))), d .1, P .1, P .2, P .3, P .4))
 
 allowed-same-length : (t : ℕ) → allowed-lts.Need-same-length (allowed-calls t) (allowed-at t) allowed.Post allowed-Inv-loop allowed-μ-loop
-allowed-same-length t c = c .before .before .before .fine .kept .1 .1 .1 .0 ∙ c .before .before .before .before .before .before .before .loop .inv .0
+allowed-same-length t c =
+    let at-fine = c .before .before .before in
+    let at-loop = at-fine .before .before .before .before in
+    at-fine .fine .kept .1 .1 .1 .0 ∙ at-loop .loop .inv .0
 
 allowed-returns : (t : ℕ) → allowed-lts.Need-returns (allowed-calls t) (allowed-at t) allowed.Post allowed-Inv-loop allowed-μ-loop
-allowed-returns t c = let P = c .before .before .before .before .before .before .before .before .before .before .before .before .before .pre .1 in
-    let a = c .before .before .before .before .before .before .before .before .before .before .before .before .before .args in
-    let (long, low, high, rest) = c .before .before .before .before .before .before .before .loop .inv in
-    let f = c .before .before .before .fine in
-    let i = c .before .before .before .before .before .before .before .loop .i in
+allowed-returns t c =
+    let at-fine = c .before .before .before in
+    let at-consenter = at-fine .before .before in
+    let turn = at-consenter .before in
+    let at-loop = turn .before in
+    let at-consenters = at-loop .before in
+    let start = at-consenters .before .before .before .before .before in
+    let P = start .pre .1 in
+    let a = start .args in
+    let (long, low, high, rest) = at-loop .loop .inv in
+    let f = at-fine .fine in
+    let i = at-loop .loop .i in
     λ th T y mem.
     let told = f .ensures th T (slot-same (a .slot) y low long) (rest th T y mem .0) in
-    let count = consent-count y _ (P .1) (c .before .before .before .before .before .before .before .before .consenters .ensures) in
-    let li : i < length (consentersOf y _ (P .1)) = omega (arith, count, c .before .before .before .before .before .before .loop-test .taken) in
-    let d = consent-each y _ (P .1) li (c .before .before .before .before .before .consenter .ensures) in
+    let count = consent-count y _ (P .1) (at-consenters .consenters .ensures) in
+    let li : i < length (consentersOf y _ (P .1)) = omega (arith, count, turn .loop-test .taken) in
+    let d = consent-each y _ (P .1) li (at-consenter .consenter .ensures) in
     told-no (λ q l. told .low q l ∙ low q l) (λ q l. told .high q l ∙ high q l) (told .memory)
     (λ agreed. told .complete (not-true (f .result) (c .if1 .taken)) (content-of th (a .k .0) (a .e .0) (a .who) (a .x) (meaning (a .p .characters) T 0) agreed li (d .0)))
 
@@ -210,10 +246,17 @@ allowed-loop-less : (t : ℕ) → allowed-lts.Need-loop-less (allowed-calls t) (
 allowed-loop-less t c = search needs
 
 allowed-loop-again : (t : ℕ) → allowed-lts.Need-loop-again (allowed-calls t) (allowed-at t) allowed.Post allowed-Inv-loop allowed-μ-loop
-allowed-loop-again t c = let P = c .before .before .before .before .before .before .before .before .before .before .before .before .before .pre .1 in
-    let a = c .before .before .before .before .before .before .before .before .before .before .before .before .before .args in
-    let (long, low, high, rest) = c .before .before .before .before .before .before .before .loop .inv in
-    let f = c .before .before .before .fine in
+allowed-loop-again t c =
+    let at-fine = c .before .before .before in
+    let at-consenter = at-fine .before .before in
+    let turn = at-consenter .before in
+    let at-loop = turn .before in
+    let at-consenters = at-loop .before in
+    let start = at-consenters .before .before .before .before .before in
+    let P = start .pre .1 in
+    let a = start .args in
+    let (long, low, high, rest) = at-loop .loop .inv in
+    let f = at-fine .fine in
     let (th, (T, (y, mem))) = P .0 in
     let told = f .ensures th T (slot-same (a .slot) y low long) (rest th T y mem .0) in (
       f .kept .1 .1 .1 .0 ∙ long,
@@ -221,9 +264,9 @@ allowed-loop-again t c = let P = c .before .before .before .before .before .befo
       λ q l. told .high q l ∙ high q l,
       λ th T y mem.
           let told = f .ensures th T (slot-same (a .slot) y low long) (rest th T y mem .0) in
-          let count = consent-count y _ (P .1) (c .before .before .before .before .before .before .before .before .consenters .ensures) in
-          let li : c .before .before .before .before .before .before .before .loop .i < length (consentersOf y _ (P .1)) = omega (arith, count, c .before .before .before .before .before .before .loop-test .taken) in
-          let d = consent-each y _ (P .1) li (c .before .before .before .before .before .consenter .ensures) in
+          let count = consent-count y _ (P .1) (at-consenters .consenters .ensures) in
+          let li : at-loop .loop .i < length (consentersOf y _ (P .1)) = omega (arith, count, turn .loop-test .taken) in
+          let d = consent-each y _ (P .1) li (at-consenter .consenter .ensures) in
           (told .memory, content-more th (a .k .0) (a .e .0) (a .who) (a .x) (meaning (a .p .characters) T 0) (rest th T y mem .1) (d .0) (told .sound (not-false (f .result) (c .if1 .left)))),
     )
 
@@ -231,26 +274,39 @@ allowed-same-length-2 : (t : ℕ) → allowed-lts.Need-same-length-2 (allowed-ca
 allowed-same-length-2 t c = c .before .loop .inv .0
 
 allowed-returns-2 : (t : ℕ) → allowed-lts.Need-returns-2 (allowed-calls t) (allowed-at t) allowed.Post allowed-Inv-loop allowed-μ-loop
-allowed-returns-2 t c = let P = c .before .before .before .before .before .before .before .pre .1 in
-    let a = c .before .before .before .before .before .before .before .args in
-    let (long, low, high, rest) = c .before .loop .inv in
-    λ th T y mem. let count = consent-count y _ (P .1) (c .before .before .consenters .ensures) in told-yes low high (rest th T y mem .0) (agreed-all th (a .k .0) (a .e .0) (a .who) (a .x) (meaning (a .p .characters) T 0) {n = c .before .loop .i} (omega (arith, count, c .loop-test .left)) (rest th T y mem .1))
+allowed-returns-2 t c =
+    let at-loop = c .before in
+    let at-consenters = at-loop .before in
+    let start = at-consenters .before .before .before .before .before in
+    let P = start .pre .1 in
+    let a = start .args in
+    let (long, low, high, rest) = at-loop .loop .inv in
+    λ th T y mem. let count = consent-count y _ (P .1) (at-consenters .consenters .ensures) in told-yes low high (rest th T y mem .0) (agreed-all th (a .k .0) (a .e .0) (a .who) (a .x) (meaning (a .p .characters) T 0) {n = at-loop .loop .i} (omega (arith, count, c .loop-test .left)) (rest th T y mem .1))
 
 explained-returns : (t : ℕ) → explained-lts.Need-returns (explained-calls t) (explained-at t) explained.Post
-explained-returns t c = let a = c .before .before .before .before .before .args in
+explained-returns t c =
+    let start = c .before .before .before .before .before in
+    let a = start .args in
     let none : 0 ≡ a .e .0 = omega (arith, c .if1 .taken) in
     λ th T y mem. told-none _ mem (λ z. explained-zero th (a .k .0) (a .c) (a .a) (meaning (a .p .characters) T 0) (subst (λ (e : ℕ). Explained th (a .k .0) e (a .c) (a .a) (meaning (a .p .characters) T 0)) (sym none) z))
 
 explained-recall-requires : (t : ℕ) → explained-lts.Need-recall-requires (explained-calls t) (explained-at t) explained.Post
-explained-recall-requires t c κs = let P = c .before .before .before .before .before .before .pre .1 in let (th, (T, (y, mem))) = P .0 in stage-before y (omega (arith, P .5))
+explained-recall-requires t c κs =
+    let start = c .before .before .before .before .before .before in
+    let P = start .pre .1 in
+    let (th, (T, (y, mem))) = P .0 in
+    stage-before y (omega (arith, P .5))
 
 explained-same-length : (t : ℕ) → explained-lts.Need-same-length (explained-calls t) (explained-at t) explained.Post
 explained-same-length t c = search needs
 
 explained-returns-2 : (t : ℕ) → explained-lts.Need-returns-2 (explained-calls t) (explained-at t) explained.Post
-explained-returns-2 t c = let P = c .before .before .before .before .before .before .before .before .before .before .pre .1 in
-    let a = c .before .before .before .before .before .before .before .before .before .before .args in
-    let r = c .before .before .before .recall in
+explained-returns-2 t c =
+    let at-recall = c .before .before .before in
+    let start = at-recall .before .before .before .before .before .before .before in
+    let P = start .pre .1 in
+    let a = start .args in
+    let r = at-recall .recall in
     λ th T y mem.
     let (m, fact) = (r .ensures .told th (a .k .0) (a .slot + 961) (omega (arith, P .5)) (y .slotted) mem) in
     told-no (λ q l. r .ensures .only .low q (omega (arith, l, P .5))) (r .ensures .only .high) m (known y fact .unexplained (c .if2 .taken))
@@ -259,19 +315,26 @@ explained-same-length-2 : (t : ℕ) → explained-lts.Need-same-length-2 (explai
 explained-same-length-2 t c = search needs
 
 explained-returns-3 : (t : ℕ) → explained-lts.Need-returns-3 (explained-calls t) (explained-at t) explained.Post
-explained-returns-3 t c = let P = c .before .before .before .before .before .before .before .before .before .before .before .pre .1 in
-    let a = c .before .before .before .before .before .before .before .before .before .before .before .args in
-    let r = c .before .before .before .before .recall in
+explained-returns-3 t c =
+    let at-recall = c .before .before .before .before in
+    let start = at-recall .before .before .before .before .before .before .before in
+    let P = start .pre .1 in
+    let a = start .args in
+    let r = at-recall .recall in
     λ th T y mem.
     let (m, fact) = (r .ensures .told th (a .k .0) (a .slot + 961) (omega (arith, P .5)) (y .slotted) mem) in
     told-yes (λ q l. r .ensures .only .low q (omega (arith, l, P .5))) (r .ensures .only .high) m (known y fact .explained (c .if3 .taken))
 
 explained-explains-requires : (t : ℕ) → explained-lts.Need-explains-requires (explained-calls t) (explained-at t) explained.Post
-explained-explains-requires t c κs = let (m, P) = c .before .before .before .before .before .before .before .before .before .before .before .before .pre in
-    let a = c .before .before .before .before .before .before .before .before .before .before .before .before .args in
+explained-explains-requires t c κs =
+    let at-recall = c .before .before .before .before .before in
+    let at-if1 = at-recall .before .before in
+    let start = at-if1 .before .before .before .before .before in
+    let (m, P) = start .pre in
+    let a = start .args in
     let (th, (T, (y, mem))) = P .0 in
-    let r = c .before .before .before .before .before .recall in
-    (omega (arith, m), ((th, (T, (slot-same (a .slot) y (λ q l. r .ensures .only .low q (omega (arith, l, P .5))) (r .kept .0), (r .ensures .told th (a .k .0) (a .slot + 961) (omega (arith, P .5)) (y .slotted) mem) .0))), P .1, P .2, P .3, P .4, P .5, omega (arith, c .before .before .before .before .before .before .before .if1 .left)))
+    let r = at-recall .recall in
+    (omega (arith, m), ((th, (T, (slot-same (a .slot) y (λ q l. r .ensures .only .low q (omega (arith, l, P .5))) (r .kept .0), (r .ensures .told th (a .k .0) (a .slot + 961) (omega (arith, P .5)) (y .slotted) mem) .0))), P .1, P .2, P .3, P .4, P .5, omega (arith, at-if1 .if1 .left)))
 
 explained-mark-requires : (t : ℕ) → explained-lts.Need-mark-requires (explained-calls t) (explained-at t) explained.Post
 explained-mark-requires t c κs = search needs
@@ -280,25 +343,39 @@ explained-add-remember : (t : ℕ) → explained-lts.Need-add-remember (explaine
 explained-add-remember t c = omega (arith, c .mark .ensures)
 
 explained-remember-requires : (t : ℕ) → explained-lts.Need-remember-requires (explained-calls t) (explained-at t) explained.Post
-explained-remember-requires t c κs = let P = c .before .before .before .before .before .before .before .before .before .before .before .before .before .before .before .before .before .pre .1 in
-    let a = c .before .before .before .before .before .before .before .before .before .before .before .before .before .before .before .before .before .args in
+explained-remember-requires t c κs =
+    let at-explains = c .before .before .before .before in
+    let at-recall = at-explains .before .before .before .before .before .before in
+    let start = at-recall .before .before .before .before .before .before .before in
+    let P = start .pre .1 in
+    let a = start .args in
     let (th, (T, (y, mem))) = P .0 in
-    let r = c .before .before .before .before .before .before .before .before .before .before .recall in
-    let x = c .before .before .before .before .explains in
+    let r = at-recall .recall in
+    let x = at-explains .explains in
     let told = x .ensures th T (slot-same {now = r .last .0} (a .slot) y (λ q l. r .ensures .only .low q (omega (arith, l, P .5))) (r .kept .0)) ((r .ensures .told th (a .k .0) (a .slot + 961) (omega (arith, P .5)) (y .slotted) mem) .0) in
     let z = slot-same (a .slot) (slot-same {now = r .last .0} (a .slot) y (λ q l. r .ensures .only .low q (omega (arith, l, P .5))) (r .kept .0)) (told .low) (x .kept .1 .1 .1 .0) in
     stage-before z (omega (arith, P .5))
 
 explained-same-length-3 : (t : ℕ) → explained-lts.Need-same-length-3 (explained-calls t) (explained-at t) explained.Post
-explained-same-length-3 t c = c .before .before .remember .kept .0 ∙ c .before .before .before .before .before .before .before .explains .kept .1 .1 .1 .0 ∙ c .before .before .before .before .before .before .before .before .before .before .before .before .before .recall .kept .0
+explained-same-length-3 t c =
+    let at-remember = c .before .before in
+    let at-explains = at-remember .before .before .before .before .before in
+    let at-recall = at-explains .before .before .before .before .before .before in
+    at-remember .remember .kept .0 ∙ at-explains .explains .kept .1 .1 .1 .0 ∙ at-recall .recall .kept .0
 
 explained-returns-4 : (t : ℕ) → explained-lts.Need-returns-4 (explained-calls t) (explained-at t) explained.Post
-explained-returns-4 t c = let P = c .before .before .before .before .before .before .before .before .before .before .before .before .before .before .before .before .before .before .before .before .pre .1 in
-    let a = c .before .before .before .before .before .before .before .before .before .before .before .before .before .before .before .before .before .before .before .before .args in
-    let r = c .before .before .before .before .before .before .before .before .before .before .before .before .before .recall in
-    let rem = c .before .before .remember .ensures in
+explained-returns-4 t c =
+    let at-remember = c .before .before in
+    let at-mark = at-remember .before in
+    let at-explains = at-mark .before .before .before .before in
+    let at-recall = at-explains .before .before .before .before .before .before in
+    let start = at-recall .before .before .before .before .before .before .before in
+    let P = start .pre .1 in
+    let a = start .args in
+    let r = at-recall .recall in
+    let rem = at-remember .remember .ensures in
     λ th T y mem.
-    let x = c .before .before .before .before .before .before .before .explains in
+    let x = at-explains .explains in
     let told = x .ensures th T (slot-same {now = r .last .0} (a .slot) y (λ q l. r .ensures .only .low q (omega (arith, l, P .5))) (r .kept .0)) ((r .ensures .told th (a .k .0) (a .slot + 961) (omega (arith, P .5)) (y .slotted) mem) .0) in
     let z = slot-same (a .slot) (slot-same {now = r .last .0} (a .slot) y (λ q l. r .ensures .only .low q (omega (arith, l, P .5))) (r .kept .0)) (told .low) (x .kept .1 .1 .1 .0) in
     record {
@@ -306,31 +383,52 @@ explained-returns-4 t c = let P = c .before .before .before .before .before .bef
       complete = told .complete;
       low = λ q l. rem .only .low q (omega (arith, l, P .5)) ∙ told .low q l ∙ r .ensures .only .low q (omega (arith, l, P .5));
       high = λ q l. rem .only .high q l ∙ told .high q l ∙ r .ensures .only .high q l;
-      memory = rem .memory th (a .k .0) (a .slot + 961) (omega (arith, P .5)) (z .slotted) (told .memory) (note z (verdict th (a .k .0) (record { who = a .c; nesting = a .e .0; left = a .a; base = 0 }) (λ (root : ℕ). meaning (a .p .characters) T root) (told .sound) (told .complete) (c .before .before .before .mark .ensures)));
+      memory = rem .memory th (a .k .0) (a .slot + 961) (omega (arith, P .5)) (z .slotted) (told .memory) (note z (verdict th (a .k .0) (record { who = a .c; nesting = a .e .0; left = a .a; base = 0 }) (λ (root : ℕ). meaning (a .p .characters) T root) (told .sound) (told .complete) (at-mark .mark .ensures)));
     }
 
 explains-add-wide : (t : ℕ) → explains-lts.Need-add-wide (explains-calls t) (explains-at t) explains.Post
-explains-add-wide t c = let (th, (T, (y, mem))) = c .before .before .before .pre .1 .0 in omega (arith, stage-row y 0 _ (y .tabled .some) (c .before .before .before .pre .1 .1), c .before .before .before .pre .1 .5)
+explains-add-wide t c =
+    let start = c .before .before .before in
+    let (th, (T, (y, mem))) = start .pre .1 .0 in
+    omega (arith, stage-row y 0 _ (y .tabled .some) (start .pre .1 .1), start .pre .1 .5)
 
 explains-add-wide-2 : (t : ℕ) → explains-lts.Need-add-wide-2 (explains-calls t) (explains-at t) explains.Post
-explains-add-wide-2 t c = let (th, (T, (y, mem))) = c .before .before .before .before .pre .1 .0 in omega (arith, stage-row y 0 _ (y .tabled .some) (c .before .before .before .before .pre .1 .1), c .before .before .before .before .pre .1 .5)
+explains-add-wide-2 t c =
+    let start = c .before .before .before .before in
+    let (th, (T, (y, mem))) = start .pre .1 .0 in
+    omega (arith, stage-row y 0 _ (y .tabled .some) (start .pre .1 .1), start .pre .1 .5)
 
 explains-add-wide-3 : (t : ℕ) → explains-lts.Need-add-wide-3 (explains-calls t) (explains-at t) explains.Post
-explains-add-wide-3 t c = let (th, (T, (y, mem))) = c .before .before .before .before .pre .1 .0 in omega (arith, stage-row y 0 _ (y .tabled .some) (c .before .before .before .before .pre .1 .1), c .before .before .before .before .pre .1 .5)
+explains-add-wide-3 t c =
+    let start = c .before .before .before .before in
+    let (th, (T, (y, mem))) = start .pre .1 .0 in
+    omega (arith, stage-row y 0 _ (y .tabled .some) (start .pre .1 .1), start .pre .1 .5)
 
 explains-slice-read-wide : (t : ℕ) → explains-lts.Need-slice-read-wide (explains-calls t) (explains-at t) explains.Post
-explains-slice-read-wide t c = let (th, (T, (y, mem))) = c .before .before .before .before .before .pre .1 .0 in let (low, there) = stage-row y 0 _ (y .tabled .some) (c .before .before .before .before .before .pre .1 .1) in omega (arith, low, there (omega (arith, c .before .before .before .before .before .pre .1 .5)))
+explains-slice-read-wide t c =
+    let start = c .before .before .before .before .before in
+    let (th, (T, (y, mem))) = start .pre .1 .0 in
+    let (low, there) = stage-row y 0 _ (y .tabled .some) (start .pre .1 .1) in
+    omega (arith, low, there (omega (arith, start .pre .1 .5)))
 
 explains-wide-requires : (t : ℕ) → explains-lts.Need-wide-requires (explains-calls t) (explains-at t) explains.Post
 explains-wide-requires t c κs = search needs
 
 -- the row of what c believes
-explains-believed : (t : ℕ) (c : explains-lts.After-wide (explains-calls t) (explains-at t) explains.Post) {th : Theory} {T : List Node} → let a = c .before .before .before .before .before .before .args in Stage th T (a .pack .now) (a .places .now) (a .p) (a .work .now) (slotTable (a .p) (a .work .now) (a .slot)) (a .slot + 961) → (belief (meaning (a .p .characters) T 0) (a .c) ≡ meaning (a .p .characters) T (c .wide .result)) × (c .wide .result < getD (a .work .now) (a .slot) 0)
-explains-believed t c y = let a = c .before .before .before .before .before .before .args in stage-believed y 0 (a .c) (y .tabled .some) (c .before .before .before .before .before .before .pre .1 .1) (ap (λ (q : ℕ). getD (a .work .now) q 0) (omega arith) ∙ c .wide .ensures)
+explains-believed : (t : ℕ) (c : explains-lts.After-wide (explains-calls t) (explains-at t) explains.Post) {th : Theory} {T : List Node} →
+    let start = c .before .before .before .before .before .before in
+    let a = start .args in
+    Stage th T (a .pack .now) (a .places .now) (a .p) (a .work .now) (slotTable (a .p) (a .work .now) (a .slot)) (a .slot + 961) → (belief (meaning (a .p .characters) T 0) (a .c) ≡ meaning (a .p .characters) T (c .wide .result)) × (c .wide .result < getD (a .work .now) (a .slot) 0)
+explains-believed t c y =
+    let start = c .before .before .before .before .before .before in
+    let a = start .args in
+    stage-believed y 0 (a .c) (y .tabled .some) (start .pre .1 .1) (ap (λ (q : ℕ). getD (a .work .now) q 0) (omega arith) ∙ c .wide .ensures)
 
 explains-known-step-requires : (t : ℕ) → explains-lts.Need-known-step-requires (explains-calls t) (explains-at t) explains.Post
-explains-known-step-requires t c κs = let P = c .before .before .before .before .before .before .before .pre .1 in
-    let a = c .before .before .before .before .before .before .before .args in
+explains-known-step-requires t c κs =
+    let start = c .before .before .before .before .before .before .before in
+    let P = start .pre .1 in
+    let a = start .args in
     let (th, (T, (y, mem))) = P .0 in
     let less = one-less (a .k .0) (a .e .0) (P .6) in
     (a .k .0, ((th, (T, (y, mem))), P .2, explains-believed t (c .before) y .1, omega (arith, P .5, P .3, less)))
@@ -339,127 +437,216 @@ explains-same-length : (t : ℕ) → explains-lts.Need-same-length (explains-cal
 explains-same-length t c = search needs
 
 explains-returns : (t : ℕ) → explains-lts.Need-returns (explains-calls t) (explains-at t) explains.Post
-explains-returns t c = let a = c .before .before .before .before .before .before .before .before .before .before .before .args in
+explains-returns t c =
+    let at-known-step = c .before .before .before in
+    let at-wide = at-known-step .before .before in
+    let start = at-wide .before .before .before .before .before .before in
+    let a = start .args in
     λ th T y mem.
-    let (same, inside) = explains-believed t (c .before .before .before .before .before) y in
-    let played = c .before .before .before .known-step .ensures th T (a .k .0) y mem in
+    let (same, inside) = explains-believed t at-wide y in
+    let played = at-known-step .known-step .ensures th T (a .k .0) y mem in
     told-no (played .low) (played .high) (played .memory) (explained-plays th (a .k .0) (a .e .0) (a .c) (a .a) (meaning (a .p .characters) T 0) (λ t q. played .none (c .if1 .taken) t (subst (λ (s : State). Plays th s (a .a) t) same q)))
 
 explains-add-next : (t : ℕ) → explains-lts.Need-add-next (explains-calls t) (explains-at t) explains.Post
-explains-add-next t c = omega (arith, c .before .before .before .before .before .before .before .before .before .before .before .pre .1 .5)
+explains-add-next t c =
+    let at-wide = c .before .before .before .before .before in
+    let start = at-wide .before .before .before .before .before .before in
+    omega (arith, start .pre .1 .5)
 
 explains-table-in-requires : (t : ℕ) → explains-lts.Need-table-in-requires (explains-calls t) (explains-at t) explains.Post
-explains-table-in-requires t c κs = let (th, (T, (y, mem))) = c .before .before .before .before .before .before .before .before .before .before .before .before .pre .1 .0 in (omega (arith, c .before .before .before .before .before .before .before .before .before .before .before .before .pre .1 .5, y .room, c .before .before .before .before .known-step .kept .1 .1 .1 .1 .0), omega (arith, small (y .tabled)))
+explains-table-in-requires t c κs =
+    let at-known-step = c .before .before .before .before in
+    let start = at-known-step .before .before .before .before .before .before .before .before in
+    let (th, (T, (y, mem))) = start .pre .1 .0 in
+    (omega (arith, start .pre .1 .5, y .room, at-known-step .known-step .kept .1 .1 .1 .1 .0), omega (arith, small (y .tabled)))
 
 explains-add-utility : (t : ℕ) → explains-lts.Need-add-utility (explains-calls t) (explains-at t) explains.Post
-explains-add-utility t c = let (th, (T, (y, mem))) = c .before .before .before .before .before .before .before .before .before .before .before .before .before .pre .1 .0 in omega (arith, small (y .tabled), c .before .before .before .before .before .before .before .before .before .before .before .before .before .pre .1 .1)
+explains-add-utility t c =
+    let at-wide = c .before .before .before .before .before .before .before in
+    let start = at-wide .before .before .before .before .before .before in
+    let (th, (T, (y, mem))) = start .pre .1 .0 in
+    omega (arith, small (y .tabled), start .pre .1 .1)
 
 explains-mul-utility : (t : ℕ) → explains-lts.Need-mul-utility (explains-calls t) (explains-at t) explains.Post
-explains-mul-utility t c = let (th, (T, (y, mem))) = c .before .before .before .before .before .before .before .before .before .before .before .before .before .pre .1 .0 in omega (arith, small (y .tabled), c .before .before .before .before .before .before .before .before .before .before .before .before .before .pre .1 .1)
+explains-mul-utility t c =
+    let at-wide = c .before .before .before .before .before .before .before in
+    let start = at-wide .before .before .before .before .before .before in
+    let (th, (T, (y, mem))) = start .pre .1 .0 in
+    omega (arith, small (y .tabled), start .pre .1 .1)
 
 explains-shared-slice-read-utility : (t : ℕ) → explains-lts.Need-shared-slice-read-utility (explains-calls t) (explains-at t) explains.Post
-explains-shared-slice-read-utility t c = let (th, (T, (y, mem))) = c .before .before .before .before .before .before .before .before .before .before .before .before .before .before .pre .1 .0 in omega (arith, y .theorized .marked, small (y .tabled), c .before .before .before .before .before .before .before .before .before .before .before .before .before .before .pre .1 .1)
+explains-shared-slice-read-utility t c =
+    let at-wide = c .before .before .before .before .before .before .before .before in
+    let start = at-wide .before .before .before .before .before .before in
+    let (th, (T, (y, mem))) = start .pre .1 .0 in
+    omega (arith, y .theorized .marked, small (y .tabled), start .pre .1 .1)
 
 explains-cast-utility : (t : ℕ) → explains-lts.Need-cast-utility (explains-calls t) (explains-at t) explains.Post
-explains-cast-utility t c = omega (arith, c .shared-slice-known3 .given (321 + c .before .before .before .before .before .before .before .before .before .before .before .before .before .before .args .c))
+explains-cast-utility t c =
+    let at-wide = c .before .before .before .before .before .before .before .before in
+    let start = at-wide .before .before .before .before .before .before in
+    omega (arith, c .shared-slice-known3 .given (321 + start .args .c))
 
 -- the table in the slot after the step
-explains-stays : (t : ℕ) (c : explains-lts.After-known-step (explains-calls t) (explains-at t) explains.Post) {th : Theory} {T : List Node} → let a = c .before .before .before .before .before .before .before .before .args in Stage th T (a .pack .now) (a .places .now) (a .p) (a .work .now) (slotTable (a .p) (a .work .now) (a .slot)) (a .slot + 961) → Memory th (a .k .0) (a .p) (a .slot + 961) (a .work .now)
-    → Stage th T (a .pack .now) (a .places .now) (a .p) (c .known-step .last .1 .1 .1 .1 .0) (slotTable (a .p) (c .known-step .last .1 .1 .1 .1 .0) (a .slot)) (a .slot + 961) × (c .before .before .wide .result < getD (c .known-step .last .1 .1 .1 .1 .0) (a .slot) 0)
+explains-stays : (t : ℕ) (c : explains-lts.After-known-step (explains-calls t) (explains-at t) explains.Post) {th : Theory} {T : List Node} →
+    let at-wide = c .before .before in
+    let start = at-wide .before .before .before .before .before .before in
+    let a = start .args in
+    Stage th T (a .pack .now) (a .places .now) (a .p) (a .work .now) (slotTable (a .p) (a .work .now) (a .slot)) (a .slot + 961) → Memory th (a .k .0) (a .p) (a .slot + 961) (a .work .now)
+    → Stage th T (a .pack .now) (a .places .now) (a .p) (c .known-step .last .1 .1 .1 .1 .0) (slotTable (a .p) (c .known-step .last .1 .1 .1 .1 .0) (a .slot)) (a .slot + 961) × (at-wide .wide .result < getD (c .known-step .last .1 .1 .1 .1 .0) (a .slot) 0)
 explains-stays t c {th} {T} y mem =
-    let a = c .before .before .before .before .before .before .before .before .args in
+    let at-wide = c .before .before in
+    let start = at-wide .before .before .before .before .before .before in
+    let a = start .args in
     let s = c .known-step in
     let low = s .ensures th T (a .k .0) y mem .low in
-    (slot-same (a .slot) y low (s .kept .1 .1 .1 .1 .0), omega (arith, explains-believed t (c .before .before) y .1, low (a .slot) (omega arith)))
+    (slot-same (a .slot) y low (s .kept .1 .1 .1 .1 .0), omega (arith, explains-believed t at-wide y .1, low (a .slot) (omega arith)))
 
 explains-utility-requires : (t : ℕ) → explains-lts.Need-utility-requires (explains-calls t) (explains-at t) explains.Post
-explains-utility-requires t c κs = let P = c .before .before .before .before .before .before .before .before .before .before .before .before .before .before .before .pre .1 in
+explains-utility-requires t c κs =
+    let at-table-in = c .before .before in
+    let at-known-step = at-table-in .before .before .before .before .before in
+    let at-wide = at-known-step .before .before in
+    let start = at-wide .before .before .before .before .before .before in
+    let P = start .pre .1 in
     let (th, (T, (y, mem))) = P .0 in
-    let (z, inside) = explains-stays t (c .before .before .before .before .before .before .before) y mem in
-    rules-in _ _ _ (c .before .before .before .before .before .before .before .before .before .wide .result) (c .before .before .table-in .ensures) (stage-rules z _ _ (P .1) inside .0)
+    let (z, inside) = explains-stays t at-known-step y mem in
+    rules-in _ _ _ (at-wide .wide .result) (at-table-in .table-in .ensures) (stage-rules z _ _ (P .1) inside .0)
 
 explains-sub-t15 : (t : ℕ) → explains-lts.Need-sub-t15 (explains-calls t) (explains-at t) explains.Post
-explains-sub-t15 t c = omega (arith, c .before .before .before .before .before .before .before .before .before .before .before .before .before .before .before .before .before .before .pre .1 .6)
+explains-sub-t15 t c =
+    let at-if1 = c .before .before .before .before .before .before .before in
+    let at-wide = at-if1 .before .before .before .before .before in
+    let start = at-wide .before .before .before .before .before .before in
+    omega (arith, start .pre .1 .6)
 
 explains-sub-extends : (t : ℕ) → explains-lts.Need-sub-extends (explains-calls t) (explains-at t) explains.Post
-explains-sub-extends t c = omega (arith, c .before .before .before .before .before .before .before .before .before .before .before .before .before .before .before .before .before .before .before .pre .1 .3)
+explains-sub-extends t c =
+    let at-if1 = c .before .before .before .before .before .before .before .before in
+    let at-wide = at-if1 .before .before .before .before .before in
+    let start = at-wide .before .before .before .before .before .before in
+    omega (arith, start .pre .1 .3)
 
 explains-extends-requires : (t : ℕ) → explains-lts.Need-extends-requires (explains-calls t) (explains-at t) explains.Post
-explains-extends-requires t c κs = let (m, P) = c .before .before .before .before .before .before .before .before .before .before .before .before .before .before .before .before .before .before .before .pre in
-    let a = c .before .before .before .before .before .before .before .before .before .before .before .before .before .before .before .before .before .before .before .args in
+explains-extends-requires t c κs =
+    let at-if1 = c .before .before .before .before .before .before .before .before in
+    let at-known-step = at-if1 .before .before .before in
+    let start = at-known-step .before .before .before .before .before .before .before .before in
+    let (m, P) = start .pre in
+    let a = start .args in
     let (th, (T, (y, mem))) = P .0 in
-    let s = c .before .before .before .before .before .before .before .before .before .before .before .known-step in
+    let s = at-known-step .known-step in
     let less = one-less (a .k .0) (a .e .0) (P .6) in
     let f : Free (a .slot + 961) 1 = omega (arith, P .5, P .3, less) in
     let played = s .ensures th T (a .k .0) y mem in
     let long = s .kept .1 .1 .1 .1 .0 in
-    let zero : s .result ≡ 0 = omega (arith, c .before .before .before .before .before .before .before .before .if1 .left) in
+    let zero : s .result ≡ 0 = omega (arith, at-if1 .if1 .left) in
     (omega (arith, m, P .4, P .6), ((th, (nextTable y _ played f long zero, (next-stage y _ played f long zero, played .further zero))), P .1, P .3, P .4, omega (arith, P .5, P .3, less)))
 
 explains-same-length-2 : (t : ℕ) → explains-lts.Need-same-length-2 (explains-calls t) (explains-at t) explains.Post
-explains-same-length-2 t c = c .before .before .extends .kept .1 .1 .1 .0 ∙ c .before .before .before .before .before .before .before .before .before .before .before .before .before .before .known-step .kept .1 .1 .1 .1 .0
+explains-same-length-2 t c =
+    let at-extends = c .before .before in
+    let at-table-in = at-extends .before .before .before .before .before .before .before in
+    let at-known-step = at-table-in .before .before .before .before .before in
+    at-extends .extends .kept .1 .1 .1 .0 ∙ at-known-step .known-step .kept .1 .1 .1 .1 .0
 
 explains-returns-2 : (t : ℕ) → explains-lts.Need-returns-2 (explains-calls t) (explains-at t) explains.Post
-explains-returns-2 t c = let P = c .before .before .before .before .before .before .before .before .before .before .before .before .before .before .before .before .before .before .before .before .before .before .pre .1 in
-    let a = c .before .before .before .before .before .before .before .before .before .before .before .before .before .before .before .before .before .before .before .before .before .before .args in
-    let s = c .before .before .before .before .before .before .before .before .before .before .before .before .before .before .known-step in
+explains-returns-2 t c =
+    let at-extends = c .before .before in
+    let at-utility = at-extends .before .before .before .before in
+    let at-table-in = at-utility .before .before .before in
+    let at-if1 = at-table-in .before .before in
+    let at-known-step = at-if1 .before .before .before in
+    let at-wide = at-known-step .before .before in
+    let start = at-wide .before .before .before .before .before .before in
+    let P = start .pre .1 in
+    let a = start .args in
+    let s = at-known-step .known-step in
     let some : 0 < a .e .0 = P .6 in
     let less = one-less (a .k .0) (a .e .0) some in
     let f : Free (a .slot + 961) 1 = omega (arith, P .5, P .3, less) in
     let long = s .kept .1 .1 .1 .1 .0 in
-    let zero : s .result ≡ 0 = omega (arith, c .before .before .before .before .before .before .before .before .before .before .before .if1 .left) in
+    let zero : s .result ≡ 0 = omega (arith, at-if1 .if1 .left) in
     let up : suc (a .e .0 - 1) ≡ a .e .0 = omega (arith, some) in
     let all : suc (a .k .0 - 1) ≡ a .k .0 = omega (arith, P .3) in
     λ th T y mem.
-    let (same, inside) = explains-believed t (c .before .before .before .before .before .before .before .before .before .before .before .before .before .before .before .before) y in
+    let (same, inside) = explains-believed t at-wide y in
     let played = s .ensures th T (a .k .0) y mem in
-    let base = stage-utility (explains-stays t (c .before .before .before .before .before .before .before .before .before .before .before .before .before .before) y mem .0) (a .c) (c .before .before .before .before .before .before .before .before .before .before .before .before .before .before .before .before .wide .result) (P .1) (utility-in (a .pack .now) (getD (a .places .now) (321 + a .c) 0) (s .last .1 .1 .1 .1 .0) (c .before .before .before .before .before .before .before .before .before .before .before .before .before .before .before .before .wide .result) (c .before .before .before .before .before .before .utility .result) (c .before .before .before .before .before .before .before .before .before .table-in .ensures) (c .before .before .before .before .before .before .utility .ensures)) in
+    let base = stage-utility (explains-stays t at-known-step y mem .0) (a .c) (at-wide .wide .result) (P .1) (utility-in (a .pack .now) (getD (a .places .now) (321 + a .c) 0) (s .last .1 .1 .1 .1 .0) (at-wide .wide .result) (at-utility .utility .result) (at-table-in .table-in .ensures) (at-utility .utility .ensures)) in
     let b = base ∙ ap (utilityTo th (a .c)) (sym same) in
     let plays = subst (λ (s : State). Plays th s (a .a) (meaning (a .p .characters) (nextTable y _ played f long zero) 0)) (sym same) (next-plays y _ played f long zero) in
-    let told = c .before .before .extends .ensures th (nextTable y _ played f long zero) (next-stage y _ played f long zero) (played .further zero) in
+    let told = at-extends .extends .ensures th (nextTable y _ played f long zero) (next-stage y _ played f long zero) (played .further zero) in
     told-by (omega arith) (memory-fewer (a .p) (omega arith)) (played .low) (played .high) told
     (λ z. subst (λ (e : ℕ). Explained th (a .k .0) e (a .c) (a .a) (meaning (a .p .characters) T 0)) up (explained-from th (a .k .0) (a .e .0 - 1) (a .c) (a .a) (meaning (a .p .characters) T 0) _ _ b plays (a .k .0 - 1) all z))
     (λ z. explained-to th (a .k .0) (a .e .0 - 1) (a .c) (a .a) (meaning (a .p .characters) T 0) _ _ b plays (a .k .0 - 1) all (subst (λ (e : ℕ). Explained th (a .k .0) e (a .c) (a .a) (meaning (a .p .characters) T 0)) (sym up) z))
 
 extends-table-in-requires : (t : ℕ) → extends-lts.Need-table-in-requires (extends-calls t) (extends-at t) extends.Post
-extends-table-in-requires t c κs = let (th, (T, (y, mem))) = c .before .before .before .before .pre .1 .0 in (omega (arith, c .before .before .before .before .pre .1 .4, y .room), omega (arith, small (y .tabled)))
+extends-table-in-requires t c κs =
+    let start = c .before .before .before .before in
+    let (th, (T, (y, mem))) = start .pre .1 .0 in
+    (omega (arith, start .pre .1 .4, y .room), omega (arith, small (y .tabled)))
 
 extends-add-utility : (t : ℕ) → extends-lts.Need-add-utility (extends-calls t) (extends-at t) extends.Post
-extends-add-utility t c = let (th, (T, (y, mem))) = c .before .before .before .before .before .pre .1 .0 in omega (arith, small (y .tabled), c .before .before .before .before .before .pre .1 .1)
+extends-add-utility t c =
+    let start = c .before .before .before .before .before in
+    let (th, (T, (y, mem))) = start .pre .1 .0 in
+    omega (arith, small (y .tabled), start .pre .1 .1)
 
 extends-mul-utility : (t : ℕ) → extends-lts.Need-mul-utility (extends-calls t) (extends-at t) extends.Post
-extends-mul-utility t c = let (th, (T, (y, mem))) = c .before .before .before .before .before .pre .1 .0 in omega (arith, small (y .tabled), c .before .before .before .before .before .pre .1 .1)
+extends-mul-utility t c =
+    let start = c .before .before .before .before .before in
+    let (th, (T, (y, mem))) = start .pre .1 .0 in
+    omega (arith, small (y .tabled), start .pre .1 .1)
 
 extends-shared-slice-read-utility : (t : ℕ) → extends-lts.Need-shared-slice-read-utility (extends-calls t) (extends-at t) extends.Post
-extends-shared-slice-read-utility t c = let (th, (T, (y, mem))) = c .before .before .before .before .before .before .pre .1 .0 in omega (arith, y .theorized .marked, small (y .tabled), c .before .before .before .before .before .before .pre .1 .1)
+extends-shared-slice-read-utility t c =
+    let start = c .before .before .before .before .before .before in
+    let (th, (T, (y, mem))) = start .pre .1 .0 in
+    omega (arith, y .theorized .marked, small (y .tabled), start .pre .1 .1)
 
 extends-cast-utility : (t : ℕ) → extends-lts.Need-cast-utility (extends-calls t) (extends-at t) extends.Post
-extends-cast-utility t c = omega (arith, c .shared-slice-known3 .given (321 + c .before .before .before .before .before .before .args .c))
+extends-cast-utility t c =
+    let start = c .before .before .before .before .before .before in
+    omega (arith, c .shared-slice-known3 .given (321 + start .args .c))
 
 extends-utility-requires : (t : ℕ) → extends-lts.Need-utility-requires (extends-calls t) (extends-at t) extends.Post
-extends-utility-requires t c κs = let P = c .before .before .before .before .before .before .before .pre .1 in
+extends-utility-requires t c κs =
+    let at-table-in = c .before .before in
+    let start = at-table-in .before .before .before .before .before in
+    let P = start .pre .1 in
     let (th, (T, (y, mem))) = P .0 in
-    rules-in _ _ _ 0 (c .before .before .table-in .ensures) (stage-rules y _ 0 (P .1) (y .tabled .some) .0)
+    rules-in _ _ _ 0 (at-table-in .table-in .ensures) (stage-rules y _ 0 (P .1) (y .tabled .some) .0)
 
 extends-same-length : (t : ℕ) → extends-lts.Need-same-length (extends-calls t) (extends-at t) extends.Post
 extends-same-length t c = search needs
 
 extends-returns : (t : ℕ) → extends-lts.Need-returns (extends-calls t) (extends-at t) extends.Post
-extends-returns t c = let P = c .before .before .before .before .before .before .before .before .before .pre .1 in
-    let a = c .before .before .before .before .before .before .before .before .before .args in
-    λ th T y mem. told-yes (λ q l. refl) (λ q l. refl) mem (reach-here th (a .k .0) (a .e .0) (a .c) (a .base) (a .left) (meaning (a .p .characters) T 0) (omega (arith, stage-utility y (a .c) 0 (P .1) (utility-in (a .pack .now) (getD (a .places .now) (321 + a .c) 0) (a .work .now) 0 (c .before .utility .result) (c .before .before .before .before .table-in .ensures) (c .before .utility .ensures)), c .if1 .taken)))
+extends-returns t c =
+    let at-utility = c .before in
+    let at-table-in = at-utility .before .before .before in
+    let start = at-table-in .before .before .before .before .before in
+    let P = start .pre .1 in
+    let a = start .args in
+    λ th T y mem. told-yes (λ q l. refl) (λ q l. refl) mem (reach-here th (a .k .0) (a .e .0) (a .c) (a .base) (a .left) (meaning (a .p .characters) T 0) (omega (arith, stage-utility y (a .c) 0 (P .1) (utility-in (a .pack .now) (getD (a .places .now) (321 + a .c) 0) (a .work .now) 0 (at-utility .utility .result) (at-table-in .table-in .ensures) (at-utility .utility .ensures)), c .if1 .taken)))
 
 extends-same-length-2 : (t : ℕ) → extends-lts.Need-same-length-2 (extends-calls t) (extends-at t) extends.Post
 extends-same-length-2 t c = search needs
 
 extends-returns-2 : (t : ℕ) → extends-lts.Need-returns-2 (extends-calls t) (extends-at t) extends.Post
-extends-returns-2 t c = let P = c .before .before .before .before .before .before .before .before .before .before .pre .1 in
-    let a = c .before .before .before .before .before .before .before .before .before .before .args in
+extends-returns-2 t c =
+    let at-utility = c .before .before in
+    let at-table-in = at-utility .before .before .before in
+    let start = at-table-in .before .before .before .before .before in
+    let P = start .pre .1 in
+    let a = start .args in
     let none : 1 ≡ suc (a .left) = omega (arith, c .if2 .taken) in
-    λ th T y mem. told-none _ mem (λ z. reach-no-more th (a .k .0) (a .e .0) (a .c) (a .base) (meaning (a .p .characters) T 0) (λ b. omega (arith, stage-utility y (a .c) 0 (P .1) (utility-in (a .pack .now) (getD (a .places .now) (321 + a .c) 0) (a .work .now) 0 (c .before .before .utility .result) (c .before .before .before .before .before .table-in .ensures) (c .before .before .utility .ensures)), c .before .if1 .left)) (subst (λ (n : ℕ). inner.Above th (a .k .0) (a .e .0) (a .c) (a .base) n (meaning (a .p .characters) T 0)) (sym none) z))
+    λ th T y mem. told-none _ mem (λ z. reach-no-more th (a .k .0) (a .e .0) (a .c) (a .base) (meaning (a .p .characters) T 0) (λ b. omega (arith, stage-utility y (a .c) 0 (P .1) (utility-in (a .pack .now) (getD (a .places .now) (321 + a .c) 0) (a .work .now) 0 (at-utility .utility .result) (at-table-in .table-in .ensures) (at-utility .utility .ensures)), c .before .if1 .left)) (subst (λ (n : ℕ). inner.Above th (a .k .0) (a .e .0) (a .c) (a .base) n (meaning (a .p .characters) T 0)) (sym none) z))
 
 extends-recall-requires : (t : ℕ) → extends-lts.Need-recall-requires (extends-calls t) (extends-at t) extends.Post
-extends-recall-requires t c κs = let P = c .before .before .before .before .before .before .before .before .before .before .before .pre .1 in
+extends-recall-requires t c κs =
+    let at-table-in = c .before .before .before .before .before .before in
+    let start = at-table-in .before .before .before .before .before in
+    let P = start .pre .1 in
     let (th, (T, (y, mem))) = P .0 in
     stage-before y (omega (arith, P .4))
 
@@ -467,9 +654,13 @@ extends-same-length-3 : (t : ℕ) → extends-lts.Need-same-length-3 (extends-ca
 extends-same-length-3 t c = search needs
 
 extends-returns-3 : (t : ℕ) → extends-lts.Need-returns-3 (extends-calls t) (extends-at t) extends.Post
-extends-returns-3 t c = let P = c .before .before .before .before .before .before .before .before .before .before .before .before .before .before .before .pre .1 in
-    let a = c .before .before .before .before .before .before .before .before .before .before .before .before .before .before .before .args in
-    let r = c .before .before .before .recall in
+extends-returns-3 t c =
+    let at-recall = c .before .before .before in
+    let at-table-in = at-recall .before .before .before .before .before .before .before in
+    let start = at-table-in .before .before .before .before .before in
+    let P = start .pre .1 in
+    let a = start .args in
+    let r = at-recall .recall in
     λ th T y mem.
     let (m, fact) = r .ensures .told th (a .k .0) (a .slot + 961) (omega (arith, P .4)) (y .slotted) mem in
     told-no (λ q l. r .ensures .only .low q (omega (arith, l, P .4))) (r .ensures .only .high) m (known y fact .no (c .if3 .taken))
@@ -478,50 +669,80 @@ extends-same-length-4 : (t : ℕ) → extends-lts.Need-same-length-4 (extends-ca
 extends-same-length-4 t c = search needs
 
 extends-returns-4 : (t : ℕ) → extends-lts.Need-returns-4 (extends-calls t) (extends-at t) extends.Post
-extends-returns-4 t c = let P = c .before .before .before .before .before .before .before .before .before .before .before .before .before .before .before .before .pre .1 in
-    let a = c .before .before .before .before .before .before .before .before .before .before .before .before .before .before .before .before .args in
-    let r = c .before .before .before .before .recall in
+extends-returns-4 t c =
+    let at-recall = c .before .before .before .before in
+    let at-table-in = at-recall .before .before .before .before .before .before .before in
+    let start = at-table-in .before .before .before .before .before in
+    let P = start .pre .1 in
+    let a = start .args in
+    let r = at-recall .recall in
     λ th T y mem.
     let (m, fact) = r .ensures .told th (a .k .0) (a .slot + 961) (omega (arith, P .4)) (y .slotted) mem in
     told-yes (λ q l. r .ensures .only .low q (omega (arith, l, P .4))) (r .ensures .only .high) m (known y fact .yes (c .if4 .taken))
 
 extends-sub-extends-by : (t : ℕ) → extends-lts.Need-sub-extends-by (extends-calls t) (extends-at t) extends.Post
-extends-sub-extends-by t c = omega (arith, c .before .before .before .before .before .before .before .if2 .left)
+extends-sub-extends-by t c =
+    let at-if2 = c .before .before .before .before .before .before .before in
+    omega (arith, at-if2 .if2 .left)
 
 extends-extends-by-requires : (t : ℕ) → extends-lts.Need-extends-by-requires (extends-calls t) (extends-at t) extends.Post
-extends-extends-by-requires t c κs = let (m, P) = c .before .before .before .before .before .before .before .before .before .before .before .before .before .before .before .before .before .pre in
-    let a = c .before .before .before .before .before .before .before .before .before .before .before .before .before .before .before .before .before .args in
+extends-extends-by-requires t c κs =
+    let at-recall = c .before .before .before .before .before in
+    let at-if2 = at-recall .before .before in
+    let at-table-in = at-if2 .before .before .before .before .before in
+    let start = at-table-in .before .before .before .before .before in
+    let (m, P) = start .pre in
+    let a = start .args in
     let (th, (T, (y, mem))) = P .0 in
-    let r = c .before .before .before .before .before .recall in
-    (omega (arith, m, c .before .before .before .before .before .before .before .if2 .left), ((th, (T, (slot-same (a .slot) y (λ q l. r .ensures .only .low q (omega (arith, l, P .4))) (r .kept .0), r .ensures .told th (a .k .0) (a .slot + 961) (omega (arith, P .4)) (y .slotted) mem .0))), P .1, P .2, P .3, omega (arith, P .4, c .before .before .before .before .before .before .before .if2 .left)))
+    let r = at-recall .recall in
+    (omega (arith, m, at-if2 .if2 .left), ((th, (T, (slot-same (a .slot) y (λ q l. r .ensures .only .low q (omega (arith, l, P .4))) (r .kept .0), r .ensures .told th (a .k .0) (a .slot + 961) (omega (arith, P .4)) (y .slotted) mem .0))), P .1, P .2, P .3, omega (arith, P .4, at-if2 .if2 .left)))
 
 extends-mark-requires : (t : ℕ) → extends-lts.Need-mark-requires (extends-calls t) (extends-at t) extends.Post
 extends-mark-requires t c κs = search needs
 
 extends-remember-requires : (t : ℕ) → extends-lts.Need-remember-requires (extends-calls t) (extends-at t) extends.Post
-extends-remember-requires t c κs = let P = c .before .before .before .before .before .before .before .before .before .before .before .before .before .before .before .before .before .before .before .before .before .before .pre .1 in
-    let a = c .before .before .before .before .before .before .before .before .before .before .before .before .before .before .before .before .before .before .before .before .before .before .args in
+extends-remember-requires t c κs =
+    let at-extends-by = c .before .before .before .before in
+    let at-recall = at-extends-by .before .before .before .before .before .before in
+    let at-table-in = at-recall .before .before .before .before .before .before .before in
+    let start = at-table-in .before .before .before .before .before in
+    let P = start .pre .1 in
+    let a = start .args in
     let (th, (T, (y, mem))) = P .0 in
-    let r = c .before .before .before .before .before .before .before .before .before .before .recall in
-    let x = c .before .before .before .before .extends-by in
+    let r = at-recall .recall in
+    let x = at-extends-by .extends-by in
     let told = x .ensures th T (slot-same (a .slot) y (λ q l. r .ensures .only .low q (omega (arith, l, P .4))) (r .kept .0)) (r .ensures .told th (a .k .0) (a .slot + 961) (omega (arith, P .4)) (y .slotted) mem .0) in
     stage-before (slot-same (a .slot) (slot-same {now = r .last .0} (a .slot) y (λ q l. r .ensures .only .low q (omega (arith, l, P .4))) (r .kept .0)) (told .low) (x .kept .1 .1 .1 .0)) (omega (arith, P .4))
 
 extends-same-length-5 : (t : ℕ) → extends-lts.Need-same-length-5 (extends-calls t) (extends-at t) extends.Post
-extends-same-length-5 t c = c .before .before .remember .kept .0 ∙ c .before .before .before .before .before .before .before .extends-by .kept .1 .1 .1 .0 ∙ c .before .before .before .before .before .before .before .before .before .before .before .before .before .recall .kept .0
+extends-same-length-5 t c =
+    let at-remember = c .before .before in
+    let at-extends-by = at-remember .before .before .before .before .before in
+    let at-recall = at-extends-by .before .before .before .before .before .before in
+    at-remember .remember .kept .0 ∙ at-extends-by .extends-by .kept .1 .1 .1 .0 ∙ at-recall .recall .kept .0
 
 extends-returns-5 : (t : ℕ) → extends-lts.Need-returns-5 (extends-calls t) (extends-at t) extends.Post
-extends-returns-5 t c = let P = c .before .before .before .before .before .before .before .before .before .before .before .before .before .before .before .before .before .before .before .before .before .before .before .before .before .pre .1 in
-    let a = c .before .before .before .before .before .before .before .before .before .before .before .before .before .before .before .before .before .before .before .before .before .before .before .before .before .args in
-    let some : 0 < a .left = omega (arith, c .before .before .before .before .before .before .before .before .before .before .before .before .before .before .before .if2 .left) in
-    let rem = c .before .before .remember .ensures in
-    let r = c .before .before .before .before .before .before .before .before .before .before .before .before .before .recall in
-    let x = c .before .before .before .before .before .before .before .extends-by in
+extends-returns-5 t c =
+    let at-remember = c .before .before in
+    let at-mark = at-remember .before in
+    let at-extends-by = at-mark .before .before .before .before in
+    let at-recall = at-extends-by .before .before .before .before .before .before in
+    let at-if2 = at-recall .before .before in
+    let at-if1 = at-if2 .before in
+    let at-utility = at-if1 .before in
+    let at-table-in = at-utility .before .before .before in
+    let start = at-table-in .before .before .before .before .before in
+    let P = start .pre .1 in
+    let a = start .args in
+    let some : 0 < a .left = omega (arith, at-if2 .if2 .left) in
+    let rem = at-remember .remember .ensures in
+    let r = at-recall .recall in
+    let x = at-extends-by .extends-by in
     λ th T y mem.
     let s = meaning (a .p .characters) T 0 in
     let states : ℕ → State = λ root. meaning (a .p .characters) T root in
     let told = x .ensures th T (slot-same (a .slot) y (λ q l. r .ensures .only .low q (omega (arith, l, P .4))) (r .kept .0)) (r .ensures .told th (a .k .0) (a .slot + 961) (omega (arith, P .4)) (y .slotted) mem .0) in
-    let here : a .base < utilityTo th (a .c) s → ⊥ = (λ b. omega (arith, stage-utility y (a .c) 0 (P .1) (utility-in (a .pack .now) (getD (a .places .now) (321 + a .c) 0) (a .work .now) 0 (c .before .before .before .before .before .before .before .before .before .before .before .before .before .before .before .before .before .utility .result) (c .before .before .before .before .before .before .before .before .before .before .before .before .before .before .before .before .before .before .before .before .table-in .ensures) (c .before .before .before .before .before .before .before .before .before .before .before .before .before .before .before .before .before .utility .ensures)), c .before .before .before .before .before .before .before .before .before .before .before .before .before .before .before .before .if1 .left, b)) in
+    let here : a .base < utilityTo th (a .c) s → ⊥ = (λ b. omega (arith, stage-utility y (a .c) 0 (P .1) (utility-in (a .pack .now) (getD (a .places .now) (321 + a .c) 0) (a .work .now) 0 (at-utility .utility .result) (at-table-in .table-in .ensures) (at-utility .utility .ensures)), at-if1 .if1 .left, b)) in
     let whole = extended th (a .k .0) (a .e .0) (a .c) (a .base) (a .left) states some here told in
     let z′ = slot-same (a .slot) (slot-same {now = r .last .0} (a .slot) y (λ q l. r .ensures .only .low q (omega (arith, l, P .4))) (r .kept .0)) (told .low) (x .kept .1 .1 .1 .0) in
     record {
@@ -529,7 +750,7 @@ extends-returns-5 t c = let P = c .before .before .before .before .before .befor
       complete = whole .complete;
       low = λ q l. rem .only .low q (omega (arith, l, P .4)) ∙ told .low q l ∙ r .ensures .only .low q (omega (arith, l, P .4));
       high = λ q l. rem .only .high q l ∙ told .high q l ∙ r .ensures .only .high q l;
-      memory = rem .memory th (a .k .0) (a .slot + 961) (omega (arith, P .4)) (z′ .slotted) (told .memory) (note z′ (noted th (a .k .0) (a .e .0) (a .c) (a .base) (a .left) states some here told (c .before .before .before .mark .ensures)));
+      memory = rem .memory th (a .k .0) (a .slot + 961) (omega (arith, P .4)) (z′ .slotted) (told .memory) (note z′ (noted th (a .k .0) (a .e .0) (a .c) (a .base) (a .left) states some here told (at-mark .mark .ensures)));
     }
 
 abbrev extends-by-Inv-loop : extends-by-lts.InvT-loop
@@ -540,59 +761,98 @@ abbrev extends-by-μ-loop : extends-by-lts.MeasureT-loop
 extends-by-μ-loop pack places p work₀ slot c k e left base x₀ work x = p .actions - x
 
 extends-by-add-next-promising : (t : ℕ) → extends-by-lts.Need-add-next-promising (extends-by-calls t) (extends-by-at t) extends-by.Post extends-by-Inv-loop extends-by-μ-loop
-extends-by-add-next-promising t c = let P = c .before .before .before .before .pre .1 in let (th, (T, (y, mem))) = P .0 in omega (arith, P .1, small (y .tabled))
+extends-by-add-next-promising t c =
+    let start = c .before .before .before .before in
+    let P = start .pre .1 in
+    let (th, (T, (y, mem))) = P .0 in
+    omega (arith, P .1, small (y .tabled))
 
 extends-by-next-promising-requires : (t : ℕ) → extends-by-lts.Need-next-promising-requires (extends-by-calls t) (extends-by-at t) extends-by.Post extends-by-Inv-loop extends-by-μ-loop
-extends-by-next-promising-requires t c κs = let P = c .before .before .before .before .pre .1 in
+extends-by-next-promising-requires t c κs =
+    let start = c .before .before .before .before in
+    let P = start .pre .1 in
     let (th, (T, (y, mem))) = P .0 in
     (stage-trying y (omega (arith, P .4)) (omega (arith, P .1)), omega arith)
 
 extends-by-loop-holds : (t : ℕ) → extends-by-lts.Need-loop-holds (extends-by-calls t) (extends-by-at t) extends-by.Post extends-by-Inv-loop extends-by-μ-loop
-extends-by-loop-holds t c = let P = c .before .before .before .before .before .pre .1 in
-    let a = c .before .before .before .before .before .args in
+extends-by-loop-holds t c =
+    let start = c .before .before .before .before .before in
+    let P = start .pre .1 in
+    let a = start .args in
     (refl, λ q l. refl, λ q l. refl, λ th T y mem. (mem, λ j l. by-hopeless th (a .k .0) (a .e .0) (a .c) (a .base) (a .left) j (meaning (a .p .characters) T 0) (stage-skipped y (omega (arith, P .4)) (c .next-promising .ensures) j (omega arith) l)))
 
 extends-by-via-requires : (t : ℕ) → extends-by-lts.Need-via-requires (extends-by-calls t) (extends-by-at t) extends-by.Post extends-by-Inv-loop extends-by-μ-loop
-extends-by-via-requires t c κs = let (m, P) = c .before .before .before .before .before .before .before .before .before .pre in
-    let a = c .before .before .before .before .before .before .before .before .before .args in
+extends-by-via-requires t c κs =
+    let at-loop = c .before .before .before in
+    let start = at-loop .before .before .before .before .before .before in
+    let (m, P) = start .pre in
+    let a = start .args in
     let (th, (T, (y, mem))) = P .0 in
-    let (long, low, high, rest) = c .before .before .before .loop .inv in
+    let (long, low, high, rest) = at-loop .loop .inv in
     (omega (arith, m), ((th, (T, (slot-same (a .slot) y low long, rest th T y mem .0))), P .1, c .before .if1 .taken, P .2, P .3, omega (arith, P .4)))
 
 extends-by-same-length : (t : ℕ) → extends-by-lts.Need-same-length (extends-by-calls t) (extends-by-at t) extends-by.Post extends-by-Inv-loop extends-by-μ-loop
-extends-by-same-length t c = c .before .before .before .via .kept .1 .1 .1 .0 ∙ c .before .before .before .before .before .before .before .loop .inv .0
+extends-by-same-length t c =
+    let at-via = c .before .before .before in
+    let at-loop = at-via .before .before .before .before in
+    at-via .via .kept .1 .1 .1 .0 ∙ at-loop .loop .inv .0
 
 extends-by-returns : (t : ℕ) → extends-by-lts.Need-returns (extends-by-calls t) (extends-by-at t) extends-by.Post extends-by-Inv-loop extends-by-μ-loop
-extends-by-returns t c = let a = c .before .before .before .before .before .before .before .before .before .before .before .before .before .args in
-    let (long, low, high, rest) = c .before .before .before .before .before .before .before .loop .inv in
-    let v = c .before .before .before .via in
+extends-by-returns t c =
+    let at-via = c .before .before .before in
+    let at-loop = at-via .before .before .before .before in
+    let start = at-loop .before .before .before .before .before .before in
+    let a = start .args in
+    let (long, low, high, rest) = at-loop .loop .inv in
+    let v = at-via .via in
     λ th T y mem.
     let told = v .ensures th T (slot-same (a .slot) y low long) (rest th T y mem .0) in
-    told-yes (λ q l. told .low q l ∙ low q l) (λ q l. told .high q l ∙ high q l) (told .memory) (c .before .before .before .before .before .before .before .loop .x, told .sound (c .if2 .taken))
+    told-yes (λ q l. told .low q l ∙ low q l) (λ q l. told .high q l ∙ high q l) (told .memory) (at-loop .loop .x, told .sound (c .if2 .taken))
 
 extends-by-add-next-promising-2 : (t : ℕ) → extends-by-lts.Need-add-next-promising-2 (extends-by-calls t) (extends-by-at t) extends-by.Post extends-by-Inv-loop extends-by-μ-loop
-extends-by-add-next-promising-2 t c = let (th, (T, (y, mem))) = c .before .before .before .before .before .before .before .before .before .before .before .before .before .before .pre .1 .0 in omega (arith, c .before .before .before .before .before .before .if1 .taken, y .theorized .found .mostActions)
+extends-by-add-next-promising-2 t c =
+    let at-if1 = c .before .before .before .before .before .before in
+    let start = at-if1 .before .before .before .before .before .before .before .before in
+    let (th, (T, (y, mem))) = start .pre .1 .0 in
+    omega (arith, at-if1 .if1 .taken, y .theorized .found .mostActions)
 
 extends-by-add-next-promising-3 : (t : ℕ) → extends-by-lts.Need-add-next-promising-3 (extends-by-calls t) (extends-by-at t) extends-by.Post extends-by-Inv-loop extends-by-μ-loop
-extends-by-add-next-promising-3 t c = let P = c .before .before .before .before .before .before .before .before .before .before .before .before .before .before .pre .1 in let (th, (T, (y, mem))) = P .0 in omega (arith, P .1, small (y .tabled))
+extends-by-add-next-promising-3 t c =
+    let at-loop = c .before .before .before .before .before .before .before .before in
+    let start = at-loop .before .before .before .before .before .before in
+    let P = start .pre .1 in
+    let (th, (T, (y, mem))) = P .0 in
+    omega (arith, P .1, small (y .tabled))
 
 extends-by-next-promising-requires-2 : (t : ℕ) → extends-by-lts.Need-next-promising-requires-2 (extends-by-calls t) (extends-by-at t) extends-by.Post extends-by-Inv-loop extends-by-μ-loop
-extends-by-next-promising-requires-2 t c κs = let P = c .before .before .before .before .before .before .before .before .before .before .before .before .before .before .pre .1 in
-    let a = c .before .before .before .before .before .before .before .before .before .before .before .before .before .before .args in
-    let (long, low, high, rest) = c .before .before .before .before .before .before .before .before .loop .inv in
-    let v = c .before .before .before .before .via in
+extends-by-next-promising-requires-2 t c κs =
+    let at-via = c .before .before .before .before in
+    let at-if1 = at-via .before .before in
+    let at-loop = at-if1 .before .before in
+    let start = at-loop .before .before .before .before .before .before in
+    let P = start .pre .1 in
+    let a = start .args in
+    let (long, low, high, rest) = at-loop .loop .inv in
+    let v = at-via .via in
     let (th, (T, (y, mem))) = P .0 in
     let told = v .ensures th T (slot-same (a .slot) y low long) (rest th T y mem .0) in
-    (stage-trying (slot-same (a .slot) y (λ q l. told .low q l ∙ low q l) (v .kept .1 .1 .1 .0 ∙ long)) (omega (arith, P .4)) (omega (arith, P .1)), omega (arith, c .before .before .before .before .before .before .if1 .taken))
+    (stage-trying (slot-same (a .slot) y (λ q l. told .low q l ∙ low q l) (v .kept .1 .1 .1 .0 ∙ long)) (omega (arith, P .4)) (omega (arith, P .1)), omega (arith, at-if1 .if1 .taken))
 
 extends-by-loop-less : (t : ℕ) → extends-by-lts.Need-loop-less (extends-by-calls t) (extends-by-at t) extends-by.Post extends-by-Inv-loop extends-by-μ-loop
-extends-by-loop-less t c = omega (arith, c .next-promising2 .ensures .from, c .before .before .before .before .before .before .before .if1 .taken)
+extends-by-loop-less t c =
+    let at-if1 = c .before .before .before .before .before .before .before in
+    omega (arith, c .next-promising2 .ensures .from, at-if1 .if1 .taken)
 
 extends-by-loop-again : (t : ℕ) → extends-by-lts.Need-loop-again (extends-by-calls t) (extends-by-at t) extends-by.Post extends-by-Inv-loop extends-by-μ-loop
-extends-by-loop-again t c = let P = c .before .before .before .before .before .before .before .before .before .before .before .before .before .before .before .pre .1 in
-    let a = c .before .before .before .before .before .before .before .before .before .before .before .before .before .before .before .args in
-    let (long, low, high, rest) = c .before .before .before .before .before .before .before .before .before .loop .inv in
-    let v = c .before .before .before .before .before .via in
+extends-by-loop-again t c =
+    let at-if2 = c .before .before in
+    let at-via = at-if2 .before .before .before in
+    let at-loop = at-via .before .before .before .before in
+    let start = at-loop .before .before .before .before .before .before in
+    let P = start .pre .1 in
+    let a = start .args in
+    let (long, low, high, rest) = at-loop .loop .inv in
+    let v = at-via .via in
     let (th, (T, (y, mem))) = P .0 in
     let told = v .ensures th T (slot-same (a .slot) y low long) (rest th T y mem .0) in (
       v .kept .1 .1 .1 .0 ∙ long,
@@ -603,16 +863,20 @@ extends-by-loop-again t c = let P = c .before .before .before .before .before .b
           let z = slot-same (a .slot) y (λ q l. told .low q l ∙ low q l) (v .kept .1 .1 .1 .0 ∙ long) in (
             told .memory,
             below-far (λ x. AboveBy th (a .k .0) (a .e .0) (a .c) (a .base) (suc (a .left)) x (meaning (a .p .characters) T 0) → ⊥)
-                (below-more (λ x. AboveBy th (a .k .0) (a .e .0) (a .c) (a .base) (suc (a .left)) x (meaning (a .p .characters) T 0) → ⊥) (c .before .before .before .before .before .before .before .before .before .loop .x) (rest th T y mem .1) (told .complete (c .before .before .if2 .left)))
+                (below-more (λ x. AboveBy th (a .k .0) (a .e .0) (a .c) (a .base) (suc (a .left)) x (meaning (a .p .characters) T 0) → ⊥) (at-loop .loop .x) (rest th T y mem .1) (told .complete (at-if2 .if2 .left)))
                 (λ j f l. by-hopeless th (a .k .0) (a .e .0) (a .c) (a .base) (a .left) j (meaning (a .p .characters) T 0) (stage-skipped z (omega (arith, P .4)) (c .next-promising2 .ensures) j f l)),
           ),
     )
 
 extends-by-same-length-2 : (t : ℕ) → extends-by-lts.Need-same-length-2 (extends-by-calls t) (extends-by-at t) extends-by.Post extends-by-Inv-loop extends-by-μ-loop
-extends-by-same-length-2 t c = c .before .before .loop .inv .0
+extends-by-same-length-2 t c =
+    let at-loop = c .before .before in
+    at-loop .loop .inv .0
 
 extends-by-returns-2 : (t : ℕ) → extends-by-lts.Need-returns-2 (extends-by-calls t) (extends-by-at t) extends-by.Post extends-by-Inv-loop extends-by-μ-loop
-extends-by-returns-2 t c = let (long, low, high, rest) = c .before .before .loop .inv in
+extends-by-returns-2 t c =
+    let at-loop = c .before .before in
+    let (long, low, high, rest) = at-loop .loop .inv in
     λ th T y mem. told-no low high (rest th T y mem .0) (λ z. rest th T y mem .1 (z .0) (omega (arith, z .1 .1 .there, y .theorized .found .actions, c .if1 .left)) (z .1))
 
 fine-returns :
@@ -623,7 +887,10 @@ fine-explained-requires : (t : ℕ) → fine-lts.Need-explained-requires (
   explained-below t,
   explained.Post,
 ) (fine-at t) fine.Post
-fine-explained-requires t c κs = let (m, P) = c .before .before .before .before .before .pre in (omega (arith, m), (P .0, P .1, P .2, P .3, P .4, P .5))
+fine-explained-requires t c κs =
+    let start = c .before .before .before .before .before in
+    let (m, P) = start .pre in
+    (omega (arith, m), (P .0, P .1, P .2, P .3, P .4, P .5))
 
 fine-same-length :
     (t : ℕ) → fine-lts.Need-same-length (explained-below t, explained.Post) (fine-at t) fine.Post
@@ -631,51 +898,75 @@ fine-same-length t c = search needs
 
 fine-returns-2 :
     (t : ℕ) → fine-lts.Need-returns-2 (explained-below t, explained.Post) (fine-at t) fine.Post
-fine-returns-2 t c = λ th T y mem. told-by (omega arith) (λ m. m) (λ q l. refl) (λ q l. refl) (c .before .before .explained .ensures th T y mem) (λ z o. z) (λ f. f (c .before .before .before .before .if1 .left))
+fine-returns-2 t c =
+    let at-explained = c .before .before in
+    let at-if1 = at-explained .before .before in
+    λ th T y mem. told-by (omega arith) (λ m. m) (λ q l. refl) (λ q l. refl) (at-explained .explained .ensures th T y mem) (λ z o. z) (λ f. f (at-if1 .if1 .left))
 
 via-allowed-requires : (t : ℕ) → via-lts.Need-allowed-requires (via-calls t) (via-at t) via.Post
-via-allowed-requires t c κs = let (m, P) = c .before .before .before .before .pre in (omega (arith, m), (P .0, P .2, P .3, P .4, omega (arith, P .5)))
+via-allowed-requires t c κs =
+    let start = c .before .before .before .before in
+    let (m, P) = start .pre in
+    (omega (arith, m), (P .0, P .2, P .3, P .4, omega (arith, P .5)))
 
 via-same-length : (t : ℕ) → via-lts.Need-same-length (via-calls t) (via-at t) via.Post
 via-same-length t c = search needs
 
 via-returns : (t : ℕ) → via-lts.Need-returns (via-calls t) (via-at t) via.Post
 via-returns t c =
-    let w = c .before .before .before .allowed in
+    let at-allowed = c .before .before .before in
+    let w = at-allowed .allowed in
     λ th T y mem.
     let told = w .ensures th T y mem in
     told-no (told .low) (told .high) (told .memory) (λ z. told .complete (not-true (w .result) (c .if1 .taken)) (z .2))
 
 via-known-step-requires : (t : ℕ) → via-lts.Need-known-step-requires (via-calls t) (via-at t) via.Post
-via-known-step-requires t c κs = let P = c .before .before .before .before .before .before .before .before .before .pre .1 in
-    let a = c .before .before .before .before .before .before .before .before .before .args in
+via-known-step-requires t c κs =
+    let at-allowed = c .before .before .before .before in
+    let start = at-allowed .before .before .before .before .before in
+    let P = start .pre .1 in
+    let a = start .args in
     let (th, (T, (y, mem))) = P .0 in
-    let w = c .before .before .before .before .allowed in
+    let w = at-allowed .allowed in
     let told = w .ensures th T y mem in
     let z = slot-same (a .slot) y (told .low) (w .kept .1 .1 .1 .0) in
     (a .k .0, ((th, (T, (z, told .memory))), P .2, z .tabled .some, omega (arith, P .5)))
 
 via-same-length-2 : (t : ℕ) → via-lts.Need-same-length-2 (via-calls t) (via-at t) via.Post
-via-same-length-2 t c = c .before .before .before .known-step .kept .1 .1 .1 .1 .0 ∙ c .before .before .before .before .before .before .before .before .allowed .kept .1 .1 .1 .0
+via-same-length-2 t c =
+    let at-known-step = c .before .before .before in
+    let at-allowed = at-known-step .before .before .before .before .before in
+    at-known-step .known-step .kept .1 .1 .1 .1 .0 ∙ at-allowed .allowed .kept .1 .1 .1 .0
 
 via-returns-2 : (t : ℕ) → via-lts.Need-returns-2 (via-calls t) (via-at t) via.Post
-via-returns-2 t c = let a = c .before .before .before .before .before .before .before .before .before .before .before .before .before .args in
-    let w = c .before .before .before .before .before .before .before .before .allowed in
-    let s = c .before .before .before .known-step in
+via-returns-2 t c =
+    let at-known-step = c .before .before .before in
+    let at-allowed = at-known-step .before .before .before .before .before in
+    let start = at-allowed .before .before .before .before .before in
+    let a = start .args in
+    let w = at-allowed .allowed in
+    let s = at-known-step .known-step in
     λ th T y mem.
     let told = w .ensures th T y mem in
     let played = s .ensures th T (a .k .0) (slot-same (a .slot) y (told .low) (w .kept .1 .1 .1 .0)) (told .memory) in
     told-no (λ q l. played .low q l ∙ told .low q l) (λ q l. played .high q l ∙ told .high q l) (played .memory) (λ g. played .none (c .if2 .taken) (g .0) (g .1))
 
 via-add-extends : (t : ℕ) → via-lts.Need-add-extends (via-calls t) (via-at t) via.Post
-via-add-extends t c = omega (arith, c .before .before .before .before .before .before .before .before .before .before .before .before .before .before .pre .1 .5)
+via-add-extends t c =
+    let at-if1 = c .before .before .before .before .before .before in
+    let start = at-if1 .before .before .before .before .before .before .before .before in
+    omega (arith, start .pre .1 .5)
 
 via-extends-requires : (t : ℕ) → via-lts.Need-extends-requires (via-calls t) (via-at t) via.Post
-via-extends-requires t c κs = let (m, P) = c .before .before .before .before .before .before .before .before .before .before .before .before .before .before .pre in
-    let a = c .before .before .before .before .before .before .before .before .before .before .before .before .before .before .args in
+via-extends-requires t c κs =
+    let at-known-step = c .before .before .before .before in
+    let at-allowed = at-known-step .before .before .before .before .before in
+    let start = at-allowed .before .before .before .before .before in
+    let (m, P) = start .pre in
+    let a = start .args in
     let (th, (T, (y, mem))) = P .0 in
-    let w = c .before .before .before .before .before .before .before .before .before .allowed in
-    let s = c .before .before .before .before .known-step in
+    let w = at-allowed .allowed in
+    let s = at-known-step .known-step in
     let told = w .ensures th T y mem in
     let z′ = slot-same (a .slot) y (told .low) (w .kept .1 .1 .1 .0) in
     let f : Free (a .slot + 961) 1 = omega (arith, P .5) in
@@ -685,14 +976,25 @@ via-extends-requires t c κs = let (m, P) = c .before .before .before .before .b
     (omega (arith, m), ((th, (nextTable z′ 0 played f long zero, (next-stage z′ 0 played f long zero, played .further zero))), P .1, P .3, P .4, omega (arith, P .5)))
 
 via-same-length-3 : (t : ℕ) → via-lts.Need-same-length-3 (via-calls t) (via-at t) via.Post
-via-same-length-3 t c = c .before .before .extends .kept .1 .1 .1 .0 ∙ c .before .before .before .before .before .before .before .known-step .kept .1 .1 .1 .1 .0 ∙ c .before .before .before .before .before .before .before .before .before .before .before .before .allowed .kept .1 .1 .1 .0
+via-same-length-3 t c =
+    let at-extends = c .before .before in
+    let at-known-step = at-extends .before .before .before .before .before in
+    let at-allowed = at-known-step .before .before .before .before .before in
+    at-extends .extends .kept .1 .1 .1 .0 ∙ at-known-step .known-step .kept .1 .1 .1 .1 .0 ∙ at-allowed .allowed .kept .1 .1 .1 .0
 
 via-returns-3 : (t : ℕ) → via-lts.Need-returns-3 (via-calls t) (via-at t) via.Post
-via-returns-3 t c = let P = c .before .before .before .before .before .before .before .before .before .before .before .before .before .before .before .before .before .pre .1 in
-    let a = c .before .before .before .before .before .before .before .before .before .before .before .before .before .before .before .before .before .args in
-    let w = c .before .before .before .before .before .before .before .before .before .before .before .before .allowed in
-    let s = c .before .before .before .before .before .before .before .known-step in
-    let zero : s .result ≡ 0 = omega (arith, c .before .before .before .before .if2 .left) in
+via-returns-3 t c =
+    let at-extends = c .before .before in
+    let at-if2 = at-extends .before .before in
+    let at-known-step = at-if2 .before .before .before in
+    let at-if1 = at-known-step .before .before in
+    let at-allowed = at-if1 .before .before .before in
+    let start = at-allowed .before .before .before .before .before in
+    let P = start .pre .1 in
+    let a = start .args in
+    let w = at-allowed .allowed in
+    let s = at-known-step .known-step in
+    let zero : s .result ≡ 0 = omega (arith, at-if2 .if2 .left) in
     let f : Free (a .slot + 961) 1 = omega (arith, P .5) in
     let long = s .kept .1 .1 .1 .1 .0 in
     λ th T y mem.
@@ -700,8 +1002,8 @@ via-returns-3 t c = let P = c .before .before .before .before .before .before .b
     let z′ = slot-same (a .slot) y (told .low) (w .kept .1 .1 .1 .0) in
     let played = s .ensures th T (a .k .0) z′ (told .memory) in
     let plays = next-plays z′ 0 played f long zero in
-    told-by (omega arith) (memory-fewer (a .p) (omega arith)) (λ q l. played .low q l ∙ told .low q l) (λ q l. played .high q l ∙ told .high q l) (c .before .before .extends .ensures th (nextTable z′ 0 played f long zero) (next-stage z′ 0 played f long zero) (played .further zero))
-    (λ g. by-from th (a .k .0) (a .e .0) (a .c) (a .base) (suc (a .left)) (a .x) (meaning (a .p .characters) T 0) _ plays (told .sound (not-false (w .result) (c .before .before .before .before .before .before .before .before .before .if1 .left))) g)
+    told-by (omega arith) (memory-fewer (a .p) (omega arith)) (λ q l. played .low q l ∙ told .low q l) (λ q l. played .high q l ∙ told .high q l) (at-extends .extends .ensures th (nextTable z′ 0 played f long zero) (next-stage z′ 0 played f long zero) (played .further zero))
+    (λ g. by-from th (a .k .0) (a .e .0) (a .c) (a .base) (suc (a .left)) (a .x) (meaning (a .p .characters) T 0) _ plays (told .sound (not-false (w .result) (at-if1 .if1 .left))) g)
     (λ g. by-to th (a .k .0) (a .e .0) (a .c) (a .base) (suc (a .left)) (a .x) (meaning (a .p .characters) T 0) _ plays g)
 
 pub +allowed+explained+explains+extends+extends-by+fine+via-spec : {M : Type 1} → statement M

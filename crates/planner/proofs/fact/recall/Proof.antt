@@ -12,16 +12,35 @@ recall-spec =
     (tie.spec
     (λ c κs. search needs)
     (λ c. search needs)
-    (λ c. recalled-none (c .before .before .before .before .before .before .args .p) (c .before .before .before .before .before .before .pre) (c .before .before .before .name-of .ensures))
+    (λ c.
+    let at-name-of = c .before .before .before in
+    let start = at-name-of .before .before .before in
+    recalled-none (start .args .p) (start .pre) (at-name-of .name-of .ensures))
     (λ c κs. search needs)
     (λ c. search needs)
     (λ c. search needs)
     (λ c κs. search needs)
     (λ c. search needs)
-    (λ c. recalled-none (c .before .before .before .before .before .before .before .before .before .before .args .p) (c .before .before .before .before .before .before .before .before .before .before .pre) (c .before .before .before .before .before .before .before .name-of .ensures))
+    (λ c.
+    let at-name-of = c .before .before .before .before .before .before .before in
+    let start = at-name-of .before .before .before in
+    recalled-none (start .args .p) (start .pre) (at-name-of .name-of .ensures))
     (λ c κs. search needs)
     (λ c. search needs)
-    (λ c. recalled-none (c .before .before .before .before .before .before .before .before .before .before .before .before .before .args .p) (c .before .before .before .before .before .before .before .before .before .before .before .before .before .pre) (c .before .before .before .before .before .before .before .before .before .before .name-of .ensures))
+    (λ c.
+    let at-if1 = c .before .before .before .before .before .before .before in
+    let at-name-of = at-if1 .before .before .before in
+    let start = at-name-of .before .before .before in
+    recalled-none (start .args .p) (start .pre) (at-name-of .name-of .ensures))
     (λ c. search needs)
     (λ c. search needs)
-    (λ c. let n = c .before .before .before .before .before .before .before .before .before .before .before .name-of in recalled (c .before .before .before .before .before .before .before .before .before .before .before .before .before .before .args .p) (c .before .before .before .before .before .before .before .before .before .before .before .before .before .before .pre) (n .kept .0) (n .ensures) (omega (arith, c .before .before .before .before .before .before .before .before .if1 .left)) (c .before .before .before .before .before .before .before .fact-at .ensures) (omega (arith, c .before .before .before .before .before .wide .ensures, c .before .before .before .before .if2 .left)) (c .before .before .keyed .ensures (not-false (c .before .before .keyed .result) (c .before .if3 .left)))))
+    (λ c.
+    let at-keyed = c .before .before in
+    let at-if2 = at-keyed .before .before in
+    let at-wide = at-if2 .before in
+    let at-fact-at = at-wide .before .before in
+    let at-if1 = at-fact-at .before in
+    let at-name-of = at-if1 .before .before .before in
+    let start = at-name-of .before .before .before in
+    let n = at-name-of .name-of in
+    recalled (start .args .p) (start .pre) (n .kept .0) (n .ensures) (omega (arith, at-if1 .if1 .left)) (at-fact-at .fact-at .ensures) (omega (arith, at-wide .wide .ensures, at-if2 .if2 .left)) (at-keyed .keyed .ensures (not-false (at-keyed .keyed .result) (c .before .if3 .left)))))

@@ -15,11 +15,34 @@ remember-spec =
     (λ c κs. search needs)
     (λ c κs. search needs)
     (λ c κs. search needs)
-    (λ c κs. let s = c .before .before .before .storable .ensures (c .before .before .if1 .taken) in let p = c .before .fact-at .ensures in (omega (arith, p .is, p .few, c .before .before .before .before .before .before .name-of .kept .0, c .before .before .before .before .before .before .before .before .before .pre .room), s .who, s .nesting, s .left, s .base))
+    (λ c κs.
+    let at-if1 = c .before .before in
+    let at-storable = at-if1 .before in
+    let at-name-of = at-storable .before .before .before in
+    let start = at-name-of .before .before .before in
+    let s = at-storable .storable .ensures (at-if1 .if1 .taken) in
+    let p = c .before .fact-at .ensures in
+    (omega (arith, p .is, p .few, at-name-of .name-of .kept .0, start .pre .room), s .who, s .nesting, s .left, s .base))
     (λ c. search needs)
     (λ c. search needs)
     (λ c. search needs)
-    (λ c. length-set (c .before .before .put-key .last .0) (c .before .before .before .before .fact-at .result + 6) (c .before .before .before .before .before .before .before .before .before .name-of .result) ∙ c .before .before .put-key .kept .0 ∙ c .before .before .before .before .before .before .before .before .before .name-of .kept .0)
-    (λ c. let n = c .before .before .before .before .before .before .before .before .before .name-of in let k = c .before .before .put-key in remembered (c .before .before .before .before .before .before .before .before .before .before .before .before .args .p) (c .before .before .before .before .before .before .before .before .before .before .before .before .pre) (n .kept .0) (k .kept .0) (n .ensures) (c .before .before .before .before .before .before .storable .ensures (c .before .before .before .before .before .if1 .taken) .some) (c .before .before .before .before .fact-at .ensures) (k .ensures))
+    (λ c.
+    let at-put-key = c .before .before in
+    let at-fact-at = at-put-key .before .before in
+    let at-name-of = at-fact-at .before .before .before .before .before in
+    length-set (at-put-key .put-key .last .0) (at-fact-at .fact-at .result + 6) (at-name-of .name-of .result) ∙ at-put-key .put-key .kept .0 ∙ at-name-of .name-of .kept .0)
+    (λ c.
+    let at-put-key = c .before .before in
+    let at-fact-at = at-put-key .before .before in
+    let at-if1 = at-fact-at .before in
+    let at-storable = at-if1 .before in
+    let at-name-of = at-storable .before .before .before in
+    let start = at-name-of .before .before .before in
+    let n = at-name-of .name-of in
+    let k = at-put-key .put-key in
+    remembered (start .args .p) (start .pre) (n .kept .0) (k .kept .0) (n .ensures) (at-storable .storable .ensures (at-if1 .if1 .taken) .some) (at-fact-at .fact-at .ensures) (k .ensures))
     (λ c. search needs)
-    (λ c. remembered-none (c .before .before .before .before .before .before .before .args .p) (c .before .before .before .before .before .before .before .pre) (c .before .before .before .before .name-of .ensures)))
+    (λ c.
+    let at-name-of = c .before .before .before .before in
+    let start = at-name-of .before .before .before in
+    remembered-none (start .args .p) (start .pre) (at-name-of .name-of .ensures)))

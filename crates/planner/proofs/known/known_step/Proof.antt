@@ -13,96 +13,165 @@ use Rattle.planner.proofs.known.known_step.Statement.{statement}
 use Rattle.planner.proofs.known.known_step.Tie as tie
 
 -- the table that was read has that name
-named : (c : tie.After-name-of) → let a = c .before .before .before .before .before .before .before .args in Naming (a .p) (c .before .before .table-in .result) (a .work .now) (c .name-of .last .0) (c .name-of .result)
-named c = let a = c .before .before .before .before .before .before .before .args in subst (λ (t : Table). Naming (a .p) t (a .work .now) (c .name-of .last .0) (c .name-of .result)) (sym (c .before .before .table-in .ensures)) (c .name-of .ensures)
+named : (c : tie.After-name-of) →
+    let at-table-in = c .before .before in
+    let start = at-table-in .before .before .before .before .before in
+    let a = start .args in
+    Naming (a .p) (at-table-in .table-in .result) (a .work .now) (c .name-of .last .0) (c .name-of .result)
+named c =
+    let at-table-in = c .before .before in
+    let start = at-table-in .before .before .before .before .before in
+    let a = start .args in
+    subst (λ (t : Table). Naming (a .p) t (a .work .now) (c .name-of .last .0) (c .name-of .result)) (sym (at-table-in .table-in .ensures)) (c .name-of .ensures)
 
 again-requires : tie.Need-again-requires
 again-requires c κs =
-    let (K, ((th, (T, (x, m))), there, row, free)) = c .before .before .before .before .before .before .before .before .before .before .before .before .before .before .before .before .pre in
-    let n = c .before .before .before .before .before .before .before .before .before .name-of in
-    let fact = known-fact x free (c .before .before .before .before .before .before .before .before .before .before .before .before .before .before .before .before .args .root) (n .ensures) (n .kept .0) (c .before .before .before .before .step-is .ensures (c .before .before .before .if1 .taken)) (c .before .before .before .before .before .before .step-at .ensures) (c .before .wide .ensures) m in
-    (stage-slot (stage-same x (λ q l. n .ensures .only .low q (omega (arith, l, free))) (n .kept .0)) free, omega (arith, c .before .wide .ensures, c .before .before .slice-known3 .given (c .before .before .before .before .before .before .step-at .result + 3)), λ z. fact .left z .0)
+    let at-wide = c .before in
+    let at-slice-known3 = at-wide .before in
+    let at-if1 = at-slice-known3 .before in
+    let at-step-is = at-if1 .before in
+    let at-step-at = at-step-is .before .before in
+    let at-name-of = at-step-at .before .before .before in
+    let start = at-name-of .before .before .before .before .before .before .before in
+    let (K, ((th, (T, (x, m))), there, row, free)) = start .pre in
+    let n = at-name-of .name-of in
+    let fact = known-fact x free (start .args .root) (n .ensures) (n .kept .0) (at-step-is .step-is .ensures (at-if1 .if1 .taken)) (at-step-at .step-at .ensures) (at-wide .wide .ensures) m in
+    (stage-slot (stage-same x (λ q l. n .ensures .only .low q (omega (arith, l, free))) (n .kept .0)) free, omega (arith, at-wide .wide .ensures, at-slice-known3 .slice-known3 .given (at-step-at .step-at .result + 3)), λ z. fact .left z .0)
 
 returns : tie.Need-returns
 returns c =
-    let (K, ((th, (T, (x, m))), there, row, free)) = c .before .before .before .before .before .before .before .before .before .before .before .before .before .before .before .before .before .before .before .pre in
-    let n = c .before .before .before .before .before .before .before .before .before .before .before .before .name-of in
-    λ th T K x m. step-again x free (c .before .before .before .before .before .before .before .before .before .before .before .before .before .before .before .before .before .before .before .args .root) (n .ensures) (n .kept .0) (c .before .before .before .before .before .before .before .step-is .ensures (c .before .before .before .before .before .before .if1 .taken)) (c .before .before .before .before .before .before .before .before .before .step-at .ensures) (c .before .before .before .before .wide .ensures) m (c .before .before .again .ensures)
+    let at-again = c .before .before in
+    let at-wide = at-again .before .before in
+    let at-if1 = at-wide .before .before in
+    let at-step-is = at-if1 .before in
+    let at-step-at = at-step-is .before .before in
+    let at-name-of = at-step-at .before .before .before in
+    let start = at-name-of .before .before .before .before .before .before .before in
+    let (K, ((th, (T, (x, m))), there, row, free)) = start .pre in
+    let n = at-name-of .name-of in
+    λ th T K x m. step-again x free (start .args .root) (n .ensures) (n .kept .0) (at-step-is .step-is .ensures (at-if1 .if1 .taken)) (at-step-at .step-at .ensures) (at-wide .wide .ensures) m (at-again .again .ensures)
 
 step-slot-requires : tie.Need-step-slot-requires
 step-slot-requires c κs =
-    let a = c .before .before .before .before .before .before .before .before .before .before .before .before .before .before .args in
-    let (K, ((th, (T, (x, m))), there, row, free)) = c .before .before .before .before .before .before .before .before .before .before .before .before .before .before .pre in
-    let n = c .before .before .before .before .before .before .before .name-of in
-    let y = table-stage (c .before .before .before .before .before .before .before .before .before .table-in .ensures) x in
-    (th, (T, (_, (stage-setting (stage-same y (λ q l. n .ensures .only .low q (omega (arith, l, free))) (n .kept .0)) free, there, subst (λ (t : Table). a .root < t .nodes) (sym (c .before .before .before .before .before .before .before .before .before .table-in .ensures)) row))))
+    let at-name-of = c .before .before .before .before .before .before .before in
+    let at-table-in = at-name-of .before .before in
+    let start = at-table-in .before .before .before .before .before in
+    let a = start .args in
+    let (K, ((th, (T, (x, m))), there, row, free)) = start .pre in
+    let n = at-name-of .name-of in
+    let y = table-stage (at-table-in .table-in .ensures) x in
+    (th, (T, (_, (stage-setting (stage-same y (λ q l. n .ensures .only .low q (omega (arith, l, free))) (n .kept .0)) free, there, subst (λ (t : Table). a .root < t .nodes) (sym (at-table-in .table-in .ensures)) row))))
 
 note-left-requires : tie.Need-note-left-requires
 note-left-requires c κs =
-    let a = c .before .before .before .before .before .before .before .before .before .before .before .before .before .before .before .before .before .before .before .args in
-    let (K, ((th, (T, (x, m))), there, row, free)) = c .before .before .before .before .before .before .before .before .before .before .before .before .before .before .before .before .before .before .before .pre in
-    let n = c .before .before .before .before .before .before .before .before .before .before .before .before .name-of in
-    let s = c .before .before .before .before .step-slot in
-    let y = table-stage (c .before .before .before .before .before .before .before .before .before .before .before .before .before .before .table-in .ensures) x in
+    let at-step-slot = c .before .before .before .before in
+    let at-name-of = at-step-slot .before .before .before .before .before .before .before .before in
+    let at-table-in = at-name-of .before .before in
+    let start = at-table-in .before .before .before .before .before in
+    let a = start .args in
+    let (K, ((th, (T, (x, m))), there, row, free)) = start .pre in
+    let n = at-name-of .name-of in
+    let s = at-step-slot .step-slot in
+    let y = table-stage (at-table-in .table-in .ensures) x in
     let y′ = stage-same y (λ q l. n .ensures .only .low q (omega (arith, l, free))) (n .kept .0) in
-    let z = s .ensures th T _ (stage-setting y′ free) there (subst (λ (t : Table). a .root < t .nodes) (sym (c .before .before .before .before .before .before .before .before .before .before .before .before .before .before .table-in .ensures)) row) in
+    let z = s .ensures th T _ (stage-setting y′ free) there (subst (λ (t : Table). a .root < t .nodes) (sym (at-table-in .table-in .ensures)) row) in
     let y″ = stage-same y′ (z .only .low) (s .kept .1 .1 .1 .1 .0) in
     (stage-before y″ (omega (arith, free)), omega (arith, row, x .tabled .few), omega (arith, there, x .theorized .found .mostActions), stage-slot y″ free, z .plays (c .before .if2 .taken) .2 .few)
 
 note-requires : tie.Need-note-requires
 note-requires c κs =
-    let a = c .before .before .before .before .before .before .before .before .before .before .before .before .before .before .before .before .before .before .before .args in
-    let (K, ((th, (T, (x, m))), there, row, free)) = c .before .before .before .before .before .before .before .before .before .before .before .before .before .before .before .before .before .before .before .pre in
-    let n = c .before .before .before .before .before .before .before .before .before .before .before .before .name-of in
-    let s = c .before .before .before .before .step-slot in
-    let y = table-stage (c .before .before .before .before .before .before .before .before .before .before .before .before .before .before .table-in .ensures) x in
+    let at-step-slot = c .before .before .before .before in
+    let at-name-of = at-step-slot .before .before .before .before .before .before .before .before in
+    let at-table-in = at-name-of .before .before in
+    let start = at-table-in .before .before .before .before .before in
+    let a = start .args in
+    let (K, ((th, (T, (x, m))), there, row, free)) = start .pre in
+    let n = at-name-of .name-of in
+    let s = at-step-slot .step-slot in
+    let y = table-stage (at-table-in .table-in .ensures) x in
     let y′ = stage-same y (λ q l. n .ensures .only .low q (omega (arith, l, free))) (n .kept .0) in
-    let z = s .ensures th T _ (stage-setting y′ free) there (subst (λ (t : Table). a .root < t .nodes) (sym (c .before .before .before .before .before .before .before .before .before .before .before .before .before .before .table-in .ensures)) row) in
+    let z = s .ensures th T _ (stage-setting y′ free) there (subst (λ (t : Table). a .root < t .nodes) (sym (at-table-in .table-in .ensures)) row) in
     let y″ = stage-same y′ (z .only .low) (s .kept .1 .1 .1 .1 .0) in
     (stage-before y″ (omega (arith, free)), omega (arith, row, x .tabled .few), omega (arith, there, x .theorized .found .mostActions), omega arith)
 
 returns-2 : tie.Need-returns-2
 returns-2 c =
-    let a = c .before .before .before .before .before .before .before .before .before .before .before .before .before .before .before .before .before .before .before .before .before .before .args in
-    let (K, (_, there, row, free)) = c .before .before .before .before .before .before .before .before .before .before .before .before .before .before .before .before .before .before .before .before .before .before .pre in
-    let n = c .before .before .before .before .before .before .before .before .before .before .before .before .before .before .before .name-of in
-    let s = c .before .before .before .before .before .before .before .step-slot in
+    let at-note-left = c .before .before in
+    let at-if2 = at-note-left .before .before in
+    let at-step-slot = at-if2 .before .before .before in
+    let at-name-of = at-step-slot .before .before .before .before .before .before .before .before in
+    let at-table-in = at-name-of .before .before in
+    let start = at-table-in .before .before .before .before .before in
+    let a = start .args in
+    let (K, (_, there, row, free)) = start .pre in
+    let n = at-name-of .name-of in
+    let s = at-step-slot .step-slot in
     λ th T K x m.
-    let y = table-stage (c .before .before .before .before .before .before .before .before .before .before .before .before .before .before .before .before .before .table-in .ensures) x in
+    let y = table-stage (at-table-in .table-in .ensures) x in
     let y′ = stage-same y (λ q l. n .ensures .only .low q (omega (arith, l, free))) (n .kept .0) in
-    subst (λ (t : Table). Advanced th K (a .p) (meaning (t .characters) T (a .root)) (a .action) t (a .work .now) (c .before .before .note-left .last .0) (a .slot + 961) (s .result)) (c .before .before .before .before .before .before .before .before .before .before .before .before .before .before .before .before .before .table-in .ensures)
-    (step-left y free (a .root) (named (c .before .before .before .before .before .before .before .before .before .before .before .before .before .before .before)) (s .ensures th T _ (stage-setting y′ free) there (subst (λ (t : Table). a .root < t .nodes) (sym (c .before .before .before .before .before .before .before .before .before .before .before .before .before .before .before .before .before .table-in .ensures)) row)) m (s .kept .1 .1 .1 .1 .0 ∙ n .kept .0) (c .before .before .before .before .if2 .taken) (c .before .before .note-left .ensures))
+    subst (λ (t : Table). Advanced th K (a .p) (meaning (t .characters) T (a .root)) (a .action) t (a .work .now) (at-note-left .note-left .last .0) (a .slot + 961) (s .result)) (at-table-in .table-in .ensures)
+    (step-left y free (a .root) (named at-name-of) (s .ensures th T _ (stage-setting y′ free) there (subst (λ (t : Table). a .root < t .nodes) (sym (at-table-in .table-in .ensures)) row)) m (s .kept .1 .1 .1 .1 .0 ∙ n .kept .0) (at-if2 .if2 .taken) (at-note-left .note-left .ensures))
 
 returns-3 : tie.Need-returns-3
 returns-3 c =
-    let a = c .before .before .before .before .before .before .before .before .before .before .before .before .before .before .before .before .before .before .before .before .before .before .args in
-    let (K, (_, there, row, free)) = c .before .before .before .before .before .before .before .before .before .before .before .before .before .before .before .before .before .before .before .before .before .before .pre in
-    let n = c .before .before .before .before .before .before .before .before .before .before .before .before .before .before .before .name-of in
-    let s = c .before .before .before .before .before .before .before .step-slot in
+    let at-note = c .before .before in
+    let at-if2 = at-note .before .before in
+    let at-step-slot = at-if2 .before .before .before in
+    let at-name-of = at-step-slot .before .before .before .before .before .before .before .before in
+    let at-table-in = at-name-of .before .before in
+    let start = at-table-in .before .before .before .before .before in
+    let a = start .args in
+    let (K, (_, there, row, free)) = start .pre in
+    let n = at-name-of .name-of in
+    let s = at-step-slot .step-slot in
     λ th T K x m.
-    let y = table-stage (c .before .before .before .before .before .before .before .before .before .before .before .before .before .before .before .before .before .table-in .ensures) x in
+    let y = table-stage (at-table-in .table-in .ensures) x in
     let y′ = stage-same y (λ q l. n .ensures .only .low q (omega (arith, l, free))) (n .kept .0) in
-    subst (λ (t : Table). Advanced th K (a .p) (meaning (t .characters) T (a .root)) (a .action) t (a .work .now) (c .before .before .note .last .0) (a .slot + 961) (s .result)) (c .before .before .before .before .before .before .before .before .before .before .before .before .before .before .before .before .before .table-in .ensures)
-    (step-refused y free (a .root) (named (c .before .before .before .before .before .before .before .before .before .before .before .before .before .before .before)) (s .ensures th T _ (stage-setting y′ free) there (subst (λ (t : Table). a .root < t .nodes) (sym (c .before .before .before .before .before .before .before .before .before .before .before .before .before .before .before .before .before .table-in .ensures)) row)) m (s .kept .1 .1 .1 .1 .0 ∙ n .kept .0) (c .before .before .before .before .if2 .left) (c .before .before .note .ensures))
+    subst (λ (t : Table). Advanced th K (a .p) (meaning (t .characters) T (a .root)) (a .action) t (a .work .now) (at-note .note .last .0) (a .slot + 961) (s .result)) (at-table-in .table-in .ensures)
+    (step-refused y free (a .root) (named at-name-of) (s .ensures th T _ (stage-setting y′ free) there (subst (λ (t : Table). a .root < t .nodes) (sym (at-table-in .table-in .ensures)) row)) m (s .kept .1 .1 .1 .1 .0 ∙ n .kept .0) (at-if2 .if2 .left) (at-note .note .ensures))
 
 pub known-step-spec : {M : Type 1} → statement M
 known-step-spec =
     tie.close
     (tie.spec
-    (λ c κs. let (K, ((th, (T, (x, m))), there, row, free)) = c .before .before .before .before .pre in (omega (arith, free, x .room), omega (arith, small (x .tabled))))
-    (λ c κs. let (K, ((th, (T, (x, m))), there, row, free)) = c .before .before .before .before .before .before .pre in stage-before x (omega (arith, free)))
-    (λ c κs. let (K, ((th, (T, (x, m))), there, row, free)) = c .before .before .before .before .before .before .before .before .before .pre in (c .before .before .name-of .ensures .small, omega (arith, row, x .tabled .few), omega (arith, there, x .theorized .found .mostActions)))
+    (λ c κs.
+    let start = c .before .before .before .before in
+    let (K, ((th, (T, (x, m))), there, row, free)) = start .pre in
+    (omega (arith, free, x .room), omega (arith, small (x .tabled))))
+    (λ c κs.
+    let start = c .before .before .before .before .before .before in
+    let (K, ((th, (T, (x, m))), there, row, free)) = start .pre in
+    stage-before x (omega (arith, free)))
+    (λ c κs.
+    let at-name-of = c .before .before in
+    let start = at-name-of .before .before .before .before .before .before .before in
+    let (K, ((th, (T, (x, m))), there, row, free)) = start .pre in
+    (at-name-of .name-of .ensures .small, omega (arith, row, x .tabled .few), omega (arith, there, x .theorized .found .mostActions)))
     (λ c κs. search needs)
     (λ c. search needs)
     (λ c. search needs)
     (λ c κs. search needs)
-    (λ c. let (K, (_, there, row, free)) = c .before .before .before .before .before .before .before .before .before .before .before .before .before .before .before .before .pre in omega (arith, free))
+    (λ c.
+    let at-step-at = c .before .before .before .before .before .before in
+    let at-table-in = at-step-at .before .before .before .before .before in
+    let start = at-table-in .before .before .before .before .before in
+    let (K, (_, there, row, free)) = start .pre in
+    omega (arith, free))
     again-requires
     (λ c. search needs)
     returns
-    (λ c. let (K, (_, there, row, free)) = c .before .before .before .before .before .before .before .before .before .before .before .before .before .before .pre in omega (arith, free))
+    (λ c.
+    let at-name-of = c .before .before .before .before .before .before .before in
+    let start = at-name-of .before .before .before .before .before .before .before in
+    let (K, (_, there, row, free)) = start .pre in
+    omega (arith, free))
     step-slot-requires
-    (λ c. let (K, (_, there, row, free)) = c .before .before .before .before .before .before .before .before .before .before .before .before .before .before .before .before .before .before .before .pre in omega (arith, free))
+    (λ c.
+    let at-step-is = c .before .before .before .before .before .before .before in
+    let at-table-in = at-step-is .before .before .before .before .before .before .before in
+    let start = at-table-in .before .before .before .before .before in
+    let (K, (_, there, row, free)) = start .pre in
+    omega (arith, free))
     note-left-requires
     note-requires
     (λ c. search needs)

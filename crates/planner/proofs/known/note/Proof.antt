@@ -13,8 +13,22 @@ note-spec =
     (λ c. search needs)
     (λ c. search needs)
     (λ c κs. search needs)
-    (λ c κs. (omega (arith, c .before .wide .ensures, c .before .before .slice-known2 .given (43470 + c .before .before .before .before .before .args .t .rows / 961)), c .before .before .before .before .before .pre .1, c .before .before .before .before .before .pre .2))
-    (λ c κs. let p = c .before .step-at .ensures in (omega (arith, p .is, p .few, c .before .before .before .before .before .before .before .pre .0 .room), omega (arith, c .before .before .before .wide .ensures, c .before .before .before .before .slice-known2 .given (43470 + c .before .before .before .before .before .before .before .args .t .rows / 961)), c .before .before .before .before .before .before .before .pre .1, c .before .before .before .before .before .before .before .pre .2, c .before .before .before .before .before .before .before .pre .3))
+    (λ c κs.
+    let at-slice-known2 = c .before .before in
+    let start = at-slice-known2 .before .before .before in
+    (omega (arith, c .before .wide .ensures, at-slice-known2 .slice-known2 .given (43470 + start .args .t .rows / 961)), start .pre .1, start .pre .2))
+    (λ c κs.
+    let at-wide = c .before .before .before in
+    let at-slice-known2 = at-wide .before in
+    let start = at-slice-known2 .before .before .before in
+    let p = c .before .step-at .ensures in
+    (omega (arith, p .is, p .few, start .pre .0 .room), omega (arith, at-wide .wide .ensures, at-slice-known2 .slice-known2 .given (43470 + start .args .t .rows / 961)), start .pre .1, start .pre .2, start .pre .3))
     (λ c. search needs)
-    (λ c. noted-step (c .before .before .before .before .before .before .before .before .before .before .args .p) (c .before .before .before .before .before .before .before .before .before .before .pre .0) (c .before .before .before .before .before .before .wide .ensures) (omega (arith, c .before .before .before .before .before .if1 .taken)) (c .before .before .before .before .step-at .ensures) (c .before .before .put-step .ensures))
+    (λ c.
+    let at-put-step = c .before .before in
+    let at-step-at = at-put-step .before .before in
+    let at-if1 = at-step-at .before in
+    let at-wide = at-if1 .before in
+    let start = at-wide .before .before .before .before in
+    noted-step (start .args .p) (start .pre .0) (at-wide .wide .ensures) (omega (arith, at-if1 .if1 .taken)) (at-step-at .step-at .ensures) (at-put-step .put-step .ensures))
     (λ c. search needs))

@@ -10,16 +10,22 @@ use Rattle.planner.proofs.known.note_left.Tie as tie
 
 returns : tie.Need-returns
 returns c =
-    let a = c .before .before .before .before .before .before .before .before .before .before .args in
-    let P = c .before .before .before .before .before .before .before .before .before .before .pre in
-    let n = c .before .before .before .before .before .before .before .name-anew in
-    left-noted (a .p) (P .3) (P .4) (P .0) (n .kept .0 ∙ length-set (a .work .now) (43470 + a .slot / 961) 0) (n .ensures) (omega (arith, c .before .before .before .before .if1 .taken)) (c .before .before .note .ensures)
+    let at-note = c .before .before in
+    let at-if1 = at-note .before .before in
+    let at-name-anew = at-if1 .before .before .before in
+    let start = at-name-anew .before .before .before in
+    let a = start .args in
+    let P = start .pre in
+    let n = at-name-anew .name-anew in
+    left-noted (a .p) (P .3) (P .4) (P .0) (n .kept .0 ∙ length-set (a .work .now) (43470 + a .slot / 961) 0) (n .ensures) (omega (arith, at-if1 .if1 .taken)) (at-note .note .ensures)
 
 returns-2 : tie.Need-returns-2
 returns-2 c =
-    let a = c .before .before .before .before .before .before .args in
-    let P = c .before .before .before .before .before .before .pre in
-    let n = c .before .before .before .name-anew in
+    let at-name-anew = c .before .before .before in
+    let start = at-name-anew .before .before .before in
+    let a = start .args in
+    let P = start .pre in
+    let n = at-name-anew .name-anew in
     left-unnoted (a .p) (P .3) (P .4) (P .0) (n .kept .0 ∙ length-set (a .work .now) (43470 + a .slot / 961) 0) (n .ensures)
 
 pub note-left-spec : {M : Type 1} → statement M
@@ -28,9 +34,25 @@ note-left-spec =
     (tie.spec
     (λ c. search needs)
     (λ c. search needs)
-    (λ c κs. let P = c .before .before .pre in left-before (c .before .before .args .p) (P .3) (P .4))
-    (λ c κs. let a = c .before .before .before .before .before .before .before .args in let P = c .before .before .before .before .before .before .before .pre in let n = c .before .before .before .before .name-anew in (before-now (a .p) (n .kept .0 ∙ length-set (a .work .now) (43470 + a .slot / 961) 0) (P .0), P .1, P .2, n .ensures .small))
-    (λ c. c .before .before .note .kept .0 ∙ c .before .before .before .before .before .before .before .name-anew .kept .0 ∙ length-set (c .before .before .before .before .before .before .before .before .before .before .args .work .now) (43470 + c .before .before .before .before .before .before .before .before .before .before .args .slot / 961) 0)
+    (λ c κs.
+    let start = c .before .before in
+    let P = start .pre in
+    left-before (start .args .p) (P .3) (P .4))
+    (λ c κs.
+    let at-name-anew = c .before .before .before .before in
+    let start = at-name-anew .before .before .before in
+    let a = start .args in
+    let P = start .pre in
+    let n = at-name-anew .name-anew in
+    (before-now (a .p) (n .kept .0 ∙ length-set (a .work .now) (43470 + a .slot / 961) 0) (P .0), P .1, P .2, n .ensures .small))
+    (λ c.
+    let at-note = c .before .before in
+    let at-name-anew = at-note .before .before .before .before .before in
+    let start = at-name-anew .before .before .before in
+    at-note .note .kept .0 ∙ at-name-anew .name-anew .kept .0 ∙ length-set (start .args .work .now) (43470 + start .args .slot / 961) 0)
     returns
-    (λ c. c .before .before .before .name-anew .kept .0 ∙ length-set (c .before .before .before .before .before .before .args .work .now) (43470 + c .before .before .before .before .before .before .args .slot / 961) 0)
+    (λ c.
+    let at-name-anew = c .before .before .before in
+    let start = at-name-anew .before .before .before in
+    at-name-anew .name-anew .kept .0 ∙ length-set (start .args .work .now) (43470 + start .args .slot / 961) 0)
     returns-2)

@@ -21,4 +21,11 @@ step-is-spec =
     (λ c. search needs)
     (λ c. search needs)
     (λ c κs. search needs)
-    (λ c. λ e. record { some = omega (arith, c .before .before .before .before .before .before .before .before .if1 .left); read = omega (arith, c .before .before .before .before .before .before .wide .ensures, c .before .before .before .before .before .if2 .left); row = omega (arith, c .before .before .before .wide2 .ensures, c .before .before .if3 .left); acted = omega (arith, c .wide3 .ensures, eqb-true (c .wide3 .result) (c .before .before .before .before .before .before .before .before .before .before .args .action) e) }))
+    (λ c.
+    let at-if3 = c .before .before in
+    let at-wide2 = at-if3 .before in
+    let at-if2 = at-wide2 .before .before in
+    let at-wide = at-if2 .before in
+    let at-if1 = at-wide .before .before in
+    let start = at-if1 .before .before in
+    λ e. record { some = omega (arith, at-if1 .if1 .left); read = omega (arith, at-wide .wide .ensures, at-if2 .if2 .left); row = omega (arith, at-wide2 .wide2 .ensures, at-if3 .if3 .left); acted = omega (arith, c .wide3 .ensures, eqb-true (c .wide3 .result) (start .args .action) e) }))

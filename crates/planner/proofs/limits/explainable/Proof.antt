@@ -5,7 +5,9 @@ use Rattle.planner.proofs.limits.explainable.Statement.{statement}
 use Rattle.planner.proofs.limits.explainable.Tie as tie
 
 returns : tie.Need-returns
-returns c = both-there _ (c .before .before .both-at-most .ensures) (c .before .if1 .taken)
+returns c =
+    let at-both-at-most = c .before .before in
+    both-there _ (at-both-at-most .both-at-most .ensures) (c .before .if1 .taken)
 
 returns-2 : tie.Need-returns-2
 returns-2 c = not-there _ (c .before .both-at-most .ensures) (c .if1 .left)

@@ -19,8 +19,12 @@ could-all-spec =
     (tie.spec
     Inv-loop
     μ-loop
-    (λ c. omega (arith, look-inside _ _ _ _ _ _ testAt (c .before .before .before .pre)))
-    (λ c. look-inside _ _ _ _ _ _ testAt (c .before .before .before .before .pre))
+    (λ c.
+    let start = c .before .before .before in
+    omega (arith, look-inside _ _ _ _ _ _ testAt (start .pre)))
+    (λ c.
+    let start = c .before .before .before .before in
+    look-inside _ _ _ _ _ _ testAt (start .pre))
     (λ c κs. search needs)
     (λ c. run-start (testRun _ _ _ _ _ _) _ _ (omega arith) _ (c .wide .ensures))
     (λ c κs.
@@ -28,16 +32,19 @@ could-all-spec =
     look-next _ _ _ _ _ _ testAt (start .pre) (c .before .loop .inv) (c .loop-test .taken))
     (λ c p k v g.
     let turn = c .before .before in
-    run-stop (testRun _ _ _ _ _ _) _ _ (turn .before .loop .inv) (turn .loop-test .taken) (λ k x rest g. all-by _ _ x rest (c .before .could-pass .ensures (k .0) (k .1) x g) (not-true _ (c .if1 .taken))) (p, k) v g)
+    let at-loop = turn .before in
+    run-stop (testRun _ _ _ _ _ _) _ _ (at-loop .loop .inv) (turn .loop-test .taken) (λ k x rest g. all-by _ _ x rest (c .before .could-pass .ensures (k .0) (k .1) x g) (not-true _ (c .if1 .taken))) (p, k) v g)
     (λ c κs.
     let turn = c .before .before in
-    let start = turn .before .before .before .before .before .before .before in
-    test-there _ _ _ _ _ _ _ (look-next _ _ _ _ _ _ testAt (start .pre) (turn .before .loop .inv) (turn .loop-test .taken)))
+    let at-loop = turn .before in
+    let start = at-loop .before .before .before .before .before .before in
+    test-there _ _ _ _ _ _ _ (look-next _ _ _ _ _ _ testAt (start .pre) (at-loop .loop .inv) (turn .loop-test .taken)))
     (λ c. search needs)
     (λ c. search needs)
     (λ c.
     let at-test = c .before .before in
     let turn = at-test .before in
-    run-on (testRun _ _ _ _ _ _) _ _ (turn .before .loop .inv) (turn .loop-test .taken) _ (λ k x g. test-end _ _ _ _ _ _ _ (c .after-test .ensures) (k .0) (k .1) x g)
+    let at-loop = turn .before in
+    run-on (testRun _ _ _ _ _ _) _ _ (at-loop .loop .inv) (turn .loop-test .taken) _ (λ k x g. test-end _ _ _ _ _ _ _ (c .after-test .ensures) (k .0) (k .1) x g)
     (λ k x rest g. all-by _ _ x rest (at-test .could-pass .ensures (k .0) (k .1) x g) (not-false _ (c .before .if1 .left))))
     (λ c p k v g. run-none (testRun _ _ _ _ _ _) _ _ (c .before .loop .inv) (c .loop-test .left) (λ k. all-none _ _) (p, k) v g))

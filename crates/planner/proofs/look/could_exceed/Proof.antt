@@ -20,22 +20,37 @@ abbrev μ-loop : tie.MeasureT-loop
 -- the last rule could not hold
 returns : tie.Need-returns Inv-loop μ-loop
 returns c =
-    exceed-told _ _ _ _ _ _ _ (run-last (ruleRun _ _ _ _ _ _ _) _ _ (c .before .before .before .before .loop .inv) (c .before .before .before .loop-test .taken) (omega (arith, c .if2 .taken))
-    (λ k x rest g. exceed-not _ _ _ x rest (c .before .before .could-hold .ensures (k .0) (k .1) (x .condition) (rule-condition _ _ (k .0) x g)) (not-true (c .before .before .could-hold .result) (c .before .if1 .taken)))
+    let at-could-hold = c .before .before in
+    let turn = at-could-hold .before in
+    let at-loop = turn .before in
+    exceed-told _ _ _ _ _ _ _ (run-last (ruleRun _ _ _ _ _ _ _) _ _ (at-loop .loop .inv) (turn .loop-test .taken) (omega (arith, c .if2 .taken))
+    (λ k x rest g. exceed-not _ _ _ x rest (at-could-hold .could-hold .ensures (k .0) (k .1) (x .condition) (rule-condition _ _ (k .0) x g)) (not-true (at-could-hold .could-hold .result) (c .before .if1 .taken)))
     (λ k. exceed-none _ _ _))
 
 returns-3 : tie.Need-returns-3 Inv-loop μ-loop
 returns-3 c =
-    exceed-told _ _ _ _ _ _ _ (run-stop (ruleRun _ _ _ _ _ _ _) _ _ (c .before .before .before .before .before .before .before .before .before .before .loop .inv) (c .before .before .before .before .before .before .before .before .before .loop-test .taken) (λ k x rest g.
-    let is = same-value (rule-number _ _ _ _ _ _ _ (c .before .before .before .before .before .before .after-condition .ensures) (c .before .before .before .before .before .read-number .ensures ∙ ap said (c .before .before .before .value .given .1)) (k .0) (k .1) x g) in
-    exceed-by _ _ _ x rest (omega (arith, is, c .before .if3 .taken)) (c .before .before .before .before .before .before .before .before .could-hold .ensures (k .0) (k .1) (x .condition) (rule-condition _ _ (k .0) x g)) (c .if4 .taken)))
+    let at-value = c .before .before .before in
+    let at-read-number = at-value .before .before in
+    let at-after-condition = at-read-number .before in
+    let at-could-hold = at-after-condition .before .before in
+    let turn = at-could-hold .before in
+    let at-loop = turn .before in
+    exceed-told _ _ _ _ _ _ _ (run-stop (ruleRun _ _ _ _ _ _ _) _ _ (at-loop .loop .inv) (turn .loop-test .taken) (λ k x rest g.
+    let is = same-value (rule-number _ _ _ _ _ _ _ (at-after-condition .after-condition .ensures) (at-read-number .read-number .ensures ∙ ap said (at-value .value .given .1)) (k .0) (k .1) x g) in
+    exceed-by _ _ _ x rest (omega (arith, is, c .before .if3 .taken)) (at-could-hold .could-hold .ensures (k .0) (k .1) (x .condition) (rule-condition _ _ (k .0) x g)) (c .if4 .taken)))
 
 loop-again : tie.Need-loop-again Inv-loop μ-loop
 loop-again c =
-    run-on (ruleRun _ _ _ _ _ _ _) _ _ (c .before .before .before .before .before .before .before .before .before .loop .inv) (c .before .before .before .before .before .before .before .before .loop-test .taken) _ (λ k x g. sym (same-place (rule-number _ _ _ _ _ _ _ (c .before .before .before .before .before .after-condition .ensures) (c .before .before .before .before .read-number .ensures ∙ ap said (c .before .before .value .given .1)) (k .0) (k .1) x g))) (λ k x rest g.
-    let is = same-value (rule-number _ _ _ _ _ _ _ (c .before .before .before .before .before .after-condition .ensures) (c .before .before .before .before .read-number .ensures ∙ ap said (c .before .before .value .given .1)) (k .0) (k .1) x g) in
+    let at-value = c .before .before in
+    let at-read-number = at-value .before .before in
+    let at-after-condition = at-read-number .before in
+    let at-could-hold = at-after-condition .before .before in
+    let turn = at-could-hold .before in
+    let at-loop = turn .before in
+    run-on (ruleRun _ _ _ _ _ _ _) _ _ (at-loop .loop .inv) (turn .loop-test .taken) _ (λ k x g. sym (same-place (rule-number _ _ _ _ _ _ _ (at-after-condition .after-condition .ensures) (at-read-number .read-number .ensures ∙ ap said (at-value .value .given .1)) (k .0) (k .1) x g))) (λ k x rest g.
+    let is = same-value (rule-number _ _ _ _ _ _ _ (at-after-condition .after-condition .ensures) (at-read-number .read-number .ensures ∙ ap said (at-value .value .given .1)) (k .0) (k .1) x g) in
     ⊎-elim
-    (λ y. exceed-not _ _ _ x rest (c .before .before .before .before .before .before .before .could-hold .ensures (k .0) (k .1) (x .condition) (rule-condition _ _ (k .0) x g)) (y .1 .left))
+    (λ y. exceed-not _ _ _ x rest (at-could-hold .could-hold .ensures (k .0) (k .1) (x .condition) (rule-condition _ _ (k .0) x g)) (y .1 .left))
     (λ y. exceed-low _ _ _ x rest (omega (arith, is, y .left)))
     (c .if3 .came))
 
@@ -45,16 +60,31 @@ could-exceed-spec =
     (tie.spec
     Inv-loop
     μ-loop
-    (λ c. omega (arith, look-inside _ _ _ _ _ _ ruleAt (rules-parts _ _ _ _ _ _ (c .before .before .before .pre))))
-    (λ c. look-inside _ _ _ _ _ _ ruleAt (rules-parts _ _ _ _ _ _ (c .before .before .before .before .pre)))
+    (λ c.
+    let start = c .before .before .before in
+    omega (arith, look-inside _ _ _ _ _ _ ruleAt (rules-parts _ _ _ _ _ _ (start .pre))))
+    (λ c.
+    let start = c .before .before .before .before in
+    look-inside _ _ _ _ _ _ ruleAt (rules-parts _ _ _ _ _ _ (start .pre)))
     (λ c κs. search needs)
     (λ c. run-start (ruleRun _ _ _ _ _ _ _) _ _ (omega arith) _ (c .wide .ensures))
-    (λ c κs. rule-look _ _ _ _ _ _ _ (look-next _ _ _ _ _ _ ruleAt (rules-parts _ _ _ _ _ _ (c .before .before .before .before .before .before .before .pre)) (c .before .loop .inv) (c .loop-test .taken)))
+    (λ c κs.
+    let start = c .before .before .before .before .before .before .before in
+    rule-look _ _ _ _ _ _ _ (look-next _ _ _ _ _ _ ruleAt (rules-parts _ _ _ _ _ _ (start .pre)) (c .before .loop .inv) (c .loop-test .taken)))
     returns
-    (λ c κs. look-readable _ _ _ _ _ _ (rule-look _ _ _ _ _ _ _ (look-next _ _ _ _ _ _ ruleAt (rules-parts _ _ _ _ _ _ (c .before .before .before .before .before .before .before .before .before .pre)) (c .before .before .before .loop .inv) (c .before .before .loop-test .taken))))
+    (λ c κs.
+    let turn = c .before .before in
+    let at-loop = turn .before in
+    let start = at-loop .before .before .before .before .before .before in
+    look-readable _ _ _ _ _ _ (rule-look _ _ _ _ _ _ _ (look-next _ _ _ _ _ _ ruleAt (rules-parts _ _ _ _ _ _ (start .pre)) (at-loop .loop .inv) (turn .loop-test .taken))))
     (λ c κs. search needs)
     (λ c. search needs)
-    (λ c. exceed-told _ _ _ _ _ _ _ (run-stop (ruleRun _ _ _ _ _ _ _) _ _ (c .before .before .before .before .before .before .before .loop .inv) (c .before .before .before .before .before .before .loop-test .taken) (λ k x rest g. never (rule-number _ _ _ _ _ _ _ (c .before .before .before .after-condition .ensures) (c .before .before .read-number .ensures ∙ ap said (c .enum-told .given .1)) (k .0) (k .1) x g))))
+    (λ c.
+    let at-read-number = c .before .before in
+    let at-after-condition = at-read-number .before in
+    let turn = at-after-condition .before .before .before in
+    let at-loop = turn .before in
+    exceed-told _ _ _ _ _ _ _ (run-stop (ruleRun _ _ _ _ _ _ _) _ _ (at-loop .loop .inv) (turn .loop-test .taken) (λ k x rest g. never (rule-number _ _ _ _ _ _ _ (at-after-condition .after-condition .ensures) (at-read-number .read-number .ensures ∙ ap said (c .enum-told .given .1)) (k .0) (k .1) x g))))
     (λ c. search needs)
     returns-3
     (λ c. search needs)

@@ -18,14 +18,31 @@ could-hold-spec =
     (tie.spec
     Inv-loop
     μ-loop
-    (λ c. omega (arith, look-inside _ _ _ _ _ _ alternativeAt (condition-parts _ _ _ _ _ _ (c .before .before .before .pre))))
-    (λ c. look-inside _ _ _ _ _ _ alternativeAt (condition-parts _ _ _ _ _ _ (c .before .before .before .before .pre)))
+    (λ c.
+    let start = c .before .before .before in
+    omega (arith, look-inside _ _ _ _ _ _ alternativeAt (condition-parts _ _ _ _ _ _ (start .pre))))
+    (λ c.
+    let start = c .before .before .before .before in
+    look-inside _ _ _ _ _ _ alternativeAt (condition-parts _ _ _ _ _ _ (start .pre)))
     (λ c κs. search needs)
     (λ c. run-start (alternativeRun _ _ _ _ _ _) _ _ (omega arith) _ (c .wide .ensures))
-    (λ c κs. look-next _ _ _ _ _ _ alternativeAt (condition-parts _ _ _ _ _ _ (c .before .before .before .before .before .before .before .pre)) (c .before .loop .inv) (c .loop-test .taken))
-    (λ c. hold-told _ _ _ _ _ _ (run-stop (alternativeRun _ _ _ _ _ _) _ _ (c .before .before .before .loop .inv) (c .before .before .loop-test .taken) (λ k x rest g. some-by _ _ x rest (c .before .could-all .ensures (k .0) (k .1) x g) (c .if1 .taken))))
-    (λ c κs. look-readable _ _ _ _ _ _ (look-next _ _ _ _ _ _ alternativeAt (condition-parts _ _ _ _ _ _ (c .before .before .before .before .before .before .before .before .before .pre)) (c .before .before .before .loop .inv) (c .before .before .loop-test .taken)))
+    (λ c κs.
+    let start = c .before .before .before .before .before .before .before in
+    look-next _ _ _ _ _ _ alternativeAt (condition-parts _ _ _ _ _ _ (start .pre)) (c .before .loop .inv) (c .loop-test .taken))
+    (λ c.
+    let turn = c .before .before in
+    let at-loop = turn .before in
+    hold-told _ _ _ _ _ _ (run-stop (alternativeRun _ _ _ _ _ _) _ _ (at-loop .loop .inv) (turn .loop-test .taken) (λ k x rest g. some-by _ _ x rest (c .before .could-all .ensures (k .0) (k .1) x g) (c .if1 .taken))))
+    (λ c κs.
+    let turn = c .before .before in
+    let at-loop = turn .before in
+    let start = at-loop .before .before .before .before .before .before in
+    look-readable _ _ _ _ _ _ (look-next _ _ _ _ _ _ alternativeAt (condition-parts _ _ _ _ _ _ (start .pre)) (at-loop .loop .inv) (turn .loop-test .taken)))
     (λ c. search needs)
     (λ c. search needs)
-    (λ c. run-on (alternativeRun _ _ _ _ _ _) _ _ (c .before .before .before .before .loop .inv) (c .before .before .before .loop-test .taken) _ (λ k x g. alternative-end _ _ _ _ _ _ (c .after-alternative .ensures) (k .0) (k .1) x g) (λ k x rest g. some-by _ _ x rest (c .before .before .could-all .ensures (k .0) (k .1) x g) (c .before .if1 .left)))
+    (λ c.
+    let at-could-all = c .before .before in
+    let turn = at-could-all .before in
+    let at-loop = turn .before in
+    run-on (alternativeRun _ _ _ _ _ _) _ _ (at-loop .loop .inv) (turn .loop-test .taken) _ (λ k x g. alternative-end _ _ _ _ _ _ (c .after-alternative .ensures) (k .0) (k .1) x g) (λ k x rest g. some-by _ _ x rest (at-could-all .could-all .ensures (k .0) (k .1) x g) (c .before .if1 .left)))
     (λ c. hold-told _ _ _ _ _ _ (run-none (alternativeRun _ _ _ _ _ _) _ _ (c .before .loop .inv) (c .loop-test .left) (λ k. some-none _ _))))

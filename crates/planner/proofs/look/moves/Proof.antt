@@ -18,22 +18,60 @@ moves-spec =
     (tie.spec
     Inv-loop
     μ-loop
-    (λ c. omega (arith, acted-few _ _ _ _ 0 (c .before .before .pre)))
-    (λ c. omega (arith, acted-few _ _ _ _ 0 (c .before .before .pre)))
-    (λ c. omega (arith, acted-few _ _ _ _ 0 (c .before .before .pre)))
-    (λ c. omega (arith, acted-few _ _ _ _ 0 (c .before .before .before .pre)))
-    (λ c. omega (arith, c .shared-slice-known3 .given (9 * c .before .before .before .args .x + 1)))
-    (λ c κs. own-readable _ _ _ _ 0 (c .before .before .before .pre))
+    (λ c.
+    let start = c .before .before in
+    omega (arith, acted-few _ _ _ _ 0 (start .pre)))
+    (λ c.
+    let start = c .before .before in
+    omega (arith, acted-few _ _ _ _ 0 (start .pre)))
+    (λ c.
+    let start = c .before .before in
+    omega (arith, acted-few _ _ _ _ 0 (start .pre)))
+    (λ c.
+    let start = c .before .before .before in
+    omega (arith, acted-few _ _ _ _ 0 (start .pre)))
+    (λ c.
+    let start = c .before .before .before in
+    omega (arith, c .shared-slice-known3 .given (9 * start .args .x + 1)))
+    (λ c κs.
+    let start = c .before .before .before in
+    own-readable _ _ _ _ 0 (start .pre))
     (λ c. own-moves _ _ _ _ _ (c .before .some-effect .ensures) (c .if1 .taken))
     (λ c. own-still _ _ _ _ _ (c .before .some-effect .ensures) (c .if1 .left))
-    (λ c. omega (arith, acted-few _ _ _ _ 0 (c .before .before .before .before .before .before .before .pre), c .loop-test .taken))
-    (λ c. omega (arith, acted-few _ _ _ _ 0 (c .before .before .before .before .before .before .before .pre), c .loop-test .taken))
-    (λ c. omega (arith, acted-few _ _ _ _ 0 (c .before .before .before .before .before .before .before .pre), c .loop-test .taken))
-    (λ c. omega (arith, acted-few _ _ _ _ 0 (c .before .before .before .before .before .before .before .before .pre), c .before .loop-test .taken))
-    (λ c. omega (arith, c .shared-slice-known4 .given (289 + 2 * c .before .before .loop .i)))
-    (λ c κs. next-readable _ _ (c .before .before .before .before .before .before .before .before .args .triggers) _ 0 (c .before .before .loop .i) (omega (arith, c .before .loop-test .taken)) (c .before .before .before .before .before .before .before .before .pre))
-    (λ c. next-moves _ _ (c .before .before .before .before .before .before .before .before .before .before .args .triggers) _ _ (c .before .before .before .before .loop .i) (omega (arith, c .before .before .before .loop-test .taken)) (c .before .some-effect2 .ensures) (c .if2 .taken) (c .before .before .before .before .loop .inv))
-    (λ c. omega (arith, acted-few _ _ _ _ 0 (c .before .before .before .before .before .before .before .before .before .before .pre), c .before .before .before .loop-test .taken))
+    (λ c.
+    let start = c .before .before .before .before .before .before .before in
+    omega (arith, acted-few _ _ _ _ 0 (start .pre), c .loop-test .taken))
+    (λ c.
+    let start = c .before .before .before .before .before .before .before in
+    omega (arith, acted-few _ _ _ _ 0 (start .pre), c .loop-test .taken))
+    (λ c.
+    let start = c .before .before .before .before .before .before .before in
+    omega (arith, acted-few _ _ _ _ 0 (start .pre), c .loop-test .taken))
+    (λ c.
+    let start = c .before .before .before .before .before .before .before .before in
+    omega (arith, acted-few _ _ _ _ 0 (start .pre), c .before .loop-test .taken))
+    (λ c.
+    let at-loop = c .before .before in
+    omega (arith, c .shared-slice-known4 .given (289 + 2 * at-loop .loop .i)))
+    (λ c κs.
+    let at-loop = c .before .before in
+    let start = at-loop .before .before .before .before .before .before in
+    next-readable _ _ (start .args .triggers) _ 0 (at-loop .loop .i) (omega (arith, c .before .loop-test .taken)) (start .pre))
+    (λ c.
+    let turn = c .before .before .before in
+    let at-loop = turn .before in
+    let start = at-loop .before .before .before .before .before .before in
+    next-moves _ _ (start .args .triggers) _ _ (at-loop .loop .i) (omega (arith, turn .loop-test .taken)) (c .before .some-effect2 .ensures) (c .if2 .taken) (at-loop .loop .inv))
+    (λ c.
+    let turn = c .before .before .before in
+    let start = turn .before .before .before .before .before .before .before in
+    omega (arith, acted-few _ _ _ _ 0 (start .pre), turn .loop-test .taken))
     (λ c. search needs)
-    (λ c. next-still _ _ (c .before .before .before .before .before .before .before .before .before .before .args .triggers) _ _ (c .before .before .before .before .loop .i) (omega (arith, c .before .before .before .loop-test .taken)) (c .before .some-effect2 .ensures) (c .if2 .left) (c .before .before .before .before .loop .inv))
-    (λ c. all-still _ _ (c .before .before .before .before .before .before .before .args .triggers) _ _ (omega (arith, c .loop-test .left)) (c .before .loop .inv)))
+    (λ c.
+    let turn = c .before .before .before in
+    let at-loop = turn .before in
+    let start = at-loop .before .before .before .before .before .before in
+    next-still _ _ (start .args .triggers) _ _ (at-loop .loop .i) (omega (arith, turn .loop-test .taken)) (c .before .some-effect2 .ensures) (c .if2 .left) (at-loop .loop .inv))
+    (λ c.
+    let start = c .before .before .before .before .before .before .before in
+    all-still _ _ (start .args .triggers) _ _ (omega (arith, c .loop-test .left)) (c .before .loop .inv)))

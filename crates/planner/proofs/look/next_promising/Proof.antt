@@ -17,24 +17,40 @@ abbrev μ-loop : tie.MeasureT-loop
 
 promising-requires : tie.Need-promising-requires Inv-loop μ-loop
 promising-requires c κs =
-    let a = c .before .before .before .before .before .before .before .args in
-    subst (λ (t : Table). Tryable (a .pack .now) (a .places .now) (a .p .triggers) (c .before .before .loop .y) (a .work .now) t (a .whose)) (sym (c .before .before .before .table-in .ensures)) (c .before .before .before .before .before .before .before .pre .0 .each (c .before .before .loop .y) (c .if1 .taken))
+    let at-loop = c .before .before in
+    let at-table-in = at-loop .before in
+    let start = at-table-in .before .before .before .before in
+    let a = start .args in
+    subst (λ (t : Table). Tryable (a .pack .now) (a .places .now) (a .p .triggers) (at-loop .loop .y) (a .work .now) t (a .whose)) (sym (at-table-in .table-in .ensures)) (start .pre .0 .each (at-loop .loop .y) (c .if1 .taken))
 
 loop-again : tie.Need-loop-again Inv-loop μ-loop
 loop-again c =
-    let a = c .before .before .before .before .before .before .before .before .before .args in
-    skipped-more (c .before .before .before .before .loop .inv) (c .before .before .if1 .taken)
-    (subst (λ (t : Table). Hopeless (a .pack .now) (a .places .now) (a .p .triggers) (c .before .before .before .before .loop .y) (a .work .now) t (a .whose) (a .left) (a .base)) (c .before .before .before .before .before .table-in .ensures) (c .before .promising .ensures (c .if2 .left)))
+    let at-if1 = c .before .before in
+    let at-loop = at-if1 .before .before in
+    let at-table-in = at-loop .before in
+    let start = at-table-in .before .before .before .before in
+    let a = start .args in
+    skipped-more (at-loop .loop .inv) (at-if1 .if1 .taken)
+    (subst (λ (t : Table). Hopeless (a .pack .now) (a .places .now) (a .p .triggers) (at-loop .loop .y) (a .work .now) t (a .whose) (a .left) (a .base)) (at-table-in .table-in .ensures) (c .before .promising .ensures (c .if2 .left)))
 
 pub next-promising-spec : {M : Type 1} → statement M
 next-promising-spec =
     tie.close
     (tie.spec Inv-loop μ-loop
-    (λ c κs. let b = c .before .before .before .pre .0 in (omega (arith, b .before, b .room), b .narrow))
-    (λ c. skipped-none (c .before .before .before .before .pre .1))
+    (λ c κs.
+    let start = c .before .before .before in
+    let b = start .pre .0 in
+    (omega (arith, b .before, b .room), b .narrow))
+    (λ c.
+    let start = c .before .before .before .before in
+    skipped-none (start .pre .1))
     promising-requires
-    (λ c. c .before .before .before .before .loop .inv)
+    (λ c.
+    let at-loop = c .before .before .before .before in
+    at-loop .loop .inv)
     (λ c. search needs)
     (λ c. search needs)
     loop-again
-    (λ c. c .before .before .loop .inv))
+    (λ c.
+    let at-loop = c .before .before in
+    at-loop .loop .inv))

@@ -14,13 +14,24 @@ promising-spec =
     (λ c. search needs)
     (λ c. search needs)
     (λ c. search needs)
-    (λ c. omega (arith, c .shared-slice-known4 .given (9 * c .before .before .before .before .args .x)))
-    (λ c κs. try-judged _ _ _ _ _ _ (c .before .before .before .before .pre))
+    (λ c.
+    let start = c .before .before .before .before in
+    omega (arith, c .shared-slice-known4 .given (9 * start .args .x)))
+    (λ c κs.
+    let start = c .before .before .before .before in
+    try-judged _ _ _ _ _ _ (start .pre))
     (λ c. λ e. try-forbidden _ _ _ _ _ _ (c .before .holds .ensures) (not-true _ (c .if1 .taken)) _ _ _)
     (λ c. λ e. absurd (unequal e))
     (λ c. search needs)
     (λ c. search needs)
     (λ c. search needs)
-    (λ c. omega (arith, c .shared-slice-known5 .given (320 + c .before .before .before .before .before .before .before .before .args .whose)))
-    (λ c κs. try-rules _ _ _ _ _ _ (c .before .before .before .before .before .before .before .before .pre))
-    (λ c. λ e. try-hopeless _ _ _ _ _ _ (c .before .before .before .before .before .before .before .before .before .pre .rules) (omega (arith, c .before .before .if2 .left)) (c .could-exceed .ensures) e))
+    (λ c.
+    let start = c .before .before .before .before .before .before .before .before in
+    omega (arith, c .shared-slice-known5 .given (320 + start .args .whose)))
+    (λ c κs.
+    let start = c .before .before .before .before .before .before .before .before in
+    try-rules _ _ _ _ _ _ (start .pre))
+    (λ c.
+    let at-if2 = c .before .before in
+    let start = at-if2 .before .before .before .before .before .before .before in
+    λ e. try-hopeless _ _ _ _ _ _ (start .pre .rules) (omega (arith, at-if2 .if2 .left)) (c .could-exceed .ensures) e))

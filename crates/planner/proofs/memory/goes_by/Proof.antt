@@ -10,10 +10,15 @@ use Rattle.planner.proofs.memory.goes_by.Tie as tie
 
 returns-4 : tie.Need-returns-4
 returns-4 c =
+    let at-wide2 = c .before .before .before in
+    let at-if2 = at-wide2 .before .before in
+    let at-wide = at-if2 .before in
+    let at-if1 = at-wide .before .before .before in
+    let start = at-if1 .before .before in
     λ e.
-    let a = c .before .before .before .before .before .before .before .before .before .before .before .args in
+    let a = start .args in
     let f = c .first-other in
-    kept-as (a .p) (c .before .before .before .before .before .before .before .before .before .before .before .pre .0) (a .name) (omega (arith, c .before .before .before .before .before .before .before .before .before .if1 .left)) (omega (arith, c .before .before .before .before .before .if2 .left, c .before .before .before .before .before .before .wide .ensures)) (omega (arith, c .before .before .before .wide2 .ensures, c .before .if3 .left))
+    kept-as (a .p) (start .pre .0) (a .name) (omega (arith, at-if1 .if1 .left)) (omega (arith, at-if2 .if2 .left, at-wide .wide .ensures)) (omega (arith, at-wide2 .wide2 .ensures, c .before .if3 .left))
     (λ q l. sym (f .ensures .before q (omega (arith, l, leb-true (a .t .nodes * a .t .width) (f .result) e))))
 
 pub goes-by-spec : {M : Type 1} → statement M
@@ -35,5 +40,11 @@ goes-by-spec =
     (λ c κs. search needs)
     (λ c. unset)
     (λ c. search needs)
-    (λ c κs. let b = c .before .before .before .before .before .before .before .before .before .before .pre .0 in (omega (arith, b .before, b .room), omega (arith, c .before .before .before .before .if2 .left, c .before .before .before .before .before .wide .ensures, c .before .before .before .before .before .before .shared-slice-known2 .given 43518, b .room)))
+    (λ c κs.
+    let at-if2 = c .before .before .before .before in
+    let at-wide = at-if2 .before in
+    let at-shared-slice-known2 = at-wide .before in
+    let start = at-shared-slice-known2 .before .before .before .before in
+    let b = start .pre .0 in
+    (omega (arith, b .before, b .room), omega (arith, at-if2 .if2 .left, at-wide .wide .ensures, at-shared-slice-known2 .shared-slice-known2 .given 43518, b .room)))
     returns-4)

@@ -14,4 +14,9 @@ keep-spec =
     (λ c κs. search needs)
     (λ c κs. search needs)
     (λ c. search needs)
-    (λ c. stored-anew (c .before .before .before .before .before .before .before .before .before .before .before .before .before .before .args .p) (c .before .before .before .before .before .before .before .before .before .before .before .store .ensures .only) (c .before .before .before .before .before .before .clear .ensures) (c .before .before .store2 .ensures)))
+    (λ c.
+    let at-store2 = c .before .before in
+    let at-clear = at-store2 .before .before .before .before in
+    let at-store = at-clear .before .before .before .before .before in
+    let start = at-store .before .before .before in
+    stored-anew (start .args .p) (at-store .store .ensures .only) (at-clear .clear .ensures) (at-store2 .store2 .ensures)))

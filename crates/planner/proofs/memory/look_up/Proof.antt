@@ -15,11 +15,25 @@ look-up-spec =
     (λ c. search needs)
     (λ c. search needs)
     (λ c κs. search needs)
-    (λ c κs. (c .before .before .before .before .before .before .before .pre, omega (arith, c .before .wide .ensures, c .before .before .slice-known2 .given (43520 + c .before .before .before .hash .result))))
+    (λ c κs.
+    let at-slice-known2 = c .before .before in
+    let at-hash = at-slice-known2 .before in
+    let start = at-hash .before .before .before .before in
+    (start .pre, omega (arith, c .before .wide .ensures, at-slice-known2 .slice-known2 .given (43520 + at-hash .hash .result))))
     (λ c. search needs)
-    (λ c. stored-known (c .before .before .before .before .before .before .before .before .before .args .p) (omega (arith, c .before .before .before .wide .ensures, c .before .before .before .before .slice-known2 .given (43520 + c .before .before .before .before .before .hash .result))) (c .before .goes-by .ensures (c .if1 .taken)))
+    (λ c.
+    let at-wide = c .before .before .before in
+    let at-slice-known2 = at-wide .before in
+    let at-hash = at-slice-known2 .before in
+    let start = at-hash .before .before .before .before in
+    stored-known (start .args .p) (omega (arith, at-wide .wide .ensures, at-slice-known2 .slice-known2 .given (43520 + at-hash .hash .result))) (c .before .goes-by .ensures (c .if1 .taken)))
     (λ c κs. search needs)
     (λ c. search needs)
     (λ c. search needs)
     (λ c. search needs)
-    (λ c. let k = c .before .before .keep in stored-hashed (c .before .before .before .before .before .before .before .before .before .before .before .before .before .args .p) (k .result) (before-now (c .before .before .before .before .before .before .before .before .before .before .before .before .before .args .p) (k .kept .0) (c .before .before .before .before .before .before .before .before .before .before .before .before .before .pre)) (k .ensures) (omega arith) (omega (arith, c .before .before .before .before .before .before .before .before .before .hash .ensures))))
+    (λ c.
+    let at-keep = c .before .before in
+    let at-hash = at-keep .before .before .before .before .before .before .before in
+    let start = at-hash .before .before .before .before in
+    let k = at-keep .keep in
+    stored-hashed (start .args .p) (k .result) (before-now (start .args .p) (k .kept .0) (start .pre)) (k .ensures) (omega arith) (omega (arith, at-hash .hash .ensures))))

@@ -12,14 +12,30 @@ pub name-anew-spec : {M : Type 1} → statement M
 name-anew-spec =
     tie.close
     (tie.spec
-    (λ c κs. let b = c .before .before .pre in (omega (arith, b .before, b .room), b .narrow))
-    (λ c κs. let a = c .before .before .before .before .args in subst (Before (a .p) (a .work .now)) (sym (c .before .table-in .ensures)) (c .before .before .before .before .pre))
-    (λ c. search needs)
-    (λ c. omega (arith, c .before .before .before .before .before .before .before .pre .before))
-    (λ c. omega (arith, c .before .before .before .before .before .before .before .pre .before))
-    (λ c. omega (arith, c .before .before .before .before .before .before .before .pre .before, c .before .before .before .before .before .before .before .pre .room, c .before .before .look-up .kept .0))
+    (λ c κs.
+    let start = c .before .before in
+    let b = start .pre in
+    (omega (arith, b .before, b .room), b .narrow))
+    (λ c κs.
+    let start = c .before .before .before .before in
+    let a = start .args in
+    subst (Before (a .p) (a .work .now)) (sym (c .before .table-in .ensures)) (start .pre))
     (λ c. search needs)
     (λ c.
-    let a = c .before .before .before .before .before .before .before .args in
-    let k = c .before .before .look-up in
-    naming-new (a .p) (k .kept .0) (c .before .before .before .before .before .before .before .pre) (subst (λ (t : Table). Stored (a .p) t (a .work .now) (k .last .0) (k .result)) (c .before .before .before .before .table-in .ensures) (k .ensures))))
+    let start = c .before .before .before .before .before .before .before in
+    omega (arith, start .pre .before))
+    (λ c.
+    let start = c .before .before .before .before .before .before .before in
+    omega (arith, start .pre .before))
+    (λ c.
+    let at-look-up = c .before .before in
+    let start = at-look-up .before .before .before .before .before in
+    omega (arith, start .pre .before, start .pre .room, at-look-up .look-up .kept .0))
+    (λ c. search needs)
+    (λ c.
+    let at-look-up = c .before .before in
+    let at-table-in = at-look-up .before .before in
+    let start = at-table-in .before .before .before in
+    let a = start .args in
+    let k = at-look-up .look-up in
+    naming-new (a .p) (k .kept .0) (start .pre) (subst (λ (t : Table). Stored (a .p) t (a .work .now) (k .last .0) (k .result)) (at-table-in .table-in .ensures) (k .ensures))))

@@ -12,9 +12,17 @@ name-of-spec =
     (tie.spec
     (λ c. omega (arith, c .before .pre .before))
     (λ c. omega (arith, c .before .pre .before))
-    (λ c. omega (arith, c .before .before .pre .before, c .before .before .pre .room))
+    (λ c.
+    let start = c .before .before in
+    omega (arith, start .pre .before, start .pre .room))
     (λ c κs. search needs)
-    (λ c. naming-known (c .before .before .before .before .args .p) (c .before .before .before .before .pre) (omega (arith, c .before .wide .ensures, c .before .before .slice-known2 .given (43470 + (c .before .before .before .before .args .slot + 1) / 961))) (c .before .wide .ensures))
+    (λ c.
+    let at-wide = c .before in
+    let at-slice-known2 = at-wide .before in
+    let start = at-slice-known2 .before .before in
+    naming-known (start .args .p) (start .pre) (omega (arith, at-wide .wide .ensures, at-slice-known2 .slice-known2 .given (43470 + (start .args .slot + 1) / 961))) (at-wide .wide .ensures))
     (λ c κs. search needs)
     (λ c. search needs)
-    (λ c. c .before .before .name-anew .ensures))
+    (λ c.
+    let at-name-anew = c .before .before in
+    at-name-anew .name-anew .ensures))

@@ -16,18 +16,41 @@ store-spec =
     (λ c. search needs)
     (λ c κs. search needs)
     (λ c. omega (arith, c .wide .ensures, c .before .slice-known2 .given 43518))
-    (λ c. omega (arith, c .wide .ensures, c .before .slice-known2 .given 43518, table-size (c .before .before .before .before .args .p) (c .before .before .before .before .pre)))
-    (λ c. stored-none (c .before .before .before .before .before .args .p))
+    (λ c.
+    let start = c .before .before .before .before in
+    omega (arith, c .wide .ensures, c .before .slice-known2 .given 43518, table-size (start .args .p) (start .pre)))
+    (λ c.
+    let start = c .before .before .before .before .before in
+    stored-none (start .args .p))
     (λ c. search needs)
     (λ c. search needs)
     (λ c. search needs)
     (λ c. search needs)
     (λ c. search needs)
-    (λ c κs. let b = c .before .before .before .before .before .before .before .pre in let long = length-set (c .before .before .before .before .before .before .before .args .work .now) (45952 + 12 * c .before .before .before .wide .result) (c .before .before .before .before .before .before .before .args .t .nodes) in (omega (arith, b .before), omega (arith, b .before, b .room, long), omega (arith, b .room, long, c .before .before .if1 .left)))
+    (λ c κs.
+    let at-if1 = c .before .before in
+    let at-wide = at-if1 .before in
+    let start = at-wide .before .before .before .before in
+    let b = start .pre in
+    let long = length-set (start .args .work .now) (45952 + 12 * at-wide .wide .result) (start .args .t .nodes) in
+    (omega (arith, b .before), omega (arith, b .before, b .room, long), omega (arith, b .room, long, at-if1 .if1 .left)))
     (λ c. search needs)
     (λ c. search needs)
     (λ c. search needs)
-    (λ c. omega (arith, c .before .before .copy-part .kept .0, length-set (c .before .before .before .before .before .before .before .before .before .before .args .work .now) (45952 + 12 * c .before .before .before .before .before .before .wide .result) (c .before .before .before .before .before .before .before .before .before .before .args .t .nodes), c .before .before .before .before .before .before .before .before .before .before .pre .room))
+    (λ c.
+    let at-copy-part = c .before .before in
+    let at-wide = at-copy-part .before .before .before .before in
+    let start = at-wide .before .before .before .before in
+    omega (arith, at-copy-part .copy-part .kept .0, length-set (start .args .work .now) (45952 + 12 * at-wide .wide .result) (start .args .t .nodes), start .pre .room))
     (λ c. search needs)
-    (λ c. length-set (c .before .before .copy-part .last .0) 43518 (c .before .before .before .before .before .before .wide .result + c .before .before .before .before .before .before .before .before .before .before .args .t .nodes * c .before .before .before .before .before .before .before .before .before .before .args .t .width / 12 + 1) ∙ c .before .before .copy-part .kept .0 ∙ length-set (c .before .before .before .before .before .before .before .before .before .before .args .work .now) (45952 + 12 * c .before .before .before .before .before .before .wide .result) (c .before .before .before .before .before .before .before .before .before .before .args .t .nodes))
-    (λ c. stored-new (c .before .before .before .before .before .before .before .before .before .before .args .p) (c .before .before .before .before .before .before .before .before .before .before .pre) (c .before .before .before .before .before .before .wide .ensures) (omega (arith, c .before .before .before .before .before .if1 .left)) (c .before .before .copy-part .ensures) refl (c .before .before .copy-part .kept .0 ∙ length-set (c .before .before .before .before .before .before .before .before .before .before .args .work .now) (45952 + 12 * c .before .before .before .before .before .before .wide .result) (c .before .before .before .before .before .before .before .before .before .before .args .t .nodes))))
+    (λ c.
+    let at-copy-part = c .before .before in
+    let at-wide = at-copy-part .before .before .before .before in
+    let start = at-wide .before .before .before .before in
+    length-set (at-copy-part .copy-part .last .0) 43518 (at-wide .wide .result + start .args .t .nodes * start .args .t .width / 12 + 1) ∙ at-copy-part .copy-part .kept .0 ∙ length-set (start .args .work .now) (45952 + 12 * at-wide .wide .result) (start .args .t .nodes))
+    (λ c.
+    let at-copy-part = c .before .before in
+    let at-if1 = at-copy-part .before .before .before in
+    let at-wide = at-if1 .before in
+    let start = at-wide .before .before .before .before in
+    stored-new (start .args .p) (start .pre) (at-wide .wide .ensures) (omega (arith, at-if1 .if1 .left)) (at-copy-part .copy-part .ensures) refl (at-copy-part .copy-part .kept .0 ∙ length-set (start .args .work .now) (45952 + 12 * at-wide .wide .result) (start .args .t .nodes))))

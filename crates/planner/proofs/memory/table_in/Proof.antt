@@ -13,4 +13,7 @@ table-in-spec =
     (λ c. search needs)
     (λ c κs. search needs)
     (λ c. search needs)
-    (λ c. let a = c .before .before .before .before .args in ap (counted (a .p) (a .slot)) (sym (c .before .wide .ensures))))
+    (λ c.
+    let start = c .before .before .before .before in
+    let a = start .args in
+    ap (counted (a .p) (a .slot)) (sym (c .before .wide .ensures))))

@@ -95,31 +95,47 @@ abbrev completes-calls : ℕ → completes-lts.Claims
 completes-calls t = (ends-reads.Asked, ends-reads.Learnt, repeats-reads.Asked, repeats-reads.Learnt, recall-reads.Asked, recall-reads.Learnt, completes-after-below t, completes-after.Post, remember-reads.Asked, remember-reads.Learnt)
 
 completes-ends-requires : (t : ℕ) → completes-lts.Need-ends-requires (completes-calls t) (completes-at t) completes.Post
-completes-ends-requires t c κs = let P = c .before .before .before .before .before .before .pre .1 in let (th, (T, (y, mem, trail))) = P .0 in ((th, (T, y)), omega (arith, P .3))
+completes-ends-requires t c κs =
+    let start = c .before .before .before .before .before .before in
+    let P = start .pre .1 in
+    let (th, (T, (y, mem, trail))) = P .0 in
+    ((th, (T, y)), omega (arith, P .3))
 
 completes-same-length : (t : ℕ) → completes-lts.Need-same-length (completes-calls t) (completes-at t) completes.Post
 completes-same-length t c = search needs
 
 completes-returns : (t : ℕ) → completes-lts.Need-returns (completes-calls t) (completes-at t) completes.Post
-completes-returns t c = let a = c .before .before .before .before .before .before .before .args in
-    let none : 0 ≡ a .left = omega (arith, c .before .before .if1 .taken) in
+completes-returns t c =
+    let at-if1 = c .before .before in
+    let start = at-if1 .before .before .before .before .before in
+    let a = start .args in
+    let none : 0 ≡ a .left = omega (arith, at-if1 .if1 .taken) in
     λ th T y mem trail.
     let e = c .ends .ensures th T y in
     best-same none (best-end th (a .k .0) (a .e .0) (a .base) (meaning (a .p .characters) T 0) (a .list .now) (a .work .now) mem (e .0) (e .1))
 
 completes-repeats-requires : (t : ℕ) → completes-lts.Need-repeats-requires (completes-calls t) (completes-at t) completes.Post
-completes-repeats-requires t c κs = let P = c .before .before .before .before .before .before .pre .1 in let (th, (T, (y, mem, trail))) = P .0 in (stage-before y (omega (arith, P .3)), P .5, trail .written)
+completes-repeats-requires t c κs =
+    let start = c .before .before .before .before .before .before in
+    let P = start .pre .1 in
+    let (th, (T, (y, mem, trail))) = P .0 in
+    (stage-before y (omega (arith, P .3)), P .5, trail .written)
 
 completes-same-length-2 : (t : ℕ) → completes-lts.Need-same-length-2 (completes-calls t) (completes-at t) completes.Post
 completes-same-length-2 t c = search needs
 
 completes-returns-2 : (t : ℕ) → completes-lts.Need-returns-2 (completes-calls t) (completes-at t) completes.Post
-completes-returns-2 t c = let a = c .before .before .before .before .before .before .before .before .args in
+completes-returns-2 t c =
+    let start = c .before .before .before .before .before .before .before .before in
+    let a = start .args in
     let again = c .before .repeats .ensures .0 (c .if2 .taken) in
     λ th T y mem trail. best-none _ (λ q l. refl) (λ q l. refl) mem (trail-repeats th (a .k .0) (a .e .0) (a .base) (meaning (a .p .characters) T 0) (a .slot) trail (stage-state y 0) again)
 
 completes-recall-requires : (t : ℕ) → completes-lts.Need-recall-requires (completes-calls t) (completes-at t) completes.Post
-completes-recall-requires t c κs = let P = c .before .before .before .before .before .before .before .before .before .pre .1 in
+completes-recall-requires t c κs =
+    let at-if1 = c .before .before .before .before in
+    let start = at-if1 .before .before .before .before .before in
+    let P = start .pre .1 in
     let (th, (T, (y, mem, trail))) = P .0 in
     stage-before y (omega (arith, P .3))
 
@@ -127,65 +143,105 @@ completes-same-length-3 : (t : ℕ) → completes-lts.Need-same-length-3 (comple
 completes-same-length-3 t c = search needs
 
 completes-returns-3 : (t : ℕ) → completes-lts.Need-returns-3 (completes-calls t) (completes-at t) completes.Post
-completes-returns-3 t c = let P = c .before .before .before .before .before .before .before .before .before .before .before .before .before .pre .1 in
-    let a = c .before .before .before .before .before .before .before .before .before .before .before .before .before .args in
-    let r = c .before .before .before .recall in
+completes-returns-3 t c =
+    let at-recall = c .before .before .before in
+    let at-if1 = at-recall .before .before .before .before .before in
+    let start = at-if1 .before .before .before .before .before in
+    let P = start .pre .1 in
+    let a = start .args in
+    let r = at-recall .recall in
     λ th T y mem trail.
     let (m, fact) = r .ensures .told th (a .k .0) (a .slot + 961) (omega (arith, P .3)) (y .slotted) mem in
     best-none _ (λ q l. r .ensures .only .low q (omega (arith, l, P .3))) (r .ensures .only .high) m (known y fact .none (c .if3 .taken))
 
 completes-sub-completes-after : (t : ℕ) → completes-lts.Need-sub-completes-after (completes-calls t) (completes-at t) completes.Post
-completes-sub-completes-after t c = omega (arith, c .before .before .before .before .before .before .before .before .before .before .if1 .left)
+completes-sub-completes-after t c =
+    let at-repeats = c .before .before .before .before .before .before .before .before in
+    let at-if1 = at-repeats .before .before in
+    omega (arith, at-if1 .if1 .left)
 
 completes-completes-after-requires : (t : ℕ) → completes-lts.Need-completes-after-requires (completes-calls t) (completes-at t) completes.Post
-completes-completes-after-requires t c κs = let (m, P) = c .before .before .before .before .before .before .before .before .before .before .before .before .before .before .before .pre in
-    let a = c .before .before .before .before .before .before .before .before .before .before .before .before .before .before .before .args in
+completes-completes-after-requires t c κs =
+    let at-recall = c .before .before .before .before .before in
+    let at-if1 = at-recall .before .before .before .before .before in
+    let start = at-if1 .before .before .before .before .before in
+    let (m, P) = start .pre in
+    let a = start .args in
     let (th, (T, (y, mem, trail))) = P .0 in
-    let r = c .before .before .before .before .before .recall in
-    let up : a .left ≡ suc (a .left - 1) = omega (arith, c .before .before .before .before .before .before .before .before .before .before .if1 .left) in
-    (omega (arith, m, c .before .before .before .before .before .before .before .before .before .before .if1 .left), ((th, (T, ((slot-same (a .slot) y (λ q l. r .ensures .only .low q (omega (arith, l, P .3))) (r .kept .0)), (r .ensures .told th (a .k .0) (a .slot + 961) (omega (arith, P .3)) (y .slotted) mem .0), (trail-same th (a .k .0) (a .e .0) (a .base) (meaning (a .p .characters) T 0) (λ q l. r .ensures .only .low q (omega (arith, l, P .3, P .5))) (subst (λ (n : ℕ). Trail th (a .k .0) (a .e .0) (a .base) (a .p) (a .work .now) (a .done) n (meaning (a .p .characters) T 0)) up trail))))), P .1, P .2, omega (arith, P .3, c .before .before .before .before .before .before .before .before .before .before .if1 .left), omega (arith, P .4, c .before .before .before .before .before .before .before .before .before .before .if1 .left), P .5))
+    let r = at-recall .recall in
+    let up : a .left ≡ suc (a .left - 1) = omega (arith, at-if1 .if1 .left) in
+    (omega (arith, m, at-if1 .if1 .left), ((th, (T, ((slot-same (a .slot) y (λ q l. r .ensures .only .low q (omega (arith, l, P .3))) (r .kept .0)), (r .ensures .told th (a .k .0) (a .slot + 961) (omega (arith, P .3)) (y .slotted) mem .0), (trail-same th (a .k .0) (a .e .0) (a .base) (meaning (a .p .characters) T 0) (λ q l. r .ensures .only .low q (omega (arith, l, P .3, P .5))) (subst (λ (n : ℕ). Trail th (a .k .0) (a .e .0) (a .base) (a .p) (a .work .now) (a .done) n (meaning (a .p .characters) T 0)) up trail))))), P .1, P .2, omega (arith, P .3, at-if1 .if1 .left), omega (arith, P .4, at-if1 .if1 .left), P .5))
 
 completes-remember-requires : (t : ℕ) → completes-lts.Need-remember-requires (completes-calls t) (completes-at t) completes.Post
-completes-remember-requires t c κs = let P = c .before .before .before .before .before .before .before .before .before .before .before .before .before .before .before .before .before .before .before .before .before .before .pre .1 in
-    let a = c .before .before .before .before .before .before .before .before .before .before .before .before .before .before .before .before .before .before .before .before .before .before .args in
+completes-remember-requires t c κs =
+    let at-completes-after = c .before .before .before .before .before .before in
+    let at-recall = at-completes-after .before .before .before .before .before .before in
+    let at-if1 = at-recall .before .before .before .before .before in
+    let start = at-if1 .before .before .before .before .before in
+    let P = start .pre .1 in
+    let a = start .args in
     let (th, (T, (y, mem, trail))) = P .0 in
-    let r = c .before .before .before .before .before .before .before .before .before .before .before .before .recall in
-    let up : a .left ≡ suc (a .left - 1) = omega (arith, c .before .before .before .before .before .before .before .before .before .before .before .before .before .before .before .before .before .if1 .left) in
-    let d = c .before .before .before .before .before .before .completes-after in
+    let r = at-recall .recall in
+    let up : a .left ≡ suc (a .left - 1) = omega (arith, at-if1 .if1 .left) in
+    let d = at-completes-after .completes-after in
     let b = d .ensures th T (slot-same (a .slot) y (λ q l. r .ensures .only .low q (omega (arith, l, P .3))) (r .kept .0)) (r .ensures .told th (a .k .0) (a .slot + 961) (omega (arith, P .3)) (y .slotted) mem .0) (trail-same th (a .k .0) (a .e .0) (a .base) (meaning (a .p .characters) T 0) (λ q l. r .ensures .only .low q (omega (arith, l, P .3, P .5))) (subst (λ (n : ℕ). Trail th (a .k .0) (a .e .0) (a .base) (a .p) (a .work .now) (a .done) n (meaning (a .p .characters) T 0)) up trail)) in
     stage-before (slot-same (a .slot) (slot-same {now = r .last .0} (a .slot) y (λ q l. r .ensures .only .low q (omega (arith, l, P .3))) (r .kept .0)) (b .low) (d .kept .1 .1 .1 .0)) (omega (arith, P .3))
 
 completes-same-length-4 : (t : ℕ) → completes-lts.Need-same-length-4 (completes-calls t) (completes-at t) completes.Post
-completes-same-length-4 t c = c .before .before .remember .kept .0 ∙ c .before .before .before .before .before .before .before .before .before .completes-after .kept .1 .1 .1 .0 ∙ c .before .before .before .before .before .before .before .before .before .before .before .before .before .before .before .recall .kept .0
+completes-same-length-4 t c =
+    let at-remember = c .before .before in
+    let at-completes-after = at-remember .before .before .before .before .before .before .before in
+    let at-recall = at-completes-after .before .before .before .before .before .before in
+    at-remember .remember .kept .0 ∙ at-completes-after .completes-after .kept .1 .1 .1 .0 ∙ at-recall .recall .kept .0
 
 completes-same-length-5 : (t : ℕ) → completes-lts.Need-same-length-5 (completes-calls t) (completes-at t) completes.Post
-completes-same-length-5 t c = c .before .before .before .before .before .before .before .before .before .completes-after .kept .1 .1 .1 .1 .1 .0
+completes-same-length-5 t c =
+    let at-if4 = c .before .before .before .before in
+    let at-completes-after = at-if4 .before .before .before .before .before in
+    at-completes-after .completes-after .kept .1 .1 .1 .1 .1 .0
 
 completes-returns-4 : (t : ℕ) → completes-lts.Need-returns-4 (completes-calls t) (completes-at t) completes.Post
-completes-returns-4 t c = let P = c .before .before .before .before .before .before .before .before .before .before .before .before .before .before .before .before .before .before .before .before .before .before .before .before .before .pre .1 in
-    let a = c .before .before .before .before .before .before .before .before .before .before .before .before .before .before .before .before .before .before .before .before .before .before .before .before .before .args in
-    let r = c .before .before .before .before .before .before .before .before .before .before .before .before .before .before .before .recall in
-    let d = c .before .before .before .before .before .before .before .before .before .completes-after in
-    let rem = c .before .before .remember .ensures in
-    let zero : d .result ≡ 0 = omega (arith, c .before .before .before .before .if4 .taken) in
-    let up : a .left ≡ suc (a .left - 1) = omega (arith, c .before .before .before .before .before .before .before .before .before .before .before .before .before .before .before .before .before .before .before .before .if1 .left) in
+completes-returns-4 t c =
+    let at-remember = c .before .before in
+    let at-if4 = at-remember .before .before in
+    let at-completes-after = at-if4 .before .before .before .before .before in
+    let at-recall = at-completes-after .before .before .before .before .before .before in
+    let at-if1 = at-recall .before .before .before .before .before in
+    let start = at-if1 .before .before .before .before .before in
+    let P = start .pre .1 in
+    let a = start .args in
+    let r = at-recall .recall in
+    let d = at-completes-after .completes-after in
+    let rem = at-remember .remember .ensures in
+    let zero : d .result ≡ 0 = omega (arith, at-if4 .if4 .taken) in
+    let up : a .left ≡ suc (a .left - 1) = omega (arith, at-if1 .if1 .left) in
     λ th T y mem trail.
     let b = best-from (λ q l. r .ensures .only .low q (omega (arith, l, P .3))) (r .ensures .only .high) (best-same (sym up) (d .ensures th T (slot-same (a .slot) y (λ q l. r .ensures .only .low q (omega (arith, l, P .3))) (r .kept .0)) (r .ensures .told th (a .k .0) (a .slot + 961) (omega (arith, P .3)) (y .slotted) mem .0) (trail-same th (a .k .0) (a .e .0) (a .base) (meaning (a .p .characters) T 0) (λ q l. r .ensures .only .low q (omega (arith, l, P .3, P .5))) (subst (λ (n : ℕ). Trail th (a .k .0) (a .e .0) (a .base) (a .p) (a .work .now) (a .done) n (meaning (a .p .characters) T 0)) up trail)))) in
     let z′ = slot-same (a .slot) (slot-same {now = r .last .0} (a .slot) y (λ q l. r .ensures .only .low q (omega (arith, l, P .3))) (r .kept .0)) (d .ensures th T (slot-same (a .slot) y (λ q l. r .ensures .only .low q (omega (arith, l, P .3))) (r .kept .0)) (r .ensures .told th (a .k .0) (a .slot + 961) (omega (arith, P .3)) (y .slotted) mem .0) (trail-same th (a .k .0) (a .e .0) (a .base) (meaning (a .p .characters) T 0) (λ q l. r .ensures .only .low q (omega (arith, l, P .3, P .5))) (subst (λ (n : ℕ). Trail th (a .k .0) (a .e .0) (a .base) (a .p) (a .work .now) (a .done) n (meaning (a .p .characters) T 0)) up trail)) .low) (d .kept .1 .1 .1 .0) in
     best-noted b (omega (arith, P .3)) (rem .only .low) (rem .only .high) (rem .memory th (a .k .0) (a .slot + 961) (omega (arith, P .3)) (z′ .slotted) (b .memory) (note z′ (fact-of-none th (a .k .0) (a .e .0) (a .base) (λ (root : ℕ). meaning (a .p .characters) T root) (b .none zero .1))))
 
 completes-same-length-6 : (t : ℕ) → completes-lts.Need-same-length-6 (completes-calls t) (completes-at t) completes.Post
-completes-same-length-6 t c = c .before .before .before .before .before .completes-after .kept .1 .1 .1 .0 ∙ c .before .before .before .before .before .before .before .before .before .before .before .recall .kept .0
+completes-same-length-6 t c =
+    let at-completes-after = c .before .before .before .before .before in
+    let at-recall = at-completes-after .before .before .before .before .before .before in
+    at-completes-after .completes-after .kept .1 .1 .1 .0 ∙ at-recall .recall .kept .0
 
 completes-same-length-7 : (t : ℕ) → completes-lts.Need-same-length-7 (completes-calls t) (completes-at t) completes.Post
-completes-same-length-7 t c = c .before .before .before .before .before .completes-after .kept .1 .1 .1 .1 .1 .0
+completes-same-length-7 t c =
+    let at-completes-after = c .before .before .before .before .before in
+    at-completes-after .completes-after .kept .1 .1 .1 .1 .1 .0
 
 completes-returns-5 : (t : ℕ) → completes-lts.Need-returns-5 (completes-calls t) (completes-at t) completes.Post
-completes-returns-5 t c = let P = c .before .before .before .before .before .before .before .before .before .before .before .before .before .before .before .before .before .before .before .before .before .pre .1 in
-    let a = c .before .before .before .before .before .before .before .before .before .before .before .before .before .before .before .before .before .before .before .before .before .args in
-    let r = c .before .before .before .before .before .before .before .before .before .before .before .recall in
-    let d = c .before .before .before .before .before .completes-after in
-    let up : a .left ≡ suc (a .left - 1) = omega (arith, c .before .before .before .before .before .before .before .before .before .before .before .before .before .before .before .before .if1 .left) in
+completes-returns-5 t c =
+    let at-completes-after = c .before .before .before .before .before in
+    let at-recall = at-completes-after .before .before .before .before .before .before in
+    let at-if1 = at-recall .before .before .before .before .before in
+    let start = at-if1 .before .before .before .before .before in
+    let P = start .pre .1 in
+    let a = start .args in
+    let r = at-recall .recall in
+    let d = at-completes-after .completes-after in
+    let up : a .left ≡ suc (a .left - 1) = omega (arith, at-if1 .if1 .left) in
     λ th T y mem trail.
     best-from (λ q l. r .ensures .only .low q (omega (arith, l, P .3))) (r .ensures .only .high) (best-same (sym up) (d .ensures th T (slot-same (a .slot) y (λ q l. r .ensures .only .low q (omega (arith, l, P .3))) (r .kept .0)) (r .ensures .told th (a .k .0) (a .slot + 961) (omega (arith, P .3)) (y .slotted) mem .0) (trail-same th (a .k .0) (a .e .0) (a .base) (meaning (a .p .characters) T 0) (λ q l. r .ensures .only .low q (omega (arith, l, P .3, P .5))) (subst (λ (n : ℕ). Trail th (a .k .0) (a .e .0) (a .base) (a .p) (a .work .now) (a .done) n (meaning (a .p .characters) T 0)) up trail))))
 
@@ -197,13 +253,17 @@ abbrev completes-after-μ-loop : completes-after-lts.MeasureT-loop
 completes-after-μ-loop pack places p work₀ slot list₀ done k e left base actions x₀ work list x = p .actions - x
 
 completes-after-next-promising-requires : (t : ℕ) → completes-after-lts.Need-next-promising-requires (completes-after-calls t) (completes-after-at t) completes-after.Post completes-after-Inv-loop completes-after-μ-loop
-completes-after-next-promising-requires t c κs = let P = c .before .before .before .before .before .pre .1 in
+completes-after-next-promising-requires t c κs =
+    let start = c .before .before .before .before .before in
+    let P = start .pre .1 in
     let (th, (T, (y, mem, trail))) = P .0 in
     (stage-trying y (omega (arith, P .3)) (omega arith), omega arith)
 
 completes-after-loop-holds : (t : ℕ) → completes-after-lts.Need-loop-holds (completes-after-calls t) (completes-after-at t) completes-after.Post completes-after-Inv-loop completes-after-μ-loop
-completes-after-loop-holds t c = let P = c .before .before .before .before .before .before .pre .1 in
-    let a = c .before .before .before .before .before .before .args in
+completes-after-loop-holds t c =
+    let start = c .before .before .before .before .before .before in
+    let P = start .pre .1 in
+    let a = start .args in
     (refl, refl, λ q l. refl, λ q l. refl, λ th T y mem trail. (mem, λ j l. best-hopeless th (a .k .0) (a .e .0) (a .base) (meaning (a .p .characters) T 0) j (stage-skipped y (omega (arith, P .3)) (c .next-promising .ensures) j (omega arith) l)))
 
 completes-after-completes-by-requires : (t : ℕ) → completes-after-lts.Need-completes-by-requires (completes-after-calls t) (completes-after-at t) completes-after.Post completes-after-Inv-loop completes-after-μ-loop
@@ -214,42 +274,70 @@ completes-after-completes-by-requires t c κs = let (m, P) = c .before .before .
     (omega (arith, m), ((th, (T, (slot-same (a .slot) y low long, rest th T y mem trail .0, trail-same th (a .k .0) (a .e .0) (a .base) (meaning (a .p .characters) T 0) (λ q l. low q (omega (arith, l, P .5))) trail))), c .before .before .loop-test .taken, P .1, P .2, omega (arith, P .3), omega (arith, P .4, ap length same), P .5))
 
 completes-after-same-length : (t : ℕ) → completes-after-lts.Need-same-length (completes-after-calls t) (completes-after-at t) completes-after.Post completes-after-Inv-loop completes-after-μ-loop
-completes-after-same-length t c = c .before .before .before .before .before .completes-by .kept .1 .1 .1 .0 ∙ c .before .before .before .before .before .before .before .before .before .loop .inv .0
+completes-after-same-length t c =
+    let at-completes-by = c .before .before .before .before .before in
+    let at-loop = at-completes-by .before .before .before .before in
+    at-completes-by .completes-by .kept .1 .1 .1 .0 ∙ at-loop .loop .inv .0
 
 completes-after-same-length-2 : (t : ℕ) → completes-after-lts.Need-same-length-2 (completes-after-calls t) (completes-after-at t) completes-after.Post completes-after-Inv-loop completes-after-μ-loop
-completes-after-same-length-2 t c = c .before .before .before .before .before .completes-by .kept .1 .1 .1 .1 .1 .0 ∙ ap length (c .before .before .before .before .before .before .before .before .before .loop .inv .1)
+completes-after-same-length-2 t c =
+    let at-completes-by = c .before .before .before .before .before in
+    let at-loop = at-completes-by .before .before .before .before in
+    at-completes-by .completes-by .kept .1 .1 .1 .1 .1 .0 ∙ ap length (at-loop .loop .inv .1)
 
 completes-after-returns : (t : ℕ) → completes-after-lts.Need-returns (completes-after-calls t) (completes-after-at t) completes-after.Post completes-after-Inv-loop completes-after-μ-loop
-completes-after-returns t c = let P = c .before .before .before .before .before .before .before .before .before .before .before .before .before .before .before .before .pre .1 in
-    let a = c .before .before .before .before .before .before .before .before .before .before .before .before .before .before .before .before .args in
-    let v = c .before .before .before .before .before .completes-by in
-    let (long, same, low, high, rest) = c .before .before .before .before .before .before .before .before .before .loop .inv in
+completes-after-returns t c =
+    let at-completes-by = c .before .before .before .before .before in
+    let at-loop = at-completes-by .before .before .before .before in
+    let start = at-loop .before .before .before .before .before .before .before in
+    let P = start .pre .1 in
+    let a = start .args in
+    let v = at-completes-by .completes-by in
+    let (long, same, low, high, rest) = at-loop .loop .inv in
     λ th T y mem trail.
     let s = meaning (a .p .characters) T 0 in
     let b = best-first th (a .k .0) (a .e .0) (a .base) s low high (rest th T y mem trail .1) (omega (arith, c .if1 .taken)) (v .ensures th T (slot-same (a .slot) y low long) (rest th T y mem trail .0) (trail-same th (a .k .0) (a .e .0) (a .base) s (λ q l. low q (omega (arith, l, P .5))) trail)) in
     subst (λ (was : List ℕ). Best (Memory th (a .k .0) (a .p) (a .slot + 961)) (Ends th (a .k .0) (a .e .0) (a .base) s) (suc (a .left)) was (v .last .1 .1 .1 .1 .1 .0) (a .done) (a .slot + 961) (a .work .now) (v .last .1 .1 .1 .0) (v .result)) same b
 
 completes-after-add-next-promising : (t : ℕ) → completes-after-lts.Need-add-next-promising (completes-after-calls t) (completes-after-at t) completes-after.Post completes-after-Inv-loop completes-after-μ-loop
-completes-after-add-next-promising t c = let (th, (T, (y, mem, trail))) = c .before .before .before .before .before .before .before .before .before .before .before .before .before .before .before .before .before .pre .1 .0 in omega (arith, c .before .before .before .before .before .before .before .before .before .loop-test .taken, y .theorized .found .mostActions)
+completes-after-add-next-promising t c =
+    let at-completes-by = c .before .before .before .before .before .before in
+    let turn = at-completes-by .before .before .before in
+    let start = turn .before .before .before .before .before .before .before .before in
+    let (th, (T, (y, mem, trail))) = start .pre .1 .0 in
+    omega (arith, turn .loop-test .taken, y .theorized .found .mostActions)
 
 completes-after-next-promising-requires-2 : (t : ℕ) → completes-after-lts.Need-next-promising-requires-2 (completes-after-calls t) (completes-after-at t) completes-after.Post completes-after-Inv-loop completes-after-μ-loop
-completes-after-next-promising-requires-2 t c κs = let P = c .before .before .before .before .before .before .before .before .before .before .before .before .before .before .before .before .before .pre .1 in
-    let a = c .before .before .before .before .before .before .before .before .before .before .before .before .before .before .before .before .before .args in
-    let v = c .before .before .before .before .before .before .completes-by in
-    let (long, same, low, high, rest) = c .before .before .before .before .before .before .before .before .before .before .loop .inv in
+completes-after-next-promising-requires-2 t c κs =
+    let at-completes-by = c .before .before .before .before .before .before in
+    let turn = at-completes-by .before .before .before in
+    let at-loop = turn .before in
+    let start = at-loop .before .before .before .before .before .before .before in
+    let P = start .pre .1 in
+    let a = start .args in
+    let v = at-completes-by .completes-by in
+    let (long, same, low, high, rest) = at-loop .loop .inv in
     let (th, (T, (y, mem, trail))) = P .0 in
     let b = v .ensures th T (slot-same (a .slot) y low long) (rest th T y mem trail .0) (trail-same th (a .k .0) (a .e .0) (a .base) (meaning (a .p .characters) T 0) (λ q l. low q (omega (arith, l, P .5))) trail) in
-    (stage-trying (slot-same (a .slot) y (λ q l. b .low q l ∙ low q l) (v .kept .1 .1 .1 .0 ∙ long)) (omega (arith, P .3)) (omega arith), omega (arith, c .before .before .before .before .before .before .before .before .before .loop-test .taken))
+    (stage-trying (slot-same (a .slot) y (λ q l. b .low q l ∙ low q l) (v .kept .1 .1 .1 .0 ∙ long)) (omega (arith, P .3)) (omega arith), omega (arith, turn .loop-test .taken))
 
 completes-after-loop-less : (t : ℕ) → completes-after-lts.Need-loop-less (completes-after-calls t) (completes-after-at t) completes-after.Post completes-after-Inv-loop completes-after-μ-loop
-completes-after-loop-less t c = omega (arith, c .next-promising2 .ensures .from, c .before .before .before .before .before .before .before .before .before .before .loop-test .taken)
+completes-after-loop-less t c =
+    let at-completes-by = c .before .before .before .before .before .before .before in
+    let turn = at-completes-by .before .before .before in
+    omega (arith, c .next-promising2 .ensures .from, turn .loop-test .taken)
 
 completes-after-loop-again : (t : ℕ) → completes-after-lts.Need-loop-again (completes-after-calls t) (completes-after-at t) completes-after.Post completes-after-Inv-loop completes-after-μ-loop
-completes-after-loop-again t c = let P = c .before .before .before .before .before .before .before .before .before .before .before .before .before .before .before .before .before .before .pre .1 in
-    let a = c .before .before .before .before .before .before .before .before .before .before .before .before .before .before .before .before .before .before .args in
-    let v = c .before .before .before .before .before .before .before .completes-by in
-    let (long, same, low, high, rest) = c .before .before .before .before .before .before .before .before .before .before .before .loop .inv in
-    let zero : v .result ≡ 0 = omega (arith, c .before .before .if1 .left) in
+completes-after-loop-again t c =
+    let at-if1 = c .before .before in
+    let at-completes-by = at-if1 .before .before .before .before .before in
+    let at-loop = at-completes-by .before .before .before .before in
+    let start = at-loop .before .before .before .before .before .before .before in
+    let P = start .pre .1 in
+    let a = start .args in
+    let v = at-completes-by .completes-by in
+    let (long, same, low, high, rest) = at-loop .loop .inv in
+    let zero : v .result ≡ 0 = omega (arith, at-if1 .if1 .left) in
     let (th, (T, (y, mem, trail))) = P .0 in
     let b = v .ensures th T (slot-same (a .slot) y low long) (rest th T y mem trail .0) (trail-same th (a .k .0) (a .e .0) (a .base) (meaning (a .p .characters) T 0) (λ q l. low q (omega (arith, l, P .5))) trail) in (
       v .kept .1 .1 .1 .0 ∙ long,
@@ -261,7 +349,7 @@ completes-after-loop-again t c = let P = c .before .before .before .before .befo
           let z = slot-same (a .slot) y (λ q l. b .low q l ∙ low q l) (v .kept .1 .1 .1 .0 ∙ long) in (
             b .memory,
             below-far (λ x. (l : List ℕ) (w : ℕ) → length l ≡ suc (a .left) → ¬ EndsBy th (a .k .0) (a .e .0) (a .base) x (meaning (a .p .characters) T 0) l w)
-                (below-more (λ x. (l : List ℕ) (w : ℕ) → length l ≡ suc (a .left) → ¬ EndsBy th (a .k .0) (a .e .0) (a .base) x (meaning (a .p .characters) T 0) l w) (c .before .before .before .before .before .before .before .before .before .before .before .loop .x) (rest th T y mem trail .1) (b .none zero .1))
+                (below-more (λ x. (l : List ℕ) (w : ℕ) → length l ≡ suc (a .left) → ¬ EndsBy th (a .k .0) (a .e .0) (a .base) x (meaning (a .p .characters) T 0) l w) (at-loop .loop .x) (rest th T y mem trail .1) (b .none zero .1))
                 (λ j f l. best-hopeless th (a .k .0) (a .e .0) (a .base) (meaning (a .p .characters) T 0) j (stage-skipped z (omega (arith, P .3)) (c .next-promising2 .ensures) j f l)),
           ),
     )
@@ -273,16 +361,20 @@ completes-after-same-length-4 : (t : ℕ) → completes-after-lts.Need-same-leng
 completes-after-same-length-4 t c = ap length (c .before .loop .inv .1)
 
 completes-after-returns-2 : (t : ℕ) → completes-after-lts.Need-returns-2 (completes-after-calls t) (completes-after-at t) completes-after.Post completes-after-Inv-loop completes-after-μ-loop
-completes-after-returns-2 t c = let a = c .before .before .before .before .before .before .before .before .args in
-    let (long, same, low, high, rest) = c .before .loop .inv in
+completes-after-returns-2 t c =
+    let at-loop = c .before in
+    let start = at-loop .before .before .before .before .before .before .before in
+    let a = start .args in
+    let (long, same, low, high, rest) = at-loop .loop .inv in
     λ th T y mem trail.
     let s = meaning (a .p .characters) T 0 in
-    subst (λ (now : List ℕ). Best (Memory th (a .k .0) (a .p) (a .slot + 961)) (Ends th (a .k .0) (a .e .0) (a .base) s) (suc (a .left)) (a .list .now) now (a .done) (a .slot + 961) (a .work .now) (c .before .loop .work) 0) (sym same)
+    subst (λ (now : List ℕ). Best (Memory th (a .k .0) (a .p) (a .slot + 961)) (Ends th (a .k .0) (a .e .0) (a .base) s) (suc (a .left)) (a .list .now) now (a .done) (a .slot + 961) (a .work .now) (at-loop .loop .work) 0) (sym same)
     (best-none (a .list .now) low high (rest th T y mem trail .0) (best-no th (a .k .0) (a .e .0) (a .base) s (λ x g. rest th T y mem trail .1 x (omega (arith, g, y .theorized .found .actions, c .loop-test .left)))))
 
 completes-by-allowed-requires : (t : ℕ) → completes-by-lts.Need-allowed-requires (completes-by-calls t) (completes-by-at t) completes-by.Post
 completes-by-allowed-requires t c κs =
-    let P = c .before .before .before .before .before .pre .1 in
+    let start = c .before .before .before .before .before in
+    let P = start .pre .1 in
     let (th, (T, (y, mem, trail))) = P .0 in
     ((th, (T, (y, mem))), P .1, P .2, P .3, omega (arith, P .4))
 
@@ -291,109 +383,174 @@ completes-by-same-length t c = search needs
 
 completes-by-returns : (t : ℕ) → completes-by-lts.Need-returns (completes-by-calls t) (completes-by-at t) completes-by.Post
 completes-by-returns t c =
-    let P = c .before .before .before .before .before .before .before .before .before .pre .1 in
-    let a = c .before .before .before .before .before .before .before .before .before .args in
-    let w = c .before .before .before .allowed in
+    let at-allowed = c .before .before .before in
+    let start = at-allowed .before .before .before .before .before .before in
+    let P = start .pre .1 in
+    let a = start .args in
+    let w = at-allowed .allowed in
     λ th T y mem trail.
     let told = w .ensures th T y mem in
     best-none _ (told .low) (told .high) (told .memory) (λ l v q g. told .complete (not-true (w .result) (c .if1 .taken)) (agreed-to y (a .k .0) (a .e .0) (a .x) (P .1) (meaning (a .p .characters) T 0) (g .2 .2)))
 
 completes-by-known-step-requires : (t : ℕ) → completes-by-lts.Need-known-step-requires (completes-by-calls t) (completes-by-at t) completes-by.Post
-completes-by-known-step-requires t c κs = let P = c .before .before .before .before .before .before .before .before .before .before .pre .1 in
-    let a = c .before .before .before .before .before .before .before .before .before .before .args in
+completes-by-known-step-requires t c κs =
+    let at-allowed = c .before .before .before .before in
+    let start = at-allowed .before .before .before .before .before .before in
+    let P = start .pre .1 in
+    let a = start .args in
     let (th, (T, (y, mem, trail))) = P .0 in
-    let w = c .before .before .before .before .allowed in
+    let w = at-allowed .allowed in
     let told = w .ensures th T y mem in
     let z = slot-same (a .slot) y (told .low) (w .kept .1 .1 .1 .0) in
     (a .k .0, ((th, (T, (z, told .memory))), P .1, z .tabled .some, omega (arith, P .4)))
 
 completes-by-same-length-2 : (t : ℕ) → completes-by-lts.Need-same-length-2 (completes-by-calls t) (completes-by-at t) completes-by.Post
-completes-by-same-length-2 t c = c .before .before .before .known-step .kept .1 .1 .1 .1 .0 ∙ c .before .before .before .before .before .before .before .before .allowed .kept .1 .1 .1 .0
+completes-by-same-length-2 t c =
+    let at-known-step = c .before .before .before in
+    let at-allowed = at-known-step .before .before .before .before .before in
+    at-known-step .known-step .kept .1 .1 .1 .1 .0 ∙ at-allowed .allowed .kept .1 .1 .1 .0
 
 completes-by-returns-2 : (t : ℕ) → completes-by-lts.Need-returns-2 (completes-by-calls t) (completes-by-at t) completes-by.Post
-completes-by-returns-2 t c = let a = c .before .before .before .before .before .before .before .before .before .before .before .before .before .before .args in
-    let w = c .before .before .before .before .before .before .before .before .allowed in
-    let s = c .before .before .before .known-step in
+completes-by-returns-2 t c =
+    let at-known-step = c .before .before .before in
+    let at-allowed = at-known-step .before .before .before .before .before in
+    let start = at-allowed .before .before .before .before .before .before in
+    let a = start .args in
+    let w = at-allowed .allowed in
+    let s = at-known-step .known-step in
     λ th T y mem trail.
     let told = w .ensures th T y mem in
     let played = s .ensures th T (a .k .0) (slot-same (a .slot) y (told .low) (w .kept .1 .1 .1 .0)) (told .memory) in
     best-none _ (λ q l. played .low q l ∙ told .low q l) (λ q l. played .high q l ∙ told .high q l) (played .memory) (λ l v q g. played .none (c .if2 .taken) (g .2 .0) (g .2 .1))
 
 completes-by-add-completes : (t : ℕ) → completes-by-lts.Need-add-completes (completes-by-calls t) (completes-by-at t) completes-by.Post
-completes-by-add-completes t c = omega (arith, c .before .before .before .before .before .before .before .before .before .before .before .before .before .before .before .pre .1 .4)
+completes-by-add-completes t c =
+    let at-if1 = c .before .before .before .before .before .before in
+    let at-allowed = at-if1 .before .before .before in
+    let start = at-allowed .before .before .before .before .before .before in
+    omega (arith, start .pre .1 .4)
 
 completes-by-add-completes-2 : (t : ℕ) → completes-by-lts.Need-add-completes-2 (completes-by-calls t) (completes-by-at t) completes-by.Post
-completes-by-add-completes-2 t c = omega (arith, c .before .before .before .before .before .before .before .before .before .before .before .before .before .before .before .before .pre .1 .5, c .before .before .before .before .before .before .before .before .before .before .before .before .before .before .before .before .good .1 .1 .1 .1 .1 .0 .0)
+completes-by-add-completes-2 t c =
+    let at-if1 = c .before .before .before .before .before .before .before in
+    let at-allowed = at-if1 .before .before .before in
+    let start = at-allowed .before .before .before .before .before .before in
+    omega (arith, start .pre .1 .5, start .good .1 .1 .1 .1 .1 .0 .0)
 
 completes-by-completes-requires : (t : ℕ) → completes-by-lts.Need-completes-requires (completes-by-calls t) (completes-by-at t) completes-by.Post
-completes-by-completes-requires t c κs = let (m, P) = c .before .before .before .before .before .before .before .before .before .before .before .before .before .before .before .before .pre in
-    let a = c .before .before .before .before .before .before .before .before .before .before .before .before .before .before .before .before .args in
+completes-by-completes-requires t c κs =
+    let at-if2 = c .before .before in
+    let at-known-step = at-if2 .before .before .before in
+    let at-if1 = at-known-step .before .before in
+    let at-allowed = at-if1 .before .before .before in
+    let start = at-allowed .before .before .before .before .before .before in
+    let (m, P) = start .pre in
+    let a = start .args in
     let (th, (T, (y, mem, trail))) = P .0 in
-    let w = c .before .before .before .before .before .before .before .before .before .before .allowed in
-    let s = c .before .before .before .before .before .known-step in
+    let w = at-allowed .allowed in
+    let s = at-known-step .known-step in
     let told = w .ensures th T y mem in
     let z′ = slot-same (a .slot) y (told .low) (w .kept .1 .1 .1 .0) in
     let f : Free (a .slot + 961) 1 = omega (arith, P .4) in
     let long = s .kept .1 .1 .1 .1 .0 in
     let played = s .ensures th T (a .k .0) z′ (told .memory) in
-    let zero : s .result ≡ 0 = omega (arith, c .before .before .if2 .left) in
+    let zero : s .result ≡ 0 = omega (arith, at-if2 .if2 .left) in
     let plays = next-plays z′ 0 played f long zero in
-    let agreed = agreed-from y (a .k .0) (a .e .0) (a .x) (P .1) (meaning (a .p .characters) T 0) (told .sound (not-false (w .result) (c .before .before .before .before .before .before .before .if1 .left))) in
+    let agreed = agreed-from y (a .k .0) (a .e .0) (a .x) (P .1) (meaning (a .p .characters) T 0) (told .sound (not-false (w .result) (at-if1 .if1 .left))) in
     let next = trail-step (a .slot) y (a .k .0) (a .e .0) (a .base) trail (P .6) (s .last .1 .1 .1 .1 .0) (λ q l. played .low q l ∙ told .low q l) (long ∙ w .kept .1 .1 .1 .0) (next-written z′ 0 played f long zero) (stage-extent (a .slot + 961) (next-stage z′ 0 played f long zero)) plays agreed in
     (omega (arith, m), ((th, (nextTable z′ 0 played f long zero, (next-stage z′ 0 played f long zero, played .further zero, next))), P .2, P .3, omega (arith, P .4), omega (arith, P .5), omega (arith, P .6)))
 
 completes-by-cast-list : (t : ℕ) → completes-by-lts.Need-cast-list (completes-by-calls t) (completes-by-at t) completes-by.Post
-completes-by-cast-list t c = let (th, (T, (y, mem, trail))) = c .before .before .before .before .before .before .before .before .before .before .before .before .before .before .before .before .before .before .before .before .before .before .pre .1 .0 in omega (arith, c .before .before .before .before .before .before .before .before .before .before .before .before .before .before .before .before .before .before .before .before .before .before .pre .1 .1, y .theorized .found .mostActions)
+completes-by-cast-list t c =
+    let at-if2 = c .before .before .before .before .before .before .before .before in
+    let at-allowed = at-if2 .before .before .before .before .before .before .before .before in
+    let start = at-allowed .before .before .before .before .before .before in
+    let (th, (T, (y, mem, trail))) = start .pre .1 .0 in
+    omega (arith, start .pre .1 .1, y .theorized .found .mostActions)
 
 completes-by-slice-write-list : (t : ℕ) → completes-by-lts.Need-slice-write-list (completes-by-calls t) (completes-by-at t) completes-by.Post
-completes-by-slice-write-list t c = omega (arith, c .before .before .before .before .before .before .before .before .before .before .before .before .before .before .before .before .before .before .before .before .before .before .pre .1 .5, c .before .before .before .before .before .completes .kept .1 .1 .1 .1 .1 .0)
+completes-by-slice-write-list t c =
+    let at-completes = c .before .before .before .before .before in
+    let at-if1 = at-completes .before .before .before .before .before .before .before .before in
+    let at-allowed = at-if1 .before .before .before in
+    let start = at-allowed .before .before .before .before .before .before in
+    omega (arith, start .pre .1 .5, at-completes .completes .kept .1 .1 .1 .1 .1 .0)
 
 completes-by-same-length-3 : (t : ℕ) → completes-by-lts.Need-same-length-3 (completes-by-calls t) (completes-by-at t) completes-by.Post
-completes-by-same-length-3 t c = c .before .before .before .before .before .completes .kept .1 .1 .1 .0 ∙ c .before .before .before .before .before .before .before .before .before .before .before .known-step .kept .1 .1 .1 .1 .0 ∙ c .before .before .before .before .before .before .before .before .before .before .before .before .before .before .before .before .allowed .kept .1 .1 .1 .0
+completes-by-same-length-3 t c =
+    let at-completes = c .before .before .before .before .before in
+    let at-known-step = at-completes .before .before .before .before .before .before in
+    let at-allowed = at-known-step .before .before .before .before .before in
+    at-completes .completes .kept .1 .1 .1 .0 ∙ at-known-step .known-step .kept .1 .1 .1 .1 .0 ∙ at-allowed .allowed .kept .1 .1 .1 .0
 
 completes-by-same-length-4 : (t : ℕ) → completes-by-lts.Need-same-length-4 (completes-by-calls t) (completes-by-at t) completes-by.Post
-completes-by-same-length-4 t c = length-set {A = ℕ} (c .before .before .before .before .before .completes .last .1 .1 .1 .1 .1 .0) (c .before .before .before .before .before .before .before .before .before .before .before .before .before .before .before .before .before .before .before .before .before .before .args .done) (c .before .before .before .before .before .before .before .before .before .before .before .before .before .before .before .before .before .before .before .before .before .before .args .x) ∙ c .before .before .before .before .before .completes .kept .1 .1 .1 .1 .1 .0
+completes-by-same-length-4 t c =
+    let at-completes = c .before .before .before .before .before in
+    let at-if1 = at-completes .before .before .before .before .before .before .before .before in
+    let at-allowed = at-if1 .before .before .before in
+    let start = at-allowed .before .before .before .before .before .before in
+    length-set {A = ℕ} (at-completes .completes .last .1 .1 .1 .1 .1 .0) (start .args .done) (start .args .x) ∙ at-completes .completes .kept .1 .1 .1 .1 .1 .0
 
 completes-by-returns-3 : (t : ℕ) → completes-by-lts.Need-returns-3 (completes-by-calls t) (completes-by-at t) completes-by.Post
-completes-by-returns-3 t c = let P = c .before .before .before .before .before .before .before .before .before .before .before .before .before .before .before .before .before .before .before .before .before .before .pre .1 in
-    let a = c .before .before .before .before .before .before .before .before .before .before .before .before .before .before .before .before .before .before .before .before .before .before .args in
-    let w = c .before .before .before .before .before .before .before .before .before .before .before .before .before .before .before .before .allowed in
-    let s = c .before .before .before .before .before .before .before .before .before .before .before .known-step in
-    let d = c .before .before .before .before .before .completes in
+completes-by-returns-3 t c =
+    let at-completes = c .before .before .before .before .before in
+    let at-if2 = at-completes .before .before .before in
+    let at-known-step = at-if2 .before .before .before in
+    let at-if1 = at-known-step .before .before in
+    let at-allowed = at-if1 .before .before .before in
+    let start = at-allowed .before .before .before .before .before .before in
+    let P = start .pre .1 in
+    let a = start .args in
+    let w = at-allowed .allowed in
+    let s = at-known-step .known-step in
+    let d = at-completes .completes in
     λ th T y mem trail.
     let told = w .ensures th T y mem in
     let z′ = slot-same (a .slot) y (told .low) (w .kept .1 .1 .1 .0) in
     let f : Free (a .slot + 961) 1 = omega (arith, P .4) in
     let long = s .kept .1 .1 .1 .1 .0 in
     let played = s .ensures th T (a .k .0) z′ (told .memory) in
-    let zero : s .result ≡ 0 = omega (arith, c .before .before .before .before .before .before .before .before .if2 .left) in
+    let zero : s .result ≡ 0 = omega (arith, at-if2 .if2 .left) in
     let plays = next-plays z′ 0 played f long zero in
-    let agreed = agreed-from y (a .k .0) (a .e .0) (a .x) (P .1) (meaning (a .p .characters) T 0) (told .sound (not-false (w .result) (c .before .before .before .before .before .before .before .before .before .before .before .before .before .if1 .left))) in
+    let agreed = agreed-from y (a .k .0) (a .e .0) (a .x) (P .1) (meaning (a .p .characters) T 0) (told .sound (not-false (w .result) (at-if1 .if1 .left))) in
     let next = trail-step (a .slot) y (a .k .0) (a .e .0) (a .base) trail (P .6) (s .last .1 .1 .1 .1 .0) (λ q l. played .low q l ∙ told .low q l) (long ∙ w .kept .1 .1 .1 .0) (next-written z′ 0 played f long zero) (stage-extent (a .slot + 961) (next-stage z′ 0 played f long zero)) plays agreed in
     best-by th (a .k .0) (a .e .0) (a .base) (meaning (a .p .characters) T 0) (a .x) plays agreed (omega arith) (memory-fewer (a .p) (omega arith)) (λ q l. played .low q l ∙ told .low q l) (λ q l. played .high q l ∙ told .high q l) (d .ensures th (nextTable z′ 0 played f long zero) (next-stage z′ 0 played f long zero) (played .further zero) next) (omega (arith, c .if3 .taken))
     (getD-set-same {A = ℕ} (d .last .1 .1 .1 .1 .1 .0) (a .done) (a .x) 0 (omega (arith, P .5, d .kept .1 .1 .1 .1 .1 .0))) (λ q n. getD-set-other {A = ℕ} (d .last .1 .1 .1 .1 .1 .0) (a .done) q (a .x) 0 n)
 
 completes-by-same-length-5 : (t : ℕ) → completes-by-lts.Need-same-length-5 (completes-by-calls t) (completes-by-at t) completes-by.Post
-completes-by-same-length-5 t c = c .before .before .before .before .before .completes .kept .1 .1 .1 .0 ∙ c .before .before .before .before .before .before .before .before .before .before .before .known-step .kept .1 .1 .1 .1 .0 ∙ c .before .before .before .before .before .before .before .before .before .before .before .before .before .before .before .before .allowed .kept .1 .1 .1 .0
+completes-by-same-length-5 t c =
+    let at-completes = c .before .before .before .before .before in
+    let at-known-step = at-completes .before .before .before .before .before .before in
+    let at-allowed = at-known-step .before .before .before .before .before in
+    at-completes .completes .kept .1 .1 .1 .0 ∙ at-known-step .known-step .kept .1 .1 .1 .1 .0 ∙ at-allowed .allowed .kept .1 .1 .1 .0
 
 completes-by-same-length-6 : (t : ℕ) → completes-by-lts.Need-same-length-6 (completes-by-calls t) (completes-by-at t) completes-by.Post
-completes-by-same-length-6 t c = c .before .before .before .before .before .completes .kept .1 .1 .1 .1 .1 .0
+completes-by-same-length-6 t c =
+    let at-completes = c .before .before .before .before .before in
+    at-completes .completes .kept .1 .1 .1 .1 .1 .0
 
 completes-by-returns-4 : (t : ℕ) → completes-by-lts.Need-returns-4 (completes-by-calls t) (completes-by-at t) completes-by.Post
-completes-by-returns-4 t c = let P = c .before .before .before .before .before .before .before .before .before .before .before .before .before .before .before .before .before .before .before .before .before .before .pre .1 in
-    let a = c .before .before .before .before .before .before .before .before .before .before .before .before .before .before .before .before .before .before .before .before .before .before .args in
-    let w = c .before .before .before .before .before .before .before .before .before .before .before .before .before .before .before .before .allowed in
-    let s = c .before .before .before .before .before .before .before .before .before .before .before .known-step in
-    let d = c .before .before .before .before .before .completes in
+completes-by-returns-4 t c =
+    let at-completes = c .before .before .before .before .before in
+    let at-if2 = at-completes .before .before .before in
+    let at-known-step = at-if2 .before .before .before in
+    let at-if1 = at-known-step .before .before in
+    let at-allowed = at-if1 .before .before .before in
+    let start = at-allowed .before .before .before .before .before .before in
+    let P = start .pre .1 in
+    let a = start .args in
+    let w = at-allowed .allowed in
+    let s = at-known-step .known-step in
+    let d = at-completes .completes in
     λ th T y mem trail.
     let told = w .ensures th T y mem in
     let z′ = slot-same (a .slot) y (told .low) (w .kept .1 .1 .1 .0) in
     let f : Free (a .slot + 961) 1 = omega (arith, P .4) in
     let long = s .kept .1 .1 .1 .1 .0 in
     let played = s .ensures th T (a .k .0) z′ (told .memory) in
-    let zero : s .result ≡ 0 = omega (arith, c .before .before .before .before .before .before .before .before .if2 .left) in
+    let zero : s .result ≡ 0 = omega (arith, at-if2 .if2 .left) in
     let plays = next-plays z′ 0 played f long zero in
-    let agreed = agreed-from y (a .k .0) (a .e .0) (a .x) (P .1) (meaning (a .p .characters) T 0) (told .sound (not-false (w .result) (c .before .before .before .before .before .before .before .before .before .before .before .before .before .if1 .left))) in
+    let agreed = agreed-from y (a .k .0) (a .e .0) (a .x) (P .1) (meaning (a .p .characters) T 0) (told .sound (not-false (w .result) (at-if1 .if1 .left))) in
     let next = trail-step (a .slot) y (a .k .0) (a .e .0) (a .base) trail (P .6) (s .last .1 .1 .1 .1 .0) (λ q l. played .low q l ∙ told .low q l) (long ∙ w .kept .1 .1 .1 .0) (next-written z′ 0 played f long zero) (stage-extent (a .slot + 961) (next-stage z′ 0 played f long zero)) plays agreed in
     best-by-none th (a .k .0) (a .e .0) (a .base) (meaning (a .p .characters) T 0) (a .x) plays agreed (omega arith) (memory-fewer (a .p) (omega arith)) (λ q l. played .low q l ∙ told .low q l) (λ q l. played .high q l ∙ told .high q l) (d .ensures th (nextTable z′ 0 played f long zero) (next-stage z′ 0 played f long zero) (played .further zero) next) (omega (arith, c .if3 .left))
 

@@ -31,45 +31,64 @@ loop-holds : tie.Need-loop-holds Inv-loop μ-loop
 loop-holds c = (omega arith, λ j l. absurd (omega (arith, l)))
 
 mul-first-other : tie.Need-mul-first-other Inv-loop μ-loop
-mul-first-other c = omega (arith, c .loop-test .taken, c .before .before .before .before .pre .1, c .before .before .before .before .pre .0 .before)
+mul-first-other c =
+    let start = c .before .before .before .before in
+    omega (arith, c .loop-test .taken, start .pre .1, start .pre .0 .before)
 
 first-other-requires : tie.Need-first-other-requires Inv-loop μ-loop
 first-other-requires c κs =
-    let P = c .before .before .before .before .pre in
-    let most = table-size (c .before .before .before .before .args .p) (P .0) in
-    (omega (arith, c .before .before .extent .ensures, most, P .0 .before, P .0 .room), omega (arith, c .before .before .extent .ensures, most, c .loop-test .taken, P .1, P .0 .before, P .0 .room))
+    let at-extent = c .before .before in
+    let start = at-extent .before .before in
+    let P = start .pre in
+    let most = table-size (start .args .p) (P .0) in
+    (omega (arith, at-extent .extent .ensures, most, P .0 .before, P .0 .room), omega (arith, at-extent .extent .ensures, most, c .loop-test .taken, P .1, P .0 .before, P .0 .room))
 
 returns : tie.Need-returns Inv-loop μ-loop
 returns c =
-    let a = c .before .before .before .before .before .before .args in
-    let i = c .before .before .before .loop .i in
+    let turn = c .before .before in
+    let at-loop = turn .before in
+    let at-extent = at-loop .before in
+    let start = at-extent .before .before in
+    let a = start .args in
+    let i = at-loop .loop .i in
     let same = c .before .first-other .ensures in
-    (λ e. (i, c .before .before .loop-test .taken, state-moved (a .p) (a .work .now) (a .work .now) (a .slot) (i * 961) (λ q l. sym (same .before q (omega (arith, l, c .before .before .before .before .extent .ensures, c .if1 .taken))))), λ e. set-not e)
+    (λ e. (i, turn .loop-test .taken, state-moved (a .p) (a .work .now) (a .work .now) (a .slot) (i * 961) (λ q l. sym (same .before q (omega (arith, l, at-extent .extent .ensures, c .if1 .taken))))), λ e. set-not e)
 
 add-i : tie.Need-add-i Inv-loop μ-loop
-add-i c = omega (arith, c .before .before .loop-test .taken, c .before .before .before .before .before .before .pre .1, c .before .before .before .before .before .before .pre .0 .before)
+add-i c =
+    let turn = c .before .before in
+    let start = turn .before .before .before .before in
+    omega (arith, turn .loop-test .taken, start .pre .1, start .pre .0 .before)
 
 loop-again : tie.Need-loop-again Inv-loop μ-loop
 loop-again c =
-    let i = c .before .before .before .loop .i in
-    let a = c .before .before .before .before .before .before .args in
-    let n = c .before .before .before .before .extent .result in
-    let other = c .before .first-other .ensures in (
-      omega (arith, c .before .before .loop-test .taken),
+    let at-first-other = c .before in
+    let turn = at-first-other .before in
+    let at-loop = turn .before in
+    let at-extent = at-loop .before in
+    let start = at-extent .before .before in
+    let i = at-loop .loop .i in
+    let a = start .args in
+    let n = at-extent .extent .result in
+    let other = at-first-other .first-other .ensures in (
+      omega (arith, turn .loop-test .taken),
       λ j l all. by-cases (ℕ-discrete j i)
-          (λ z. other .here (omega (arith, c .if1 .left)) (all (c .before .first-other .result) (omega (arith, c .if1 .left)) ∙ ap (λ (j : ℕ). getD (a .work .now) (j * 961 + c .before .first-other .result) 0) z))
-          (λ z. c .before .before .before .loop .inv .1 j (omega (arith, l, z)) all),
+          (λ z. other .here (omega (arith, c .if1 .left)) (all (at-first-other .first-other .result) (omega (arith, c .if1 .left)) ∙ ap (λ (j : ℕ). getD (a .work .now) (j * 961 + at-first-other .first-other .result) 0) z))
+          (λ z. at-loop .loop .inv .1 j (omega (arith, l, z)) all),
     )
 
 returns-2 : tie.Need-returns-2 Inv-loop μ-loop
 returns-2 c =
-    let a = c .before .before .before .before .args in
-    let P = c .before .before .before .before .pre in (
+    let at-loop = c .before in
+    let at-extent = at-loop .before in
+    let start = at-extent .before .before in
+    let a = start .args in
+    let P = start .pre in (
       unset,
-      λ e (i, less, same). c .before .loop .inv .1 i (omega (arith, less, c .loop-test .left, c .before .loop .inv .0))
+      λ e (i, less, same). at-loop .loop .inv .1 i (omega (arith, less, c .loop-test .left, at-loop .loop .inv .0))
           (λ q l. same-state-bytes (a .p) (a .work .now) (a .slot) (i * 961)
           (subst (λ (k : ℕ). Written (a .p .characters) (tableOf (slotTable (a .p) (a .work .now) k) (a .work .now))) (sym (P .1)) (P .2 (a .done) (omega arith)))
-          (P .2 i (omega (arith, less))) same q (omega (arith, l, c .before .before .extent .ensures))),
+          (P .2 i (omega (arith, less))) same q (omega (arith, l, at-extent .extent .ensures))),
     )
 
 pub repeats-spec : {M : Type 1} → statement M

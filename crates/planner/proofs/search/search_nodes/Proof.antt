@@ -15,62 +15,101 @@ use Rattle.planner.proofs.search.search_nodes.Statement.{statement}
 use Rattle.planner.proofs.search.search_nodes.Tie as tie
 
 lay-start-requires : tie.Need-lay-start-requires
-lay-start-requires c κs = let (th, (T, x)) = c .before .before .before .before .before .pre in (T, seek-laying x)
+lay-start-requires c κs =
+    let start = c .before .before .before .before .before in
+    let (th, (T, x)) = start .pre in
+    (T, seek-laying x)
 
 table-in-requires : tie.Need-table-in-requires
-table-in-requires c κs = let (th, (T, x)) = c .before .before .before .before .before .before .before .before .before .pre in (omega (arith, x .room, c .before .before .before .lay-start .kept), omega (arith, x .theorized .small .characters, x .theorized .small .fluents, x .same-characters, x .same-fluents))
+table-in-requires c κs =
+    let at-lay-start = c .before .before .before in
+    let start = at-lay-start .before .before .before .before .before .before in
+    let (th, (T, x)) = start .pre in
+    (omega (arith, x .room, at-lay-start .lay-start .kept), omega (arith, x .theorized .small .characters, x .theorized .small .fluents, x .same-characters, x .same-fluents))
 
 shared-slice-read-utility : tie.Need-shared-slice-read-utility
-shared-slice-read-utility c = let (th, (T, x)) = c .before .before .before .before .before .before .before .before .before .before .before .pre in omega (arith, x .theorized .marked)
+shared-slice-read-utility c =
+    let at-lay-start = c .before .before .before .before .before in
+    let start = at-lay-start .before .before .before .before .before .before in
+    let (th, (T, x)) = start .pre in
+    omega (arith, x .theorized .marked)
 
 cast-utility : tie.Need-cast-utility
 cast-utility c = omega (arith, c .shared-slice-known3 .given 320)
 
 utility-requires : tie.Need-utility-requires
 utility-requires c κs =
-    let (th, (T, x)) = c .before .before .before .before .before .before .before .before .before .before .before .before .pre in
-    let s = seek-slot x (c .before .before .before .before .before .before .lay-start .ensures T (seek-laying x)) (c .before .before .before .before .before .before .lay-start .kept .1 .1 .1 .1 .0) in
-    rules-in _ _ _ 0 (c .before .before .table-in .ensures) (author-rules s 0 (s .tabled .some) .0)
+    let at-table-in = c .before .before in
+    let at-lay-start = at-table-in .before .before .before .before in
+    let start = at-lay-start .before .before .before .before .before .before in
+    let (th, (T, x)) = start .pre in
+    let s = seek-slot x (at-lay-start .lay-start .ensures T (seek-laying x)) (at-lay-start .lay-start .kept .1 .1 .1 .1 .0) in
+    rules-in _ _ _ 0 (at-table-in .table-in .ensures) (author-rules s 0 (s .tabled .some) .0)
 
 -- the number of the rule that holds is the author's utility at the start
-worth : (c : tie.After-utility) {th : Theory} {T : List Node} → let a = c .before .before .before .before .before .before .before .before .before .before .before .before .before .args in let l = c .before .before .before .before .before .before .before .lay-start in (x : Seeking th T (a .pack .now) (a .places .now) (a .p) (a .first) (a .nodes) (a .s .0) (a .k .0) (a .e .0) (a .list .now) (a .work .now))
+worth : (c : tie.After-utility) {th : Theory} {T : List Node} →
+    let at-lay-start = c .before .before .before .before .before .before .before in
+    let start = at-lay-start .before .before .before .before .before .before in
+    let a = start .args in
+    let l = at-lay-start .lay-start in
+    (x : Seeking th T (a .pack .now) (a .places .now) (a .p) (a .first) (a .nodes) (a .s .0) (a .k .0) (a .e .0) (a .list .now) (a .work .now))
     → c .utility .result ≡ authorUtility th (meaning (a .p .characters) (seekTable x (l .ensures T (seek-laying x)) (l .kept .1 .1 .1 .1 .0)) 0)
 worth c {th} {T} x =
-    let a = c .before .before .before .before .before .before .before .before .before .before .before .before .before .args in
-    let l = c .before .before .before .before .before .before .before .lay-start in
-    author-utility (seek-slot x (l .ensures T (seek-laying x)) (l .kept .1 .1 .1 .1 .0)) 0 (utility-in (a .pack .now) (getD (a .places .now) 320 0) (l .last .1 .1 .1 .1 .0) 0 (c .utility .result) (c .before .before .before .table-in .ensures) (c .utility .ensures))
+    let at-table-in = c .before .before .before in
+    let at-lay-start = at-table-in .before .before .before .before in
+    let start = at-lay-start .before .before .before .before .before .before in
+    let a = start .args in
+    let l = at-lay-start .lay-start in
+    author-utility (seek-slot x (l .ensures T (seek-laying x)) (l .kept .1 .1 .1 .1 .0)) 0 (utility-in (a .pack .now) (getD (a .places .now) 320 0) (l .last .1 .1 .1 .1 .0) 0 (c .utility .result) (at-table-in .table-in .ensures) (c .utility .ensures))
 
 shortest-requires : tie.Need-shortest-requires
 shortest-requires c κs =
-    let (th, (T, x)) = c .before .before .before .before .before .before .before .before .before .before .before .before .before .before .before .pre in
-    let y = c .before .before .before .before .before .before .before .before .before .lay-start .ensures T (seek-laying x) in
-    let long = c .before .before .before .before .before .before .before .before .before .lay-start .kept .1 .1 .1 .1 .0 in
-    ((th, (seekTable x y long, (seek-slot x y long, seek-memory x y long, y .starts .0, seek-base x y long (worth (c .before .before) x)))), x .foreseen .0, x .foreseen .1, x .nested, x .storied, x .list-room)
+    let at-utility = c .before .before in
+    let at-lay-start = at-utility .before .before .before .before .before .before .before in
+    let start = at-lay-start .before .before .before .before .before .before in
+    let (th, (T, x)) = start .pre in
+    let y = at-lay-start .lay-start .ensures T (seek-laying x) in
+    let long = at-lay-start .lay-start .kept .1 .1 .1 .1 .0 in
+    ((th, (seekTable x y long, (seek-slot x y long, seek-memory x y long, y .starts .0, seek-base x y long (worth at-utility x)))), x .foreseen .0, x .foreseen .1, x .nested, x .storied, x .list-room)
 
 clear-requires : tie.Need-clear-requires
-clear-requires c κs = let (th, (T, x)) = c .before .before .before .before .before .before .before .before .before .before .before .before .before .before .before .before .before .before .before .before .before .pre in omega (arith, x .room, c .before .before .before .before .before .shortest .kept .1 .1 .1 .0, c .before .before .before .before .before .before .before .before .before .before .before .before .before .before .before .lay-start .kept)
+clear-requires c κs =
+    let at-shortest = c .before .before .before .before .before in
+    let at-table-in = at-shortest .before .before .before .before .before .before in
+    let at-lay-start = at-table-in .before .before .before .before in
+    let start = at-lay-start .before .before .before .before .before .before in
+    let (th, (T, x)) = start .pre in
+    omega (arith, x .room, at-shortest .shortest .kept .1 .1 .1 .0, at-lay-start .lay-start .kept)
 
 returns : tie.Need-returns
 returns c =
-    let l = c .before .before .before .before .before .before .before .before .before .before .before .before .before .before .before .before .before .before .before .before .lay-start .ensures in
-    let e = c .before .before .before .before .before .before .before .before .before .before .shortest in
-    let z = c .before .before .before .before .clear in
+    let at-clear = c .before .before .before .before in
+    let at-shortest = at-clear .before .before .before .before .before .before in
+    let at-utility = at-shortest .before .before .before in
+    let at-lay-start = at-utility .before .before .before .before .before .before .before in
+    let l = at-lay-start .lay-start .ensures in
+    let e = at-shortest .shortest in
+    let z = at-clear .clear in
     λ th T x.
     let y = l T (seek-laying x) in
-    let long = c .before .before .before .before .before .before .before .before .before .before .before .before .before .before .before .before .before .before .before .before .lay-start .kept .1 .1 .1 .1 .0 in
-    let is = worth (c .before .before .before .before .before .before .before .before .before .before .before .before .before) x in
-    seek-none x y long (seek-from x y long is) (seek-same x y long (e .ensures th (seekTable x y long) (seek-slot x y long) (seek-memory x y long) (y .starts .0) (seek-base x y long is))) (z .ensures) (omega (arith, z .kept, e .kept .1 .1 .1 .0, c .before .before .before .before .before .before .before .before .before .before .before .before .before .before .before .before .before .before .before .before .lay-start .kept)) (e .kept .1 .1 .1 .1 .0) (c .if1 .taken)
+    let long = at-lay-start .lay-start .kept .1 .1 .1 .1 .0 in
+    let is = worth at-utility x in
+    seek-none x y long (seek-from x y long is) (seek-same x y long (e .ensures th (seekTable x y long) (seek-slot x y long) (seek-memory x y long) (y .starts .0) (seek-base x y long is))) (z .ensures) (omega (arith, z .kept, e .kept .1 .1 .1 .0, at-lay-start .lay-start .kept)) (e .kept .1 .1 .1 .1 .0) (c .if1 .taken)
 
 returns-2 : tie.Need-returns-2
 returns-2 c =
-    let l = c .before .before .before .before .before .before .before .before .before .before .before .before .before .before .before .before .before .before .before .before .lay-start .ensures in
-    let e = c .before .before .before .before .before .before .before .before .before .before .shortest in
-    let z = c .before .before .before .before .clear in
+    let at-clear = c .before .before .before .before in
+    let at-shortest = at-clear .before .before .before .before .before .before in
+    let at-utility = at-shortest .before .before .before in
+    let at-lay-start = at-utility .before .before .before .before .before .before .before in
+    let l = at-lay-start .lay-start .ensures in
+    let e = at-shortest .shortest in
+    let z = at-clear .clear in
     λ th T x.
     let y = l T (seek-laying x) in
-    let long = c .before .before .before .before .before .before .before .before .before .before .before .before .before .before .before .before .before .before .before .before .lay-start .kept .1 .1 .1 .1 .0 in
-    let is = worth (c .before .before .before .before .before .before .before .before .before .before .before .before .before) x in
-    seek-found x y long (seek-from x y long is) (seek-same x y long (e .ensures th (seekTable x y long) (seek-slot x y long) (seek-memory x y long) (y .starts .0) (seek-base x y long is))) (z .ensures) (omega (arith, z .kept, e .kept .1 .1 .1 .0, c .before .before .before .before .before .before .before .before .before .before .before .before .before .before .before .before .before .before .before .before .lay-start .kept)) (e .kept .1 .1 .1 .1 .0) (omega (arith, c .if1 .left))
+    let long = at-lay-start .lay-start .kept .1 .1 .1 .1 .0 in
+    let is = worth at-utility x in
+    seek-found x y long (seek-from x y long is) (seek-same x y long (e .ensures th (seekTable x y long) (seek-slot x y long) (seek-memory x y long) (y .starts .0) (seek-base x y long is))) (z .ensures) (omega (arith, z .kept, e .kept .1 .1 .1 .0, at-lay-start .lay-start .kept)) (e .kept .1 .1 .1 .1 .0) (omega (arith, c .if1 .left))
 
 pub search-nodes-spec : {M : Type 1} → statement M
 search-nodes-spec =

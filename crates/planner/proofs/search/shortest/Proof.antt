@@ -35,27 +35,37 @@ loop-holds c = (omega arith, refl, refl, λ q l. refl, λ q l. refl, λ th T y m
 
 completes-requires : tie.Need-completes-requires Inv-loop μ-loop
 completes-requires c κs =
-    let P = c .before .before .before .before .before .before .before .before .before .pre in
-    let a = c .before .before .before .before .before .before .before .before .before .args in
+    let at-if1 = c .before .before in
+    let at-loop = at-if1 .before .before in
+    let start = at-loop .before .before .before .before .before in
+    let P = start .pre in
+    let a = start .args in
     let (th, (T, (y, mem, wr, le))) = P .0 in
-    let (some, long, same, low, high, rest) = c .before .before .before .before .loop .inv in
-    let few = c .before .before .if1 .taken in
+    let (some, long, same, low, high, rest) = at-loop .loop .inv in
+    let few = at-if1 .if1 .taken in
     ((th, (T, (slot-same 0 y low long, rest th T y mem wr le .0, trail-outset (a .k .0) (a .e .0) (a .base) y low long wr le (rest th T y mem wr le .1)))), P .1, P .2, omega (arith, few, P .4, mul-le-mul-left (a .k .0) (P .3), mul-le-mul-right 3 (P .2)), omega (arith, few, P .4, P .5, ap length same), omega arith)
 
 returns : tie.Need-returns Inv-loop μ-loop
 returns c =
-    let a = c .before .before .before .before .before .before .before .before .before .before .before .before .before .before .before .args in
-    let d = c .before .before .before .before .before .completes in
-    let (some, long, same, low, high, rest) = c .before .before .before .before .before .before .before .before .before .before .loop .inv in
-    λ th T y mem wr le. subst (λ (was : List ℕ). Shortest (Ends th (a .k .0) (a .e .0) (a .base) (meaning (a .p .characters) T 0)) (a .s .0) was (d .last .1 .1 .1 .1 .1 .0) (a .work .now) (d .last .1 .1 .1 .0) (record { count = c .before .before .before .before .before .before .before .before .before .before .loop .n; after = d .result })) same
-    (shortest-found low high some (omega (arith, c .before .before .before .before .before .before .before .before .if1 .taken)) (rest th T y mem wr le .1) (omega (arith, c .if2 .taken)) (d .ensures th T (slot-same 0 y low long) (rest th T y mem wr le .0) (trail-outset (a .k .0) (a .e .0) (a .base) y low long wr le (rest th T y mem wr le .1))))
+    let at-completes = c .before .before .before .before .before in
+    let at-if1 = at-completes .before .before .before in
+    let at-loop = at-if1 .before .before in
+    let start = at-loop .before .before .before .before .before in
+    let a = start .args in
+    let d = at-completes .completes in
+    let (some, long, same, low, high, rest) = at-loop .loop .inv in
+    λ th T y mem wr le. subst (λ (was : List ℕ). Shortest (Ends th (a .k .0) (a .e .0) (a .base) (meaning (a .p .characters) T 0)) (a .s .0) was (d .last .1 .1 .1 .1 .1 .0) (a .work .now) (d .last .1 .1 .1 .0) (record { count = at-loop .loop .n; after = d .result })) same
+    (shortest-found low high some (omega (arith, at-if1 .if1 .taken)) (rest th T y mem wr le .1) (omega (arith, c .if2 .taken)) (d .ensures th T (slot-same 0 y low long) (rest th T y mem wr le .0) (trail-outset (a .k .0) (a .e .0) (a .base) y low long wr le (rest th T y mem wr le .1))))
 
 loop-again : tie.Need-loop-again Inv-loop μ-loop
 loop-again c =
-    let a = c .before .before .before .before .before .before .before .before .before .before .before .before .before .before .before .args in
-    let d = c .before .before .before .before .before .completes in
-    let (some, long, same, low, high, rest) = c .before .before .before .before .before .before .before .before .before .before .loop .inv in
-    let (th, (T, (y, mem, wr, le))) = c .before .before .before .before .before .before .before .before .before .before .before .before .before .before .before .pre .0 in
+    let at-completes = c .before .before .before .before .before in
+    let at-loop = at-completes .before .before .before .before .before in
+    let start = at-loop .before .before .before .before .before in
+    let a = start .args in
+    let d = at-completes .completes in
+    let (some, long, same, low, high, rest) = at-loop .loop .inv in
+    let (th, (T, (y, mem, wr, le))) = start .pre .0 in
     let zero : d .result ≡ 0 = omega (arith, c .if2 .left) in
     let b = d .ensures th T (slot-same 0 y low long) (rest th T y mem wr le .0) (trail-outset (a .k .0) (a .e .0) (a .base) y low long wr le (rest th T y mem wr le .1)) in (
       omega arith,
@@ -68,23 +78,37 @@ loop-again c =
 
 returns-2 : tie.Need-returns-2 Inv-loop μ-loop
 returns-2 c =
-    let (some, long, same, low, high, rest) = c .before .before .loop .inv in
+    let at-loop = c .before .before in
+    let (some, long, same, low, high, rest) = at-loop .loop .inv in
     λ th T y mem wr le. shortest-none low high (omega (arith, c .if1 .left)) same (rest th T y mem wr le .1)
 
 same-length : tie.Need-same-length Inv-loop μ-loop
-same-length c = c .before .before .before .before .before .completes .kept .1 .1 .1 .0 ∙ c .before .before .before .before .before .before .before .before .before .before .loop .inv .1
+same-length c =
+    let at-completes = c .before .before .before .before .before in
+    let at-loop = at-completes .before .before .before .before .before in
+    at-completes .completes .kept .1 .1 .1 .0 ∙ at-loop .loop .inv .1
 
 same-length-2 : tie.Need-same-length-2 Inv-loop μ-loop
-same-length-2 c = c .before .before .before .before .before .completes .kept .1 .1 .1 .1 .1 .0 ∙ ap length (c .before .before .before .before .before .before .before .before .before .before .loop .inv .2)
+same-length-2 c =
+    let at-completes = c .before .before .before .before .before in
+    let at-loop = at-completes .before .before .before .before .before in
+    at-completes .completes .kept .1 .1 .1 .1 .1 .0 ∙ ap length (at-loop .loop .inv .2)
 
 add-n : tie.Need-add-n Inv-loop μ-loop
-add-n c = omega (arith, c .before .before .before .before .before .before .before .before .if1 .taken, c .before .before .before .before .before .before .before .before .before .before .before .before .before .before .before .pre .4)
+add-n c =
+    let at-if1 = c .before .before .before .before .before .before .before .before in
+    let start = at-if1 .before .before .before .before .before .before .before in
+    omega (arith, at-if1 .if1 .taken, start .pre .4)
 
 same-length-3 : tie.Need-same-length-3 Inv-loop μ-loop
-same-length-3 c = c .before .before .loop .inv .1
+same-length-3 c =
+    let at-loop = c .before .before in
+    at-loop .loop .inv .1
 
 same-length-4 : tie.Need-same-length-4 Inv-loop μ-loop
-same-length-4 c = ap length (c .before .before .loop .inv .2)
+same-length-4 c =
+    let at-loop = c .before .before in
+    ap length (at-loop .loop .inv .2)
 
 pub shortest-spec : {M : Type 1} → statement M
 shortest-spec = tie.close (tie.spec Inv-loop μ-loop loop-holds completes-requires same-length same-length-2 returns add-n (λ c. search needs) loop-again same-length-3 same-length-4 returns-2)

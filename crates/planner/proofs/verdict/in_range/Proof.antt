@@ -8,8 +8,9 @@ use Rattle.planner.proofs.verdict.in_range.Tie as tie
 
 returns : tie.Need-returns
 returns c =
+    let at-if1 = c .before .before in
     c .explainable .ensures ∙ both-there _ refl (lt-ltb _ _ (c .before .if2 .taken))
-    ∙ both-there _ refl (lt-ltb _ _ (c .before .before .if1 .taken))
+    ∙ both-there _ refl (lt-ltb _ _ (at-if1 .if1 .taken))
 
 returns-2 : tie.Need-returns-2
 returns-2 c = not-there _ refl (le-ltb _ _ (c .if2 .left)) ∙ both-there _ refl (lt-ltb _ _ (c .before .if1 .taken))

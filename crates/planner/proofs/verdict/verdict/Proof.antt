@@ -8,36 +8,64 @@ use Rattle.planner.proofs.verdict.verdict.Statement.{statement}
 use Rattle.planner.proofs.verdict.verdict.Tie as tie
 
 array-share-prefix-sizes : tie.Need-array-share-prefix-sizes
-array-share-prefix-sizes c = let r = c .before .before .read-pack .ensures in omega (arith, r .few, r .long)
+array-share-prefix-sizes c =
+    let at-read-pack = c .before .before in
+    let r = at-read-pack .read-pack .ensures in
+    omega (arith, r .few, r .long)
 
 slice-aggregate-check-under : tie.Need-slice-aggregate-check-under
-slice-aggregate-check-under c = let p = c .before .before .before .read-pack in sym (length-take-le (p .result .fluents) (p .result .sizes) (omega (arith, p .ensures .few, p .ensures .long)))
+slice-aggregate-check-under c =
+    let at-read-pack = c .before .before .before in
+    let p = at-read-pack .read-pack in
+    sym (length-take-le (p .result .fluents) (p .result .sizes) (omega (arith, p .ensures .few, p .ensures .long)))
 
 verdict-in-requires : tie.Need-verdict-in-requires
 verdict-in-requires c κs =
-    let a = c .before .before .before .before .before .before .before .before .before .before .before .before .before .before .before .before .args in
-    let u = c .before .before .before .before .before .before .before .check-under in
-    let i = c .before .before .before .before .before .before .in-range in
-    let l = c .before .before .before .before .before .check-lent in
-    judge-able (a .chart .now) (a .character) (a .action) (a .k .0) (a .e .0) (a .work .now) (c .before .before .before .before .before .before .before .before .before .before .before .read-pack .ensures) (u .result) (u .ensures) (i .result) (i .ensures) (l .result) (l .ensures)
-    (λ i. omega (arith, c .before .before .before .before .before .before .before .before .before .before .before .before .before .before .before .shared-slice-known .given i)) (λ i. omega (arith, c .before .before .before .before .before .before .before .before .before .before .before .before .before .before .shared-slice-known2 .given i)) (omega (arith, c .before .before .before .before .before .before .before .before .before .before .before .read-pack .kept)) _ _ (c .before .before .before .n .given .1)
+    let at-n = c .before .before .before in
+    let at-check-lent = at-n .before .before in
+    let at-in-range = at-check-lent .before in
+    let at-check-under = at-in-range .before in
+    let at-read-pack = at-check-under .before .before .before .before in
+    let at-shared-slice-known2 = at-read-pack .before .before .before in
+    let at-shared-slice-known = at-shared-slice-known2 .before in
+    let start = at-shared-slice-known .before in
+    let a = start .args in
+    let u = at-check-under .check-under in
+    let i = at-in-range .in-range in
+    let l = at-check-lent .check-lent in
+    judge-able (a .chart .now) (a .character) (a .action) (a .k .0) (a .e .0) (a .work .now) (at-read-pack .read-pack .ensures) (u .result) (u .ensures) (i .result) (i .ensures) (l .result) (l .ensures)
+    (λ i. omega (arith, at-shared-slice-known .shared-slice-known .given i)) (λ i. omega (arith, at-shared-slice-known2 .shared-slice-known2 .given i)) (omega (arith, at-read-pack .read-pack .kept)) _ _ (at-n .n .given .1)
 
 returns : tie.Need-returns
 returns c =
-    let a = c .before .before .before .before .before .before .before .before .before .before .before .before .before .before .args in
-    let u = c .before .before .before .before .before .check-under in
-    let i = c .before .before .before .before .in-range in
-    let l = c .before .before .before .check-lent in
-    judge-refused (a .chart .now) (a .character) (a .action) (a .k .0) (a .e .0) (a .work .now) (c .before .before .before .before .before .before .before .before .before .read-pack .ensures) (u .result) (u .ensures) (i .result) (i .ensures) (l .result) (l .ensures) _ _ (c .before .number .given .1)
+    let at-check-lent = c .before .before .before in
+    let at-in-range = at-check-lent .before in
+    let at-check-under = at-in-range .before in
+    let at-read-pack = at-check-under .before .before .before .before in
+    let start = at-read-pack .before .before .before .before .before in
+    let a = start .args in
+    let u = at-check-under .check-under in
+    let i = at-in-range .in-range in
+    let l = at-check-lent .check-lent in
+    judge-refused (a .chart .now) (a .character) (a .action) (a .k .0) (a .e .0) (a .work .now) (at-read-pack .read-pack .ensures) (u .result) (u .ensures) (i .result) (i .ensures) (l .result) (l .ensures) _ _ (c .before .number .given .1)
 
 returns-2 : tie.Need-returns-2
 returns-2 c =
-    let a = c .before .before .before .before .before .before .before .before .before .before .before .before .before .before .before .before .before .before .before .args in
-    let u = c .before .before .before .before .before .before .before .before .before .before .check-under in
-    let i = c .before .before .before .before .before .before .before .before .before .in-range in
-    let l = c .before .before .before .before .before .before .before .before .check-lent in
-    judge-done (a .chart .now) (a .character) (a .action) (a .k .0) (a .e .0) (a .work .now) (c .before .before .before .before .before .before .before .before .before .before .before .before .before .before .read-pack .ensures) (u .result) (u .ensures) (i .result) (i .ensures) (l .result) (l .ensures)
-    (λ i. omega (arith, c .before .before .before .before .before .before .before .before .before .before .before .before .before .before .before .before .before .before .shared-slice-known .given i)) (λ i. omega (arith, c .before .before .before .before .before .before .before .before .before .before .before .before .before .before .before .before .before .shared-slice-known2 .given i)) (omega (arith, c .before .before .before .before .before .before .before .before .before .before .before .before .before .before .read-pack .kept)) _ _ (c .before .before .before .before .before .before .n .given .1) _ _ (c .before .before .verdict-in .ensures)
+    let at-verdict-in = c .before .before in
+    let at-n = at-verdict-in .before .before .before .before in
+    let at-check-lent = at-n .before .before in
+    let at-in-range = at-check-lent .before in
+    let at-check-under = at-in-range .before in
+    let at-read-pack = at-check-under .before .before .before .before in
+    let at-shared-slice-known2 = at-read-pack .before .before .before in
+    let at-shared-slice-known = at-shared-slice-known2 .before in
+    let start = at-shared-slice-known .before in
+    let a = start .args in
+    let u = at-check-under .check-under in
+    let i = at-in-range .in-range in
+    let l = at-check-lent .check-lent in
+    judge-done (a .chart .now) (a .character) (a .action) (a .k .0) (a .e .0) (a .work .now) (at-read-pack .read-pack .ensures) (u .result) (u .ensures) (i .result) (i .ensures) (l .result) (l .ensures)
+    (λ i. omega (arith, at-shared-slice-known .shared-slice-known .given i)) (λ i. omega (arith, at-shared-slice-known2 .shared-slice-known2 .given i)) (omega (arith, at-read-pack .read-pack .kept)) _ _ (at-n .n .given .1) _ _ (at-verdict-in .verdict-in .ensures)
 
 pub verdict-spec : {M : Type 1} → statement M
 verdict-spec =

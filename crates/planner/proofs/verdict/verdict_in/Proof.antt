@@ -7,27 +7,47 @@ use Rattle.planner.proofs.verdict.verdict_in.Statement.{statement}
 use Rattle.planner.proofs.verdict.verdict_in.Tie as tie
 
 copy-table-requires : tie.Need-copy-table-requires
-copy-table-requires c κs = let (th, (T, x)) = c .before .before .before .before .before .pre in read-copies (x .read) (x .room)
+copy-table-requires c κs =
+    let start = c .before .before .before .before .before in
+    let (th, (T, x)) = start .pre in
+    read-copies (x .read) (x .room)
 
 clear-requires : tie.Need-clear-requires
-clear-requires c κs = let (th, (T, x)) = c .before .before .before .before .before .before .before .before .before .pre in omega (arith, x .room, c .before .before .before .copy-table .ensures .long)
+clear-requires c κs =
+    let at-copy-table = c .before .before .before in
+    let start = at-copy-table .before .before .before .before .before .before in
+    let (th, (T, x)) = start .pre in
+    omega (arith, x .room, at-copy-table .copy-table .ensures .long)
 
 explained-requires : tie.Need-explained-requires
 explained-requires c κs =
-    let (th, (T, x)) = c .before .before .before .before .before .before .before .before .before .before .before .before .before .pre in
-    let l = c .before .before .before .before .before .before .before .copy-table .ensures in
-    let e = c .before .before .before .clear in
+    let at-clear = c .before .before .before in
+    let at-copy-table = at-clear .before .before .before .before in
+    let start = at-copy-table .before .before .before .before .before .before in
+    let (th, (T, x)) = start .pre in
+    let l = at-copy-table .copy-table .ensures in
+    let e = at-clear .clear in
     ((th, (T, (judge-ready x l (e .ensures) (e .kept .0), judge-memory x l (e .ensures) (e .kept .0)))), x .who, x .what, x .foreseen .0, x .foreseen .1, judge-free x)
 
 sweep-requires : tie.Need-sweep-requires
-sweep-requires c κs = let (th, (T, x)) = c .before .before .before .before .before .before .before .before .before .before .before .before .before .before .before .before .before .pre in omega (arith, x .room, c .before .before .before .explained .kept, c .before .before .before .before .before .before .before .clear .kept, c .before .before .before .before .before .before .before .before .before .before .before .copy-table .ensures .long)
+sweep-requires c κs =
+    let at-explained = c .before .before .before in
+    let at-clear = at-explained .before .before .before .before in
+    let at-copy-table = at-clear .before .before .before .before in
+    let start = at-copy-table .before .before .before .before .before .before in
+    let (th, (T, x)) = start .pre in
+    omega (arith, x .room, at-explained .explained .kept, at-clear .clear .kept, at-copy-table .copy-table .ensures .long)
 
 returns : tie.Need-returns
 returns c =
-    let l = c .before .before .before .before .before .before .before .before .before .before .before .before .before .before .copy-table .ensures in
-    let e = c .before .before .before .before .before .before .before .before .before .before .clear in
-    let v = c .before .before .before .before .before .before .explained in
-    let z = c .before .before .sweep in
+    let at-sweep = c .before .before in
+    let at-explained = at-sweep .before .before .before .before in
+    let at-clear = at-explained .before .before .before .before in
+    let at-copy-table = at-clear .before .before .before .before in
+    let l = at-copy-table .copy-table .ensures in
+    let e = at-clear .clear in
+    let v = at-explained .explained in
+    let z = at-sweep .sweep in
     λ th T x. judge-verdict x l (judge-high x l (e .ensures) (e .kept .0)) (v .ensures th T (judge-ready x l (e .ensures) (e .kept .0)) (judge-memory x l (e .ensures) (e .kept .0))) (z .ensures) (omega (arith, z .kept, v .kept, e .kept, l .long))
 
 pub verdict-in-spec : {M : Type 1} → statement M

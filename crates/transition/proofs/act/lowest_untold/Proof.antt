@@ -23,18 +23,38 @@ abbrev μ-loop : tie.MeasureT-loop
 μ-loop pack at characters c₀ c = characters - c
 
 -- what is told of the next character
-here : (c : tie.After-tells Inv-loop μ-loop) → let a = c .before .before .before .before .args in (d : Dimensions) → Small d → (es : List Effect) → EffectsAt d (a .pack .now) (a .at) es → told es (suc (c .before .before .loop .c)) ≡ c .tells .result
-here c d small es x = ap (told es) (sym (add-one (c .before .before .loop .c))) ∙ sym (c .tells .ensures d small es x)
+here : (c : tie.After-tells Inv-loop μ-loop) →
+    let at-loop = c .before .before in
+    let start = at-loop .before .before in
+    let a = start .args in
+    (d : Dimensions) → Small d → (es : List Effect) → EffectsAt d (a .pack .now) (a .at) es → told es (suc (at-loop .loop .c)) ≡ c .tells .result
+here c d small es x =
+    let at-loop = c .before .before in
+    ap (told es) (sym (add-one (at-loop .loop .c))) ∙ sym (c .tells .ensures d small es x)
 
 pub lowest-untold-spec : {M : Type 1} → statement M
 lowest-untold-spec =
     tie.close
     (tie.spec Inv-loop μ-loop
     (λ c. (omega arith, λ d small es x k l. absurd (omega arith)))
-    (λ c. omega (arith, c .before .before .before .pre .1, c .loop-test .taken))
-    (λ c κs. c .before .before .before .pre .0)
-    (λ c. λ d small es x. record { one = inl (c .before .before .loop-test .taken, here (c .before) d small es x ∙ not-true (c .before .tells .result) (c .if1 .taken)) })
-    (λ c. omega (arith, c .before .before .before .before .before .pre .1, c .before .before .loop-test .taken))
+    (λ c.
+    let start = c .before .before .before in
+    omega (arith, start .pre .1, c .loop-test .taken))
+    (λ c κs.
+    let start = c .before .before .before in
+    start .pre .0)
+    (λ c.
+    let at-tells = c .before in
+    let turn = at-tells .before in
+    λ d small es x. record { one = inl (turn .loop-test .taken, here at-tells d small es x ∙ not-true (at-tells .tells .result) (c .if1 .taken)) })
+    (λ c.
+    let turn = c .before .before in
+    let start = turn .before .before .before in
+    omega (arith, start .pre .1, turn .loop-test .taken))
     (λ c. search needs)
-    (λ c. (omega (arith, c .before .before .loop-test .taken), λ d small es x. below-more (λ k. told es (suc k) ≡ true) (c .before .before .before .loop .c) (c .before .before .before .loop .inv .1 d small es x) (here (c .before) d small es x ∙ not-false (c .before .tells .result) (c .if1 .left))))
+    (λ c.
+    let at-tells = c .before in
+    let turn = at-tells .before in
+    let at-loop = turn .before in
+    (omega (arith, turn .loop-test .taken), λ d small es x. below-more (λ k. told es (suc k) ≡ true) (at-loop .loop .c) (at-loop .loop .inv .1 d small es x) (here at-tells d small es x ∙ not-false (at-tells .tells .result) (c .if1 .left))))
     (λ c. λ d small es x. record { one = inr (refl, λ k l. c .before .loop .inv .1 d small es x k (omega (arith, c .loop-test .left))) }))

@@ -17,31 +17,62 @@ place s = let p = s .pre in let (i, r, w) = row-room (p .0 .0 .1) (p .0 .1) (p .
 
 put-member-requires : tie.Need-put-member-requires
 put-member-requires c κs =
-    let p = c .before .before .before .before .before .before .before .before .before .pre in
-    let e = c .before .before .wide .ensures in
-    (p .0 .0, omega (arith, e, p .1 .0 .there _ (p .1 .1)), subst (λ (z : ℕ). There (c .before .before .before .before .before .before .before .before .before .args .t .characters) (memberOf (c .before .before .before .before .before .before .before .before .before .args .h) (c .before .before .before .before .before .before .before .before .before .args .t .nodes) z)) e (p .1 .2), record { behind = omega (arith, place (c .before .before .before .before .before .before .before .before .before), p .0 .1 .source); room = omega (arith, place (c .before .before .before .before .before .before .before .before .before)) })
+    let at-wide = c .before .before in
+    let start = at-wide .before .before .before .before .before .before .before in
+    let p = start .pre in
+    let e = at-wide .wide .ensures in
+    (p .0 .0, omega (arith, e, p .1 .0 .there _ (p .1 .1)), subst (λ (z : ℕ). There (start .args .t .characters) (memberOf (start .args .h) (start .args .t .nodes) z)) e (p .1 .2), record { behind = omega (arith, place start, p .0 .1 .source); room = omega (arith, place start) })
 
 name-beliefs-requires : tie.Need-name-beliefs-requires
 name-beliefs-requires c κs =
-    let p = c .before .before .before .before .before .before .before .before .before .before .before .before .before .before .pre in
-    let m = c .before .before .before .before .put-member in
+    let at-put-member = c .before .before .before .before in
+    let at-wide = at-put-member .before .before .before in
+    let start = at-wide .before .before .before .before .before .before .before in
+    let p = start .pre in
+    let m = at-put-member .put-member in
     let q = m .ensures (p .0 .0 .0) (p .0 .0 .1) in
-    ((omega (arith, place (c .before .before .before .before .before .before .before .before .before .before .before .before .before .before)), omega (arith, place (c .before .before .before .before .before .before .before .before .before .before .before .before .before .before), m .kept .1 .1 .1 .1 .0), omega (arith, place (c .before .before .before .before .before .before .before .before .before .before .before .before .before .before))), (numbering-same _ _ _ _ _ (p .1 .0) (λ z f g. q .low z (omega (arith, place (c .before .before .before .before .before .before .before .before .before .before .before .before .before .before)))), λ d l. q .slots d l .below))
+    ((omega (arith, place start), omega (arith, place start, m .kept .1 .1 .1 .1 .0), omega (arith, place start)), (numbering-same _ _ _ _ _ (p .1 .0) (λ z f g. q .low z (omega (arith, place start))), λ d l. q .slots d l .below))
 
 pub change-row-spec : {M : Type 1} → statement M
 change-row-spec =
     tie.close
     (tie.spec
-    (λ c. omega (arith, place (c .before .before .before .before .before)))
-    (λ c. omega (arith, place (c .before .before .before .before .before)))
-    (λ c. omega (arith, place (c .before .before .before .before .before), c .before .before .before .before .before .good .1 .1 .1 .1 .0 .0))
-    (λ c. omega (arith, place (c .before .before .before .before .before), c .before .before .before .before .before .good .1 .1 .1 .1 .0 .0))
-    (λ c. omega (arith, place (c .before .before .before .before .before .before)))
+    (λ c.
+    let start = c .before .before .before .before .before in
+    omega (arith, place start))
+    (λ c.
+    let start = c .before .before .before .before .before in
+    omega (arith, place start))
+    (λ c.
+    let start = c .before .before .before .before .before in
+    omega (arith, place start, start .good .1 .1 .1 .1 .0 .0))
+    (λ c.
+    let start = c .before .before .before .before .before in
+    omega (arith, place start, start .good .1 .1 .1 .1 .0 .0))
+    (λ c.
+    let start = c .before .before .before .before .before .before in
+    omega (arith, place start))
     (λ c κs. search needs)
-    (λ c. omega (arith, place (c .before .before .before .before .before .before .before .before), c .before .before .before .before .before .before .before .before .good .1 .1 .1 .1 .0 .0))
-    (λ c. omega (arith, place (c .before .before .before .before .before .before .before .before), c .before .before .before .before .before .before .before .before .good .1 .1 .1 .1 .0 .0))
+    (λ c.
+    let start = c .before .before .before .before .before .before .before .before in
+    omega (arith, place start, start .good .1 .1 .1 .1 .0 .0))
+    (λ c.
+    let start = c .before .before .before .before .before .before .before .before in
+    omega (arith, place start, start .good .1 .1 .1 .1 .0 .0))
     put-member-requires
-    (λ c. omega (arith, place (c .before .before .before .before .before .before .before .before .before .before .before .before .before .before), c .before .before .before .before .before .before .before .before .before .before .before .before .before .before .good .1 .1 .1 .1 .0 .0))
+    (λ c.
+    let at-wide = c .before .before .before .before .before .before .before in
+    let start = at-wide .before .before .before .before .before .before .before in
+    omega (arith, place start, start .good .1 .1 .1 .1 .0 .0))
     name-beliefs-requires
-    (λ c. c .before .before .name-beliefs .kept .0 ∙ c .before .before .before .before .before .before .before .put-member .kept .1 .1 .1 .1 .0)
-    (λ c. let p = c .before .before .before .before .before .before .before .before .before .before .before .before .before .before .before .before .before .pre in λ s x. row-made x (p .0 .1) (p .1 .0) (p .1 .1) (sym (c .before .before .before .before .before .before .before .before .before .before .wide .ensures)) (c .before .before .before .before .before .before .before .put-member .ensures s x) (c .before .before .name-beliefs .ensures)))
+    (λ c.
+    let at-name-beliefs = c .before .before in
+    let at-put-member = at-name-beliefs .before .before .before .before .before in
+    at-name-beliefs .name-beliefs .kept .0 ∙ at-put-member .put-member .kept .1 .1 .1 .1 .0)
+    (λ c.
+    let at-name-beliefs = c .before .before in
+    let at-put-member = at-name-beliefs .before .before .before .before .before in
+    let at-wide = at-put-member .before .before .before in
+    let start = at-wide .before .before .before .before .before .before .before in
+    let p = start .pre in
+    λ s x. row-made x (p .0 .1) (p .1 .0) (p .1 .1) (sym (at-wide .wide .ensures)) (at-put-member .put-member .ensures s x) (at-name-beliefs .name-beliefs .ensures)))

@@ -14,5 +14,10 @@ first-slot-spec =
     (λ c. search needs)
     (λ c. search needs)
     (λ c. search needs)
-    (λ c. let start = c .before .before .before .before in let p = start .pre in let few = c .before .before .if1 .taken in record { is = slot-acted (start .args .h) (start .args .nodes) (start .args .h .root) (p .1) few (p .2 few); below = omega (arith, p .1, few) })
+    (λ c.
+    let at-if1 = c .before .before in
+    let start = at-if1 .before .before in
+    let p = start .pre in
+    let few = at-if1 .if1 .taken in
+    record { is = slot-acted (start .args .h) (start .args .nodes) (start .args .h .root) (p .1) few (p .2 few); below = omega (arith, p .1, few) })
     (λ c. let start = c .before .before in record { is = sym (member-first (start .args .h) (start .args .nodes) (start .args .nodes * 7) (omega arith)); below = omega arith }))

@@ -13,25 +13,63 @@ place : (s : tie.Start) → let a = s .args in (a .t .rows + a .m * a .t .width 
 place s = let p = s .pre in (row-inside (p .0 .1 .tabled) (s .args .m) (p .1), p .2 .behind, p .2 .room)
 
 write-told-requires : tie.Need-write-told-requires
-write-told-requires c κs = let p = c .before .before .before .before .before .before .before .before .before .before .before .before .pre in tellable (p .0 .1) _ (p .1) (omega (arith, place (c .before .before .before .before .before .before .before .before .before .before .before .before), c .before .before .before .before .copy-part .kept .0))
+write-told-requires c κs =
+    let at-copy-part = c .before .before .before .before in
+    let start = at-copy-part .before .before .before .before .before .before .before .before in
+    let p = start .pre in
+    tellable (p .0 .1) _ (p .1) (omega (arith, place start, at-copy-part .copy-part .kept .0))
 
 put-slots-requires : tie.Need-put-slots-requires
 put-slots-requires c κs =
-    let p = c .before .before .before .before .before .before .before .before .before .before .before .before .before .before .before .before .before .pre in
-    let a = c .before .before .before .before .before .before .before .before .before .copy-part in
-    let b = c .before .before .before .before .write-told in
+    let at-write-told = c .before .before .before .before in
+    let at-copy-part = at-write-told .before .before .before .before .before in
+    let start = at-copy-part .before .before .before .before .before .before .before .before in
+    let p = start .pre in
+    let a = at-copy-part .copy-part in
+    let b = at-write-told .write-told in
     let long = b .ensures .only .long ∙ a .kept .0 in
-    ((p .0 .0, later (p .0 .1) (p .1) (p .2) (λ q l. b .ensures .only .below q l ∙ a .ensures .low q l) long), p .1, omega (arith, place (c .before .before .before .before .before .before .before .before .before .before .before .before .before .before .before .before .before)), omega (arith, place (c .before .before .before .before .before .before .before .before .before .before .before .before .before .before .before .before .before), long))
+    ((p .0 .0, later (p .0 .1) (p .1) (p .2) (λ q l. b .ensures .only .below q l ∙ a .ensures .low q l) long), p .1, omega (arith, place start), omega (arith, place start, long))
 
 returns : tie.Need-returns
 returns c =
-    let p = c .before .before .before .before .before .before .before .before .before .before .before .before .before .before .before .before .before .before .before .before .pre in
-    let a = c .before .before .before .before .before .before .before .before .before .before .before .before .copy-part in
-    let b = c .before .before .before .before .before .before .before .write-told in
-    λ s x. acted-put x (p .1) (p .2) (a .ensures) (b .ensures) (c .before .before .put-slots .ensures s (later x (p .1) (p .2) (λ q l. b .ensures .only .below q l ∙ a .ensures .low q l) (b .ensures .only .long ∙ a .kept .0)))
+    let at-put-slots = c .before .before in
+    let at-write-told = at-put-slots .before .before .before .before .before in
+    let at-copy-part = at-write-told .before .before .before .before .before in
+    let start = at-copy-part .before .before .before .before .before .before .before .before in
+    let p = start .pre in
+    let a = at-copy-part .copy-part in
+    let b = at-write-told .write-told in
+    λ s x. acted-put x (p .1) (p .2) (a .ensures) (b .ensures) (at-put-slots .put-slots .ensures s (later x (p .1) (p .2) (λ q l. b .ensures .only .below q l ∙ a .ensures .low q l) (b .ensures .only .long ∙ a .kept .0)))
 
 pub put-acted-spec : {M : Type 1} → statement M
 put-acted-spec =
     tie.close
-    (tie.spec (λ c. omega (arith, place (c .before .before .before .before .before))) (λ c. omega (arith, place (c .before .before .before .before .before .before))) (λ c κs. (omega (arith, place (c .before .before .before .before .before .before .before)), omega (arith, place (c .before .before .before .before .before .before .before)), omega (arith, place (c .before .before .before .before .before .before .before)))) (λ c. omega (arith, c .before .before .before .before .before .before .before .before .before .before .pre .1, c .before .before .before .before .before .before .before .before .before .before .pre .0 .1 .tabled .few)) (λ c. omega (arith, c .before .before .before .before .before .before .before .before .before .before .before .pre .1, c .before .before .before .before .before .before .before .before .before .before .before .pre .0 .1 .long)) (λ c. omega (arith, c .shared-slice-known4 .given (c .before .before .before .before .before .before .before .before .before .before .before .args .m))) write-told-requires
-    (λ c. omega (arith, place (c .before .before .before .before .before .before .before .before .before .before .before .before .before .before .before .before .before), c .before .before .before .before .before .before .before .before .before .before .before .before .before .before .before .before .before .good .1 .1 .1 .1 .0 .0)) put-slots-requires (λ c. search needs) returns)
+    (tie.spec
+    (λ c.
+    let start = c .before .before .before .before .before in
+    omega (arith, place start))
+    (λ c.
+    let start = c .before .before .before .before .before .before in
+    omega (arith, place start))
+    (λ c κs.
+    let start = c .before .before .before .before .before .before .before in
+    (omega (arith, place start), omega (arith, place start), omega (arith, place start)))
+    (λ c.
+    let at-copy-part = c .before .before in
+    let start = at-copy-part .before .before .before .before .before .before .before .before in
+    omega (arith, start .pre .1, start .pre .0 .1 .tabled .few))
+    (λ c.
+    let at-copy-part = c .before .before .before in
+    let start = at-copy-part .before .before .before .before .before .before .before .before in
+    omega (arith, start .pre .1, start .pre .0 .1 .long))
+    (λ c.
+    let at-copy-part = c .before .before .before in
+    let start = at-copy-part .before .before .before .before .before .before .before .before in
+    omega (arith, c .shared-slice-known4 .given (start .args .m)))
+    write-told-requires
+    (λ c.
+    let at-write-told = c .before .before .before .before in
+    let at-copy-part = at-write-told .before .before .before .before .before in
+    let start = at-copy-part .before .before .before .before .before .before .before .before in
+    omega (arith, place start, start .good .1 .1 .1 .1 .0 .0))
+    put-slots-requires (λ c. search needs) returns)

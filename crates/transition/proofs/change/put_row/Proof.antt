@@ -10,9 +10,23 @@ pub put-row-spec : {M : Type 1} → statement M
 put-row-spec =
     tie.close
     (tie.spec
-    (λ c κs. let p = c .before .before .before .before .before .before .pre in (p .0, p .1, p .3))
-    (λ c κs. let p = c .before .before .before .before .before .before .pre in ((p .0 .0, p .0 .1 .tabled), p .1, p .2 (c .before .if1 .left), p .3))
+    (λ c κs.
+    let start = c .before .before .before .before .before .before in
+    let p = start .pre in
+    (p .0, p .1, p .3))
+    (λ c κs.
+    let start = c .before .before .before .before .before .before in
+    let p = start .pre in
+    ((p .0 .0, p .0 .1 .tabled), p .1, p .2 (c .before .if1 .left), p .3))
     (λ c. search needs)
-    (λ c. λ s x. put-is s _ _ (sym (ap (rowAfter (c .before .before .before .before .before .before .before .before .before .args .m)) (c .before .before .before .before .if1 .taken))) (c .before .before .put-acted .ensures s x))
+    (λ c.
+    let at-put-acted = c .before .before in
+    let at-if1 = at-put-acted .before .before in
+    let start = at-if1 .before .before .before .before .before in
+    λ s x. put-is s _ _ (sym (ap (rowAfter (start .args .m)) (at-if1 .if1 .taken))) (at-put-acted .put-acted .ensures s x))
     (λ c. search needs)
-    (λ c. λ s x. put-is s _ _ (sym (ap (rowAfter (c .before .before .before .before .before .before .before .before .before .args .m)) (c .before .before .before .before .if1 .left))) (c .before .before .put-old .ensures s (x .tabled))))
+    (λ c.
+    let at-put-old = c .before .before in
+    let at-if1 = at-put-old .before .before in
+    let start = at-if1 .before .before .before .before .before in
+    λ s x. put-is s _ _ (sym (ap (rowAfter (start .args .m)) (at-if1 .if1 .left))) (at-put-old .put-old .ensures s (x .tabled))))

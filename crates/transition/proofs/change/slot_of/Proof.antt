@@ -14,36 +14,116 @@ place : (s : tie.Start) → let a = s .args in (a .t .rows + a .m * a .t .width 
 place s = let x = s .pre .0 .1 .tabled in (row-inside x (s .args .m) (s .pre .1), x .fits .inside)
 
 few : (c : tie.After-wide) → c .wide .result < 32
-few c = let p = c .before .before .before .before .before .before .before .before .before .before .before .before .pre in let x = p .0 .1 .tabled in omega (arith, c .wide .ensures, belief-is x _ _ (p .1) (p .2), belief-in x _ _ (p .1) (p .2), x .few)
+few c =
+    let at-tells = c .before .before .before .before .before .before in
+    let start = at-tells .before .before .before .before .before .before in
+    let p = start .pre in
+    let x = p .0 .1 .tabled in
+    omega (arith, c .wide .ensures, belief-is x _ _ (p .1) (p .2), belief-in x _ _ (p .1) (p .2), x .few)
 
-took : (c : tie.Then2) → let p = c .before .before .before .before .before .before .before .before .before .before .before .before .before .before .pre in let a = c .before .before .before .before .before .before .before .before .before .before .before .before .before .before .args in SlotIs (a .h) (a .t .nodes) (believed (p .0 .0) (a .t .characters) (a .m) (a .d)) (c .before .before .wide .result * 7 + a .h .acted)
-took c = let p = c .before .before .before .before .before .before .before .before .before .before .before .before .before .before .pre in let x = p .0 .1 in slot-took x (p .1) (p .2) (c .before .before .before .before .before .before .before .before .tells .ensures) (c .before .before .before .before .before .before .before .if1 .left) (sym (c .before .before .wide .ensures) ∙ belief-is (x .tabled) _ _ (p .1) (p .2)) (c .before .takes .ensures) (c .if2 .taken)
+took : (c : tie.Then2) →
+    let at-wide = c .before .before in
+    let at-tells = at-wide .before .before .before .before .before .before in
+    let start = at-tells .before .before .before .before .before .before in
+    let p = start .pre in
+    let a = start .args in
+    SlotIs (a .h) (a .t .nodes) (believed (p .0 .0) (a .t .characters) (a .m) (a .d)) (at-wide .wide .result * 7 + a .h .acted)
+took c =
+    let at-wide = c .before .before in
+    let at-if1 = at-wide .before .before .before .before .before in
+    let at-tells = at-if1 .before in
+    let start = at-tells .before .before .before .before .before .before in
+    let p = start .pre in
+    let x = p .0 .1 in
+    slot-took x (p .1) (p .2) (at-tells .tells .ensures) (at-if1 .if1 .left) (sym (at-wide .wide .ensures) ∙ belief-is (x .tabled) _ _ (p .1) (p .2)) (c .before .takes .ensures) (c .if2 .taken)
 
-kept : (c : tie.Else2) → let p = c .before .before .before .before .before .before .before .before .before .before .before .before .before .before .pre in let a = c .before .before .before .before .before .before .before .before .before .before .before .before .before .before .args in SlotIs (a .h) (a .t .nodes) (believed (p .0 .0) (a .t .characters) (a .m) (a .d)) (c .before .before .wide .result * 7 + a .h .old)
-kept c = let p = c .before .before .before .before .before .before .before .before .before .before .before .before .before .before .pre in let x = p .0 .1 in slot-kept x (p .1) (p .2) (c .before .before .before .before .before .before .before .before .tells .ensures) (c .before .before .before .before .before .before .before .if1 .left) (sym (c .before .before .wide .ensures) ∙ belief-is (x .tabled) _ _ (p .1) (p .2)) (c .before .takes .ensures) (c .if2 .left)
+kept : (c : tie.Else2) →
+    let at-wide = c .before .before in
+    let at-tells = at-wide .before .before .before .before .before .before in
+    let start = at-tells .before .before .before .before .before .before in
+    let p = start .pre in
+    let a = start .args in
+    SlotIs (a .h) (a .t .nodes) (believed (p .0 .0) (a .t .characters) (a .m) (a .d)) (at-wide .wide .result * 7 + a .h .old)
+kept c =
+    let at-wide = c .before .before in
+    let at-if1 = at-wide .before .before .before .before .before in
+    let at-tells = at-if1 .before in
+    let start = at-tells .before .before .before .before .before .before in
+    let p = start .pre in
+    let x = p .0 .1 in
+    slot-kept x (p .1) (p .2) (at-tells .tells .ensures) (at-if1 .if1 .left) (sym (at-wide .wide .ensures) ∙ belief-is (x .tabled) _ _ (p .1) (p .2)) (c .before .takes .ensures) (c .if2 .left)
 
 pub slot-of-spec : {M : Type 1} → statement M
 slot-of-spec =
     tie.close
     (tie.spec
-    (λ c. omega (arith, c .before .before .before .before .pre .1, c .before .before .before .before .pre .0 .1 .tabled .few))
-    (λ c. omega (arith, c .before .before .before .before .before .pre .1, c .before .before .before .before .before .pre .0 .1 .long))
-    (λ c. omega (arith, c .shared-slice-known5 .given (c .before .before .before .before .before .args .m)))
-    (λ c. omega (arith, c .before .before .before .before .before .pre .2, small (c .before .before .before .before .before .pre .0 .1 .tabled)))
-    (λ c κs. telling (c .before .before .before .before .before .pre .0 .1) _ (c .before .before .before .before .before .pre .1))
-    (λ c. omega (arith, c .before .before .before .before .before .before .before .pre .1, c .before .before .before .before .before .before .before .pre .0 .1 .tabled .few))
-    (λ c. omega (arith, c .before .before .before .before .before .before .before .pre .1, c .before .before .before .before .before .before .before .pre .2, c .before .before .before .before .before .before .before .pre .0 .1 .tabled .few, small (c .before .before .before .before .before .before .before .pre .0 .1 .tabled)))
-    (λ c. λ s x. slot-told x (c .before .before .before .before .before .before .before .pre .1) (c .before .before .before .before .before .before .before .pre .2) (c .before .tells .ensures) (c .if1 .taken))
-    (λ c. omega (arith, place (c .before .before .before .before .before .before .before .before)))
-    (λ c. omega (arith, place (c .before .before .before .before .before .before .before .before .before)))
-    (λ c. omega (arith, place (c .before .before .before .before .before .before .before .before .before .before)))
-    (λ c. omega (arith, place (c .before .before .before .before .before .before .before .before .before .before), c .before .before .before .before .before .before .before .before .before .before .pre .2))
-    (λ c. omega (arith, place (c .before .before .before .before .before .before .before .before .before .before .before), c .before .before .before .before .before .before .before .before .before .before .before .pre .2))
+    (λ c.
+    let start = c .before .before .before .before in
+    omega (arith, start .pre .1, start .pre .0 .1 .tabled .few))
+    (λ c.
+    let start = c .before .before .before .before .before in
+    omega (arith, start .pre .1, start .pre .0 .1 .long))
+    (λ c.
+    let start = c .before .before .before .before .before in
+    omega (arith, c .shared-slice-known5 .given (start .args .m)))
+    (λ c.
+    let start = c .before .before .before .before .before in
+    omega (arith, start .pre .2, small (start .pre .0 .1 .tabled)))
+    (λ c κs.
+    let start = c .before .before .before .before .before in
+    telling (start .pre .0 .1) _ (start .pre .1))
+    (λ c.
+    let start = c .before .before .before .before .before .before .before in
+    omega (arith, start .pre .1, start .pre .0 .1 .tabled .few))
+    (λ c.
+    let start = c .before .before .before .before .before .before .before in
+    omega (arith, start .pre .1, start .pre .2, start .pre .0 .1 .tabled .few, small (start .pre .0 .1 .tabled)))
+    (λ c.
+    let start = c .before .before .before .before .before .before .before in
+    λ s x. slot-told x (start .pre .1) (start .pre .2) (c .before .tells .ensures) (c .if1 .taken))
+    (λ c.
+    let start = c .before .before .before .before .before .before .before .before in
+    omega (arith, place start))
+    (λ c.
+    let at-tells = c .before .before .before in
+    let start = at-tells .before .before .before .before .before .before in
+    omega (arith, place start))
+    (λ c.
+    let at-tells = c .before .before .before .before in
+    let start = at-tells .before .before .before .before .before .before in
+    omega (arith, place start))
+    (λ c.
+    let at-tells = c .before .before .before .before in
+    let start = at-tells .before .before .before .before .before .before in
+    omega (arith, place start, start .pre .2))
+    (λ c.
+    let at-tells = c .before .before .before .before .before in
+    let start = at-tells .before .before .before .before .before .before in
+    omega (arith, place start, start .pre .2))
     (λ c κs. search needs)
-    (λ c κs. watched (c .before .before .before .before .before .before .before .before .before .before .before .before .pre .0 .1) _ _ (c .before .before .before .before .before .before .before .before .before .before .before .before .pre .1) (c .before .before .before .before .before .before .before .before .before .before .before .before .pre .2))
-    (λ c. omega (arith, few (c .before .before)))
+    (λ c κs.
+    let at-tells = c .before .before .before .before .before .before in
+    let start = at-tells .before .before .before .before .before .before in
+    watched (start .pre .0 .1) _ _ (start .pre .1) (start .pre .2))
+    (λ c.
+    let at-wide = c .before .before in
+    omega (arith, few at-wide))
     (λ c. omega (arith, took (c .before) .below))
-    (λ c. omega (arith, few (c .before .before)))
+    (λ c.
+    let at-wide = c .before .before in
+    omega (arith, few at-wide))
     (λ c. omega (arith, kept (c .before) .below))
-    (λ c. λ s x. slot-took x (c .before .before .before .before .before .before .before .before .before .before .before .before .before .before .before .pre .1) (c .before .before .before .before .before .before .before .before .before .before .before .before .before .before .before .pre .2) (c .before .before .before .before .before .before .before .before .before .tells .ensures) (c .before .before .before .before .before .before .before .before .if1 .left) (sym (c .before .before .before .wide .ensures) ∙ belief-is (x .tabled) _ _ (c .before .before .before .before .before .before .before .before .before .before .before .before .before .before .before .pre .1) (c .before .before .before .before .before .before .before .before .before .before .before .before .before .before .before .pre .2)) (c .before .before .takes .ensures) (c .before .if2 .taken))
-    (λ c. λ s x. slot-kept x (c .before .before .before .before .before .before .before .before .before .before .before .before .before .before .before .pre .1) (c .before .before .before .before .before .before .before .before .before .before .before .before .before .before .before .pre .2) (c .before .before .before .before .before .before .before .before .before .tells .ensures) (c .before .before .before .before .before .before .before .before .if1 .left) (sym (c .before .before .before .wide .ensures) ∙ belief-is (x .tabled) _ _ (c .before .before .before .before .before .before .before .before .before .before .before .before .before .before .before .pre .1) (c .before .before .before .before .before .before .before .before .before .before .before .before .before .before .before .pre .2)) (c .before .before .takes .ensures) (c .before .if2 .left)))
+    (λ c.
+    let at-takes = c .before .before in
+    let at-wide = at-takes .before in
+    let at-if1 = at-wide .before .before .before .before .before in
+    let at-tells = at-if1 .before in
+    let start = at-tells .before .before .before .before .before .before in
+    λ s x. slot-took x (start .pre .1) (start .pre .2) (at-tells .tells .ensures) (at-if1 .if1 .left) (sym (at-wide .wide .ensures) ∙ belief-is (x .tabled) _ _ (start .pre .1) (start .pre .2)) (at-takes .takes .ensures) (c .before .if2 .taken))
+    (λ c.
+    let at-takes = c .before .before in
+    let at-wide = at-takes .before in
+    let at-if1 = at-wide .before .before .before .before .before in
+    let at-tells = at-if1 .before in
+    let start = at-tells .before .before .before .before .before .before in
+    λ s x. slot-kept x (start .pre .1) (start .pre .2) (at-tells .tells .ensures) (at-if1 .if1 .left) (sym (at-wide .wide .ensures) ∙ belief-is (x .tabled) _ _ (start .pre .1) (start .pre .2)) (at-takes .takes .ensures) (c .before .if2 .left)))

@@ -23,14 +23,18 @@ abbrev μ-loop : tie.MeasureT-loop
 
 loop-again : tie.Need-loop-again Inv-loop μ-loop
 loop-again c =
-    let (few, long, fired) = c .before .before .before .before .loop .inv in
-    let a = c .before .before .before .before .before .before .before .before .before .args in
-    let r = c .before .firing .result in (
-      omega (arith, c .before .before .if1 .taken),
+    let at-firing = c .before in
+    let at-if1 = at-firing .before in
+    let at-loop = at-if1 .before .before in
+    let start = at-loop .before .before .before .before .before in
+    let (few, long, fired) = at-loop .loop .inv in
+    let a = start .args in
+    let r = at-firing .firing .result in (
+      omega (arith, at-if1 .if1 .taken),
       simp length-set long,
       λ d table ts x y.
-          subst (FiredBelow d (a .pack .now) ts (a .t .characters) table (c .before .before .before .before .loop .m + 1) (set (c .before .before .before .before .loop .effects) (c .before .before .before .before .loop .m) r)) (sym (c .either .ensures))
-          (fired-more d (a .pack .now) ts (a .t .characters) table (fired d table ts x y) (c .before .firing .ensures d table ts x y) (omega (arith, c .before .before .before .before .before .before .before .before .before .pre .1, c .before .before .if1 .taken, long)) (ltb-true r (length (a .pack .now))) (ltb-false r (length (a .pack .now)))),
+          subst (FiredBelow d (a .pack .now) ts (a .t .characters) table (at-loop .loop .m + 1) (set (at-loop .loop .effects) (at-loop .loop .m) r)) (sym (c .either .ensures))
+          (fired-more d (a .pack .now) ts (a .t .characters) table (fired d table ts x y) (at-firing .firing .ensures d table ts x y) (omega (arith, start .pre .1, at-if1 .if1 .taken, long)) (ltb-true r (length (a .pack .now))) (ltb-false r (length (a .pack .now)))),
     )
 
 pub fire-all-spec : {M : Type 1} → statement M
@@ -38,13 +42,28 @@ fire-all-spec =
     tie.close
     (tie.spec Inv-loop μ-loop
     (λ c. (omega arith, refl, λ d table ts x y. fired-none d _ ts _ table _))
-    (λ c κs. (c .before .before .before .before .before .before .before .pre .0, c .if1 .taken))
-    (λ c. omega (arith, c .before .before .before .before .before .before .before .before .pre .0 .tabled .few, c .before .if1 .taken))
-    (λ c. omega (arith, c .before .before .before .before .before .before .before .before .pre .1, c .before .if1 .taken, c .before .before .before .loop .inv .1))
+    (λ c κs.
+    let start = c .before .before .before .before .before .before .before in
+    (start .pre .0, c .if1 .taken))
+    (λ c.
+    let start = c .before .before .before .before .before .before .before .before in
+    omega (arith, start .pre .0 .tabled .few, c .before .if1 .taken))
+    (λ c.
+    let at-loop = c .before .before .before in
+    let start = at-loop .before .before .before .before .before in
+    omega (arith, start .pre .1, c .before .if1 .taken, at-loop .loop .inv .1))
     (λ c. search needs)
     (λ c κs. search needs)
-    (λ c. omega (arith, c .before .before .before .before .before .before .before .before .before .pre .0 .tabled .few, c .before .before .if1 .taken))
+    (λ c.
+    let at-if1 = c .before .before in
+    let start = at-if1 .before .before .before .before .before .before .before in
+    omega (arith, start .pre .0 .tabled .few, at-if1 .if1 .taken))
     (λ c. search needs)
     loop-again
-    (λ c. c .before .before .loop .inv .1)
-    (λ c. let (few, long, fired) = c .before .before .loop .inv in λ d table ts x y. fired-all d _ ts _ table (fired d table ts x y) few (omega (arith, c .if1 .left))))
+    (λ c.
+    let at-loop = c .before .before in
+    at-loop .loop .inv .1)
+    (λ c.
+    let at-loop = c .before .before in
+    let (few, long, fired) = at-loop .loop .inv in
+    λ d table ts x y. fired-all d _ ts _ table (fired d table ts x y) few (omega (arith, c .if1 .left))))

@@ -15,8 +15,13 @@ abbrev μ-loop : tie.MeasureT-loop
 μ-loop pack places triggers work t m i₀ i = triggers - i
 
 -- the places of the triggers are marked
-few : (c : tie.In-loop Inv-loop μ-loop) → (c .before .loop .i < 16) × (327 ≤ length (c .before .before .before .before .before .args .places .now))
-few c = let y = c .before .before .before .before .before .pre .0 .triggered in (omega (arith, y .few, c .loop-test .taken), y .marked)
+few : (c : tie.In-loop Inv-loop μ-loop) →
+    let start = c .before .before .before .before .before in
+    (c .before .loop .i < 16) × (327 ≤ length (start .args .places .now))
+few c =
+    let start = c .before .before .before .before .before in
+    let y = start .pre .0 .triggered in
+    (omega (arith, y .few, c .loop-test .taken), y .marked)
 
 pub firing-spec : {M : Type 1} → statement M
 firing-spec =
@@ -27,14 +32,43 @@ firing-spec =
     (λ c. omega (arith, few c))
     (λ c. omega (arith, few c))
     (λ c. omega (arith, few (c .before)))
-    (λ c. omega (arith, c .shared-slice-known4 .given (288 + 2 * c .before .before .loop .i)))
-    (λ c κs. let a = c .before .before .before .before .before .before .args in fire-judged _ _ _ _ (a .m) _ (c .before .before .before .before .before .before .pre .0) (c .before .before .before .before .before .before .pre .1) _ (c .before .loop-test .taken))
-    (λ c. omega (arith, few (c .before .before .before)))
-    (λ c. omega (arith, few (c .before .before .before)))
-    (λ c. omega (arith, few (c .before .before .before)))
-    (λ c. omega (arith, few (c .before .before .before .before)))
-    (λ c. let a = c .before .before .before .before .before .before .before .before .before .args in fires-here (a .pack .now) (a .places .now) (a .work .now) (a .triggers) (a .m) (a .t) (c .before .before .before .before .before .loop .i) (c .before .before .before .before .loop-test .taken) (c .before .before .holds .ensures) (c .before .before .before .before .before .loop .inv) (c .before .if1 .taken) _ refl)
-    (λ c. omega (arith, few (c .before .before .before)))
+    (λ c.
+    let at-loop = c .before .before in
+    omega (arith, c .shared-slice-known4 .given (288 + 2 * at-loop .loop .i)))
+    (λ c κs.
+    let start = c .before .before .before .before .before .before in
+    let a = start .args in
+    fire-judged _ _ _ _ (a .m) _ (start .pre .0) (start .pre .1) _ (c .before .loop-test .taken))
+    (λ c.
+    let turn = c .before .before .before in
+    omega (arith, few turn))
+    (λ c.
+    let turn = c .before .before .before in
+    omega (arith, few turn))
+    (λ c.
+    let turn = c .before .before .before in
+    omega (arith, few turn))
+    (λ c.
+    let turn = c .before .before .before .before in
+    omega (arith, few turn))
+    (λ c.
+    let at-holds = c .before .before in
+    let turn = at-holds .before .before in
+    let at-loop = turn .before in
+    let start = at-loop .before .before .before .before in
+    let a = start .args in
+    fires-here (a .pack .now) (a .places .now) (a .work .now) (a .triggers) (a .m) (a .t) (at-loop .loop .i) (turn .loop-test .taken) (at-holds .holds .ensures) (at-loop .loop .inv) (c .before .if1 .taken) _ refl)
+    (λ c.
+    let turn = c .before .before .before in
+    omega (arith, few turn))
     (λ c. search needs)
-    (λ c. let a = c .before .before .before .before .before .before .before .before .args in idle-more (a .pack .now) (a .places .now) (a .work .now) (a .triggers) (a .m) (a .t) (c .before .before .before .before .loop .i) (c .before .before .before .loop-test .taken) (c .before .holds .ensures) (c .before .before .before .before .loop .inv) (c .if1 .left))
-    (λ c. let a = c .before .before .before .before .before .args in fires-nothing (a .pack .now) (a .places .now) (a .work .now) (a .triggers) (a .m) (a .t) (c .loop-test .left) (c .before .loop .inv)))
+    (λ c.
+    let turn = c .before .before .before in
+    let at-loop = turn .before in
+    let start = at-loop .before .before .before .before in
+    let a = start .args in
+    idle-more (a .pack .now) (a .places .now) (a .work .now) (a .triggers) (a .m) (a .t) (at-loop .loop .i) (turn .loop-test .taken) (c .before .holds .ensures) (at-loop .loop .inv) (c .if1 .left))
+    (λ c.
+    let start = c .before .before .before .before .before in
+    let a = start .args in
+    fires-nothing (a .pack .now) (a .places .now) (a .work .now) (a .triggers) (a .m) (a .t) (c .loop-test .left) (c .before .loop .inv)))

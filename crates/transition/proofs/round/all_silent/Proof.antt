@@ -23,12 +23,17 @@ abbrev μ-loop : tie.MeasureT-loop
 μ-loop pack effects n m₀ m = n - m
 
 silent-requires : tie.Need-silent-requires Inv-loop μ-loop
-silent-requires c κs = c .before .before .before .before .before .pre .2 _ (c .before .loop-test .taken)
+silent-requires c κs =
+    let start = c .before .before .before .before .before in
+    start .pre .2 _ (c .before .loop-test .taken)
 
 loop-again : tie.Need-loop-again Inv-loop μ-loop
 loop-again c =
-    let (few, done) = c .before .before .before .before .loop .inv in
-    (omega (arith, c .before .before .before .loop-test .taken), below-more _ _ done (λ d small es x. c .before .silent .ensures d small es x (not-false (c .before .silent .result) (c .if1 .left))))
+    let at-silent = c .before in
+    let turn = at-silent .before .before in
+    let at-loop = turn .before in
+    let (few, done) = at-loop .loop .inv in
+    (omega (arith, turn .loop-test .taken), below-more _ _ done (λ d small es x. at-silent .silent .ensures d small es x (not-false (at-silent .silent .result) (c .if1 .left))))
 
 returns-2 : tie.Need-returns-2 Inv-loop μ-loop
 returns-2 c = λ e m h. c .before .loop .inv .1 m (omega (arith, c .loop-test .left))
@@ -36,5 +41,20 @@ returns-2 c = λ e m h. c .before .loop .inv .1 m (omega (arith, c .loop-test .l
 pub all-silent-spec : {M : Type 1} → statement M
 all-silent-spec =
     tie.close
-    (tie.spec Inv-loop μ-loop (λ c. (omega arith, λ i h. absurd (omega arith))) (λ c. omega (arith, c .before .before .before .before .pre .0)) (λ c. omega (arith, c .before .before .before .before .before .pre .1, c .before .loop-test .taken)) (λ c. omega (arith, c .shared-slice-known3 .given (c .before .before .loop .m))) silent-requires
-    (λ c e. clash e refl) (λ c. omega (arith, c .before .before .before .before .before .before .before .pre .0, c .before .before .before .loop-test .taken)) (λ c. search needs) loop-again returns-2)
+    (tie.spec Inv-loop μ-loop (λ c. (omega arith, λ i h. absurd (omega arith)))
+    (λ c.
+    let start = c .before .before .before .before in
+    omega (arith, start .pre .0))
+    (λ c.
+    let start = c .before .before .before .before .before in
+    omega (arith, start .pre .1, c .before .loop-test .taken))
+    (λ c.
+    let at-loop = c .before .before in
+    omega (arith, c .shared-slice-known3 .given (at-loop .loop .m)))
+    silent-requires
+    (λ c e. clash e refl)
+    (λ c.
+    let turn = c .before .before .before in
+    let start = turn .before .before .before .before in
+    omega (arith, start .pre .0, turn .loop-test .taken))
+    (λ c. search needs) loop-again returns-2)

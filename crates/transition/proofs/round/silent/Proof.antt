@@ -15,8 +15,9 @@ returns c = let start = c .before .before in λ d small es x e k. sym (tell-noth
 returns-3 : tie.Need-returns-3
 returns-3 c =
     let at-asked = c .before in
+    let at-if1 = at-asked .before in
     λ d small es x e.
-    let there = x .some (omega (arith, at-asked .before .if1 .left)) in
+    let there = x .some (omega (arith, at-if1 .if1 .left)) in
     none-silent es (sym (at-asked .some-effect .ensures d small es (there .end) (there .reads)) ∙ c .if2 .left)
 
 pub silent-spec : {M : Type 1} → statement M

@@ -21,18 +21,37 @@ abbrev μ-loop : tie.MeasureT-loop
 μ-loop pack places triggers work₀ t slot effects₀ nodes₀ rounds₀ work effects nodes rounds = 16 - rounds
 
 -- the round at hand, for the theory and the table that are there
-here : (c : tie.At-loop Inv-loop μ-loop) → let (p, (T, (n, (x, y)))) = c .before .before .before .before .before .pre in let a = c .before .before .before .before .before .args in InRound p (meaning (a .t .characters) T 0) (a .t) (a .work .now) (c .loop .work) (a .slot) (c .loop .nodes) (c .loop .rounds)
-here c = let (p, (T, (n, (x, y)))) = c .before .before .before .before .before .pre in c .loop .inv .3 p T n x y
+here : (c : tie.At-loop Inv-loop μ-loop) →
+    let start = c .before .before .before .before .before in
+    let (p, (T, (n, (x, y)))) = start .pre in
+    let a = start .args in
+    InRound p (meaning (a .t .characters) T 0) (a .t) (a .work .now) (c .loop .work) (a .slot) (c .loop .nodes) (c .loop .rounds)
+here c =
+    let start = c .before .before .before .before .before in
+    let (p, (T, (n, (x, y)))) = start .pre in
+    c .loop .inv .3 p T n x y
 
 fire-all-requires : tie.Need-fire-all-requires Inv-loop μ-loop
-fire-all-requires c κs = let (p, (T, (n, (x, y)))) = c .before .before .before .before .before .before .before .pre in (round-firable x (here (c .before .before)) (c .before .before .loop .inv .1), omega (arith, here (c .before .before) .few, c .before .before .loop .inv .0))
+fire-all-requires c κs =
+    let at-loop = c .before .before in
+    let start = at-loop .before .before .before .before .before in
+    let (p, (T, (n, (x, y)))) = start .pre in
+    (round-firable x (here at-loop) (at-loop .loop .inv .1), omega (arith, here at-loop .few, at-loop .loop .inv .0))
 
 returns-2 : tie.Need-returns-2 Inv-loop μ-loop
-returns-2 c = let (size, long, few, going) = c .before .before .before .before .before .loop .inv in let f = c .before .before .fire-all in
+returns-2 c =
+    let at-fire-all = c .before .before in
+    let at-loop = at-fire-all .before .before .before in
+    let (size, long, few, going) = at-loop .loop .inv in
+    let f = at-fire-all .fire-all in
     λ p T n x y. let g = going p T n x y in round-quiet x g long (f .ensures _ _ _ (round-table x g long) (theory-triggers (x .theorized))) (not-true (f .result) (c .if2 .taken))
 
 returns-3 : tie.Need-returns-3 Inv-loop μ-loop
-returns-3 c = let (size, long, few, going) = c .before .before .before .before .before .before .loop .inv in let f = c .before .before .before .fire-all in
+returns-3 c =
+    let at-fire-all = c .before .before .before in
+    let at-loop = at-fire-all .before .before .before in
+    let (size, long, few, going) = at-loop .loop .inv in
+    let f = at-fire-all .fire-all in
     λ p T n x y. let g = going p T n x y in round-last x g long (f .ensures _ _ _ (round-table x g long) (theory-triggers (x .theorized))) (not-false (f .result) (c .before .if2 .left)) (c .if3 .taken)
 
 round-requires : tie.Need-round-requires Inv-loop μ-loop
@@ -47,26 +66,36 @@ round-requires c κs =
 
 returns-4 : tie.Need-returns-4 Inv-loop μ-loop
 returns-4 c =
-    let (size, long, few, going) = c .before .before .before .before .before .before .before .before .before .before .before .before .loop .inv in
-    let f = c .before .before .before .before .before .before .before .before .before .fire-all in
-    let e = not-false (f .result) (c .before .before .before .before .before .before .before .if2 .left) in
+    let at-round = c .before .before .before in
+    let at-if3 = at-round .before .before .before in
+    let at-if2 = at-if3 .before in
+    let at-fire-all = at-if2 .before .before in
+    let at-loop = at-fire-all .before .before .before in
+    let (size, long, few, going) = at-loop .loop .inv in
+    let f = at-fire-all .fire-all in
+    let e = not-false (f .result) (at-if2 .if2 .left) in
     λ p T n x y.
     let g = going p T n x y in
     let fired = f .ensures _ _ _ (round-table x g long) (theory-triggers (x .theorized)) in
-    round-many x g long fired e (c .before .before .before .round .ensures (roundScene x g long fired e) (round-stands x g long fired e (f .kept .1 .1 .1 .1 .1 .0 ∙ size))) (c .before .before .before .before .before .before .if3 .left) few (c .if4 .taken)
+    round-many x g long fired e (at-round .round .ensures (roundScene x g long fired e) (round-stands x g long fired e (f .kept .1 .1 .1 .1 .1 .0 ∙ size))) (at-if3 .if3 .left) few (c .if4 .taken)
 
 loop-again : tie.Need-loop-again Inv-loop μ-loop
 loop-again c =
-    let (size, long, few, going) = c .before .before .before .before .before .before .before .before .before .before .before .before .loop .inv in
-    let f = c .before .before .before .before .before .before .before .before .before .fire-all in
-    let e = not-false (f .result) (c .before .before .before .before .before .before .before .if2 .left) in (
+    let at-round = c .before .before .before in
+    let at-if3 = at-round .before .before .before in
+    let at-if2 = at-if3 .before in
+    let at-fire-all = at-if2 .before .before in
+    let at-loop = at-fire-all .before .before .before in
+    let (size, long, few, going) = at-loop .loop .inv in
+    let f = at-fire-all .fire-all in
+    let e = not-false (f .result) (at-if2 .if2 .left) in (
       f .kept .1 .1 .1 .1 .1 .0 ∙ size,
-      c .before .before .before .round .kept .1 .1 .1 .1 .0 ∙ long,
-      omega (arith, few, c .before .before .before .before .before .before .if3 .left),
+      at-round .round .kept .1 .1 .1 .1 .0 ∙ long,
+      omega (arith, few, at-if3 .if3 .left),
       λ p T n x y.
           let g = going p T n x y in
           let fired = f .ensures _ _ _ (round-table x g long) (theory-triggers (x .theorized)) in
-          round-next x g long fired e (c .before .before .before .round .ensures (roundScene x g long fired e) (round-stands x g long fired e (f .kept .1 .1 .1 .1 .1 .0 ∙ size))) (c .before .before .before .before .before .before .if3 .left) few (omega (arith, c .if4 .left)),
+          round-next x g long fired e (at-round .round .ensures (roundScene x g long fired e) (round-stands x g long fired e (f .kept .1 .1 .1 .1 .1 .0 ∙ size))) (at-if3 .if3 .left) few (omega (arith, c .if4 .left)),
     )
 
 pub settle-spec : {M : Type 1} → statement M
@@ -75,17 +104,34 @@ settle-spec =
     (tie.spec Inv-loop μ-loop
     (λ c. λ p T n x y. round-idle x (round-start x y) refl (c .if1 .taken))
     (λ c. (refl, refl, omega arith, λ p T n x y. round-start x y))
-    (λ c. let (p, (T, (n, (x, y)))) = c .before .before .before .before .before .pre in omega (arith, x .room .slot-room))
+    (λ c.
+    let start = c .before .before .before .before .before in
+    let (p, (T, (n, (x, y)))) = start .pre in
+    omega (arith, x .room .slot-room))
     (λ c. search needs)
     fire-all-requires
-    (λ c. c .before .before .before .before .before .loop .inv .1)
+    (λ c.
+    let at-loop = c .before .before .before .before .before in
+    at-loop .loop .inv .1)
     returns-2
-    (λ c. c .before .before .before .before .before .before .loop .inv .1)
+    (λ c.
+    let at-loop = c .before .before .before .before .before .before in
+    at-loop .loop .inv .1)
     returns-3
     (λ c. search needs)
     round-requires
-    (λ c. c .before .before .before .round .kept .1 .1 .1 .1 .0 ∙ c .before .before .before .before .before .before .before .before .before .before .before .before .loop .inv .1)
+    (λ c.
+    let at-round = c .before .before .before in
+    let at-fire-all = at-round .before .before .before .before .before .before in
+    let at-loop = at-fire-all .before .before .before in
+    at-round .round .kept .1 .1 .1 .1 .0 ∙ at-loop .loop .inv .1)
     returns-4
-    (λ c. omega (arith, c .before .before .before .before .before .before .before .before .before .before .before .before .loop .inv .2))
-    (λ c. omega (arith, c .before .before .before .before .before .before .before .before .before .before .before .before .loop .inv .2, c .before .before .before .before .before .before .if3 .left))
+    (λ c.
+    let at-if2 = c .before .before .before .before .before .before .before in
+    let at-loop = at-if2 .before .before .before .before .before in
+    omega (arith, at-loop .loop .inv .2))
+    (λ c.
+    let at-if3 = c .before .before .before .before .before .before in
+    let at-loop = at-if3 .before .before .before .before .before .before in
+    omega (arith, at-loop .loop .inv .2, at-if3 .if3 .left))
     loop-again)

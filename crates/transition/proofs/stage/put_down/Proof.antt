@@ -12,8 +12,18 @@ put-down-spec =
     (tie.spec
     (λ c. omega (arith, c .before .pre))
     (λ c. omega (arith, c .before .pre))
-    (λ c. omega (arith, c .before .before .pre))
-    (λ c. omega (arith, c .before .before .pre))
-    (λ c κs. simp length-set (let p = c .before .before .pre in (omega (arith, p), omega (arith, p), omega (arith, p))))
-    (λ c. c .before .before .copy-part .kept .0 ∙ simp length-set)
-    (λ c. c .before .before .copy-part .ensures))
+    (λ c.
+    let start = c .before .before in
+    omega (arith, start .pre))
+    (λ c.
+    let start = c .before .before in
+    omega (arith, start .pre))
+    (λ c κs.
+    let start = c .before .before in
+    simp length-set (let p = start .pre in (omega (arith, p), omega (arith, p), omega (arith, p))))
+    (λ c.
+    let at-copy-part = c .before .before in
+    at-copy-part .copy-part .kept .0 ∙ simp length-set)
+    (λ c.
+    let at-copy-part = c .before .before in
+    at-copy-part .copy-part .ensures))
