@@ -98,9 +98,12 @@ fn translate(from: &Path, to: &Path) -> Result<()> {
     for entry in fs::read_dir(from)? {
         let path = entry?.path();
         let mut text = String::new();
+        let mut ghost = None;
         for line in fs::read_to_string(&path)?.lines() {
             let word = line.trim_start();
-            if ["ghost use", "requires ", "ensures "].iter().any(|ghost| word.starts_with(ghost)) {
+            ghost = ghost.or_else(|| ghost_end(word));
+            if let Some(end) = ghost {
+                ghost = (!word.ends_with(end)).then_some(end);
                 continue;
             }
             if ["struct ", "pub struct ", "enum ", "pub enum "].iter().any(|kind| word.starts_with(kind)) {
@@ -112,6 +115,12 @@ fn translate(from: &Path, to: &Path) -> Result<()> {
         fs::write(to.join(path.file_stem().expect("a name")).with_extension("rs"), text)?;
     }
     Ok(())
+}
+
+/// What ends the lines that begin so, if they are of proofs alone: a contract may take several.
+fn ghost_end(word: &str) -> Option<&'static str> {
+    let ends = [("ghost use", ";"), ("requires ", "⌝ }"), ("ensures ", "⌝ }")];
+    ends.iter().find(|(begin, _)| word.starts_with(begin)).map(|(_, end)| *end)
 }
 
 fn change(file: &Path, old: &str, new: &str) -> Result<()> {
