@@ -1,8 +1,6 @@
 // The checks that the public calls share, in their order: pack, first chart, second chart, 8, 9. Each takes what the
-// checks before it said; the first refusal stays.
-//
-// Each check takes what the checks before it said and passes a refusal on, so their order is the order of the lines.
-// One whose outcome no longer matters is still made; it reads only what is there.
+// checks before it said and passes a refusal on, so their order is the order of the lines. One whose outcome no longer
+// matters is still made; it reads only what is there.
 use pack::node::check_chart;
 use pack::number::Checked;
 use pack::number::Number;

@@ -1,9 +1,6 @@
 // Compare: whether two charts mean the same, or the chain to where they differ. In the work buffer stand, from place 1
-// on, the first chart's rows and behind them the second's, its beliefs counted on from there; then a mark for each pair
-// of rows, and the pairs that were met.
-//
-// In the work buffer: the rows of both charts from 1, the second's beliefs counted on, a mark for each pair of 64 rows
-// from 2,048, the pairs met from 6,144, five bytes each.
+// on, the first chart's rows and behind them the second's, its beliefs counted on from there; a mark for each pair of
+// 64 rows from 2,048; and the pairs that were met from 6,144, five bytes each.
 use crate::Matched;
 use crate::bytes::clear;
 use crate::call::WORK_ROOM;
