@@ -21,10 +21,10 @@ use Rattle.chart.specs.Earliest.{Before}
 use Rattle.chart.specs.Laws.Lists.{place}
 use Rattle.transition.specs.Happening.{nothing, Plays, actionOf}
 use Rattle.transition.specs.Laws.Settled.{plays-one}
-use Rattle.planner.specs.declared.memory.Shape.{Shape}
+use Rattle.planner.specs.declared.limits.Context.{Context}
 use Rattle.planner.specs.Ending.{Leads, Explained, authorUtility}
 use Rattle.planner.specs.Inner.Lists.{slotTable, Agreed, All, Ends, EndsBy}
-use Rattle.planner.specs.Inner.Memory.{memoryAt, Fact}
+use Rattle.planner.specs.Inner.Memory.{memoryAt, Fact, Memory}
 use Rattle.planner.specs.Inner.Explain.{Stage}
 use Rattle.planner.specs.Inner.Search.{Dry, Trail, Repeated, Put, Chosen, Best}
 use Rattle.planner.specs.Laws.Explaining.{Agreeing}
@@ -48,12 +48,12 @@ pub best-same : {M : List ℕ → Type 0} {Good : List ℕ → ℕ → Type 0} {
 best-same {M} {Good} {n} {n′} {was} {now} {at} {slot} {work} {work′} {r} e b = subst (λ (n : ℕ). Best M Good n was now at slot work work′ r) e b
 
 -- that there is none is a fact
-pub fact-of-none : (th : Theory) (K e base : ℕ) (states : ℕ → State) {left who : ℕ} → ((list : List ℕ) (v : ℕ) → length list ≡ left → ¬ Ends th K e base (states 0) list v) → Fact th K 3 (record { who = who; nesting = e; left = left; base = base }) states
-fact-of-none th K e base states f = record { no = λ z. absurd (omega (arith, z)); yes = λ z. absurd (omega (arith, z)); none = λ z. f; unexplained = λ z. absurd (omega (arith, z)); explained = λ z. absurd (omega (arith, z)) }
+pub fact-of-none : (th : Theory) (K e base : ℕ) (s : State) {left who : ℕ} → ((list : List ℕ) (v : ℕ) → length list ≡ left → ¬ Ends th K e base s list v) → Fact th K 3 (record { who = who; nesting = e; number = left; base = base }) s
+fact-of-none th K e base s f = record { no = λ z. absurd (omega (arith, z)); yes = λ z. absurd (omega (arith, z)); none = λ z. f; unexplained = λ z. absurd (omega (arith, z)); explained = λ z. absurd (omega (arith, z)) }
 
 module _ (th : Theory) (K e base : ℕ) (s : State) where
   -- the author's path, one state longer
-  module _ {h : Shape} {was : List ℕ} {n left : ℕ} (trail : Trail th K e base h was n (suc left) s) where
+  module _ {h : Context} {was : List ℕ} {n left : ℕ} (trail : Trail th K e base h was n (suc left) s) where
     trail-next : {now : List ℕ} {slot x : ℕ} {t : State} → slot ≡ n * 961 → Below was now (slot + 961) → 1 + getD now slot 0 * (h .fluents + h .characters) ≤ 961 → stateOf (slotTable h now slot) now 0 ≡ s
         → Written (h .characters) (tableOf (slotTable h now (slot + 961)) now) → 1 + getD now (slot + 961) 0 * (h .fluents + h .characters) ≤ 961
         → Plays th s x t → Agreeing th All (Explained th K e) s x (actionOf th x .consenters) → Trail th K e base h now (n + 1) left t
@@ -85,7 +85,7 @@ module _ (th : Theory) (K e base : ℕ) (s : State) where
         last i z = omega (arith, at, z)
 
   -- the path where its bytes stay
-  pub trail-same : {h : Shape} {was now : List ℕ} {n left : ℕ} → Below was now (n * 961 + 961) → Trail th K e base h was n left s → Trail th K e base h now n left s
+  pub trail-same : {h : Context} {was now : List ℕ} {n left : ℕ} → Below was now (n * 961 + 961) → Trail th K e base h was n left s → Trail th K e base h now n left s
   trail-same {h} {was} {now} {n} {left} low trail = record {
     before = λ i l. subst (λ (s : State). Dry (Ends th K e base s) (left + (n - i))) (sym (state-moved h was now (i * 961) (i * 961) (λ q g. low (i * 961 + q) (omega (arith, g, trail .small i (omega (arith, l)), l))))) (trail .before i l);
     here = trail .here;
@@ -94,7 +94,7 @@ module _ (th : Theory) (K e base : ℕ) (s : State) where
   }
 
   -- no path yet
-  trail-none : {h : Shape} (work : List ℕ) {n : ℕ} → Written (h .characters) (tableOf (slotTable h work 0) work) → 1 + getD work 0 0 * (h .fluents + h .characters) ≤ 961 → authorUtility th s ≤ base → ((l : List ℕ) (v : ℕ) → 0 < length l → length l < n → ¬ Ends th K e base s l v) → Trail th K e base h work 0 n s
+  trail-none : {h : Context} (work : List ℕ) {n : ℕ} → Written (h .characters) (tableOf (slotTable h work 0) work) → 1 + getD work 0 0 * (h .fluents + h .characters) ≤ 961 → authorUtility th s ≤ base → ((l : List ℕ) (v : ℕ) → 0 < length l → length l < n → ¬ Ends th K e base s l v) → Trail th K e base h work 0 n s
   unfolding Leads
   trail-none {h} work {n} first fits le f = record {
     before = λ i l. absurd (omega arith);
@@ -111,7 +111,7 @@ module _ (th : Theory) (K e base : ℕ) (s : State) where
       none (x ∷ l) v g q = f (x ∷ l) v (omega arith) g q
 
   -- a state that is on the path already
-  pub trail-repeats : {h : Shape} {work : List ℕ} (slot : ℕ) {n left : ℕ} → Trail th K e base h work n left s → stateOf (slotTable h work slot) work 0 ≡ s → Repeated h work slot n → (list : List ℕ) (v : ℕ) → length list ≡ left → ¬ Ends th K e base s list v
+  pub trail-repeats : {h : Context} {work : List ℕ} (slot : ℕ) {n left : ℕ} → Trail th K e base h work n left s → stateOf (slotTable h work slot) work 0 ≡ s → Repeated h work slot n → (list : List ℕ) (v : ℕ) → length list ≡ left → ¬ Ends th K e base s list v
   trail-repeats slot trail here (i, less, same) list v l q = trail .before i less list v (omega (arith, l, less)) (subst (λ (s : State). Ends th K e base s list v) (sym (same ∙ here)) q)
 
   abbrev U : ℕ
@@ -218,7 +218,7 @@ module _ (th : Theory) (K e base : ℕ) (s : State) where
               let (rest, is, m) = same q in
               ⊎-elim (λ (h : x < x). omega (arith, h)) (λ (h : (x ≡ x) × Before rest list). c .earliest rest v (omega (arith, l, ap length is)) m (h .1)) (subst (λ (other : List ℕ). Before other (x ∷ list)) is b)
 
-module _ {th : Theory} {T : List Node} {pack places : List ℕ} {h : Shape} {was : List ℕ} {t : Table} {slot : ℕ} (x : Stage th T pack places h was t slot) where
+module _ {th : Theory} {T : List Node} {pack places : List ℕ} {h : Context} {was : List ℕ} {t : Table} {slot : ℕ} (x : Stage th T pack places h was t slot) where
   -- where the author's rules are found
   pub author-rules : (root : ℕ) → root < t .nodes → (Judged rulesAt pack (getD places 320 0) t was root) × (320 < length places)
   author-rules root i =
@@ -245,16 +245,23 @@ module _ {th : Theory} {T : List Node} {pack places : List ℕ} {h : Shape} {was
     agreed-to f d m q = f d m tt
 
 -- the path, and a step from the state in its last slot
-pub trail-step : {th : Theory} {T : List Node} {pack places : List ℕ} {h : Shape} {was : List ℕ} (slot : ℕ) (x : Stage th T pack places h was (slotTable h was slot) (slot + 961)) (K e base : ℕ) {n left : ℕ} → Trail th K e base h was n (suc left) (meaning (h .characters) T 0) → slot ≡ n * 961
+pub trail-step : {th : Theory} {T : List Node} {pack places : List ℕ} {h : Context} {was : List ℕ} (slot : ℕ) (x : Stage th T pack places h was (slotTable h was slot) (slot + 961)) (K e base : ℕ) {n left : ℕ} → Trail th K e base h was n (suc left) (meaning (h .characters) T 0) → slot ≡ n * 961
     → (now : List ℕ) → Below was now (slot + 961) → length now ≡ length was → Written (h .characters) (tableOf (slotTable h now (slot + 961)) now) → 1 + getD now (slot + 961) 0 * (h .fluents + h .characters) ≤ 961 → {a : ℕ} {t : State} → Plays th (meaning (h .characters) T 0) a t → Agreeing th All (Explained th K e) (meaning (h .characters) T 0) a (actionOf th a .consenters) → Trail th K e base h now (n + 1) left t
 trail-step {th} {T} {h = h} slot x K e base trail at now low long next fits plays agreed =
     let y = slot-same slot x low long in
     trail-next th K e base (meaning (h .characters) T 0) trail at low (stage-extent slot y) (stage-state y 0) next fits plays agreed
 
 -- no action is played yet
-pub trail-outset : {th : Theory} {T : List Node} {pack places : List ℕ} {h : Shape} {was now : List ℕ} (K e base : ℕ) {n : ℕ} → Stage th T pack places h was (slotTable h was 0) 961
+pub trail-outset : {th : Theory} {T : List Node} {pack places : List ℕ} {h : Context} {was now : List ℕ} (K e base : ℕ) {n : ℕ} → Stage th T pack places h was (slotTable h was 0) 961
     → Below was now 961 → length now ≡ length was → Written (h .characters) T → authorUtility th (meaning (h .characters) T 0) ≤ base
     → ((l : List ℕ) (v : ℕ) → 0 < length l → length l < n → ¬ Ends th K e base (meaning (h .characters) T 0) l v) → Trail th K e base h now 0 n (meaning (h .characters) T 0)
 trail-outset {th} {T} {h = h} {now = now} K e base x low long first le f =
     let y = slot-same 0 x low long in
     trail-none th K e base (meaning (h .characters) T 0) {h = h} now (subst (Written (h .characters)) (sym (y .tabled .same)) first) (stage-extent 0 y) le f
+
+-- the slot behind the last of the path is the path's next
+pub on-path : {th : Theory} {T : List Node} {pack places : List ℕ} {h : Context} {work : List ℕ} {K : ℕ} (n : ℕ) → Stage th T pack places h work (slotTable h work (n * 961 + 961)) (n * 961 + 961 + 961) → Memory th K h (n * 961 + 961 + 961) work
+    → Stage th T pack places h work (slotTable h work ((n + 1) * 961)) ((n + 1) * 961 + 961) × Memory th K h ((n + 1) * 961 + 961) work
+on-path {th} {T} {pack} {places} {h} {work} {K} n x m =
+    let e : n * 961 + 961 ≡ (n + 1) * 961 = omega arith in
+    (subst (λ (s : ℕ). Stage th T pack places h work (slotTable h work s) (s + 961)) e x, subst (λ (s : ℕ). Memory th K h (s + 961) work) e m)

@@ -34,7 +34,7 @@ use Rattle.chart.specs.Laws.Checks.{counted, lent, checks, Accepted, FirstRead,
 use Rattle.transition.specs.Laws.Loaded.{read-tabled}
 use Rattle.transition.specs.Laws.Loaded.{short-pack}
 use Rattle.planner.specs.declared.Judged.the-variants as judged
-use Rattle.planner.specs.declared.memory.Shape.{Shape}
+use Rattle.planner.specs.declared.limits.Context.{Context}
 use Rattle.planner.specs.Ending.{Explained}
 use Rattle.planner.specs.Answers.{explainedTable}
 use Rattle.planner.specs.Replies.{foresightLimit, nestingLimit, explainedReply}
@@ -47,7 +47,7 @@ use Rattle.planner.proofs.Remembering.{emptied, memory-clear}
 use Rattle.planner.proofs.Telling.{stage-same}
 use Rattle.planner.specs.Inner.Explain.{Stage, Free, Told, Judging, Judgeable, Verdict}
 
-module _ {th : Theory} {T : List Node} {pack places : List ℕ} {h : Shape} {chart : List ℕ} {nodes c a K e : ℕ} {work : List ℕ} (x : Judging th T pack places h chart nodes c a K e work) where
+module _ {th : Theory} {T : List Node} {pack places : List ℕ} {h : Context} {chart : List ℕ} {nodes c a K e : ℕ} {work : List ℕ} (x : Judging th T pack places h chart nodes c a K e work) where
   abbrev f : ℕ
   f = h .fluents
 
@@ -126,10 +126,10 @@ module _ {pack places : List ℕ} (chart : List ℕ) (c a K e : ℕ) (work : Lis
         let (ns, g, (x, replies)) = accepted-now in
         nodes-read (x .accepted) (x .found) (first .read) (ap (λ (l : List (List Node)). getD (map length l) 0 0) (sym (first .same)) ∙ ap (λ (l : List ℕ). getD l 0 0) (x .long) ∙ g)
 
-    abbrev pub shape : Shape
-    shape = record { actions = p .actions; triggers = p .triggers; fluents = p .fluents; characters = p .characters }
+    abbrev pub context : Context
+    context = record { actions = p .actions; triggers = p .triggers; fluents = p .fluents; characters = p .characters; foresight = record { 0 = K } }
 
-    ready : Judging theory (first .table) pack places shape chart n c a K e work
+    ready : Judging theory (first .table) pack places context chart n c a K e work
     ready =
         let x = accepted-now .2 .0 in
         let (who, rest) = and-true (ltb c (p .characters)) (ltb a (p .actions) && (foresightLimit K && nestingLimit e)) (sym here ∙ x .in-range) in
@@ -148,10 +148,10 @@ module _ {pack places : List ℕ} (chart : List ℕ) (c a K e : ℕ) (work : Lis
           room = leb-true workRoom (length work) (x .enough-there);
         }
 
-    pub judge-able : Judgeable pack places shape chart n c a K e work
+    pub judge-able : Judgeable pack places context chart n c a K e work
     judge-able = (theory, (first .table, ready))
 
-    pub judge-done : (now : List ℕ) (v : Bool) → ((th : Theory) (T : List Node) → Judging th T pack places shape chart n c a K e work → Verdict (Explained th K e c a (meaning (p .characters) T 0)) work now v) → Judgement pack chart c a K e work now (judged.Verdict v)
+    pub judge-done : (now : List ℕ) (v : Bool) → ((th : Theory) (T : List Node) → Judging th T pack places context chart n c a K e work → Verdict (Explained th K e c a (meaning (p .characters) T 0)) work now v) → Judgement pack chart c a K e work now (judged.Verdict v)
     unfolding workAfter
     judge-done now v put =
         let (ns, g, (x, replies)) = accepted-now in

@@ -15,12 +15,12 @@ use Rattle.chart.specs.Contracts.Put.{Cleared, Apart, PartCopied}
 use Rattle.chart.specs.Contracts.Start.{Merged}
 use Rattle.chart.specs.Laws.Cells.{rows-same}
 use Rattle.chart.specs.Laws.LoadedNodes.{read-small, read-same, merged-small}
-use Rattle.planner.specs.declared.memory.Shape.{Shape}
+use Rattle.planner.specs.declared.limits.Context.{Context}
 use Rattle.planner.specs.Inner.Memory.{memoryAt}
 use Rattle.planner.specs.Inner.Search.{Laying, LaidStart}
 use Rattle.planner.proofs.Remembering.{emptied}
 
-module _ {T : List Node} {pack : List ℕ} {first nodes : ℕ} {h : Shape} {work : List ℕ} (x : Laying T pack first nodes h work) where
+module _ {T : List Node} {pack : List ℕ} {first nodes : ℕ} {h : Context} {work : List ℕ} (x : Laying T pack first nodes h work) where
   abbrev f : ℕ
   f = h .fluents
 

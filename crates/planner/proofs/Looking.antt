@@ -25,7 +25,7 @@ use Rattle.pack.specs.Laws.Judged.{Left, Next, left-start, left-one, left-next,
 use Rattle.transition.specs.Happening.{nothing, actionOf, Plays}
 use Rattle.transition.specs.Laws.ChangedRows as changing
 use Rattle.transition.specs.Laws.Still.{writes, triggerWrites, plays-still, couldAt, couldPass, couldAll, couldHold, couldExceed, no-exceed}
-use Rattle.planner.specs.declared.memory.Shape.{Shape}
+use Rattle.planner.specs.declared.limits.Context.{Context}
 use Rattle.planner.specs.Inner.Lists.{slotTable}
 use Rattle.planner.specs.Inner.Explain.{Stage}
 use Rattle.planner.specs.Inner.Look.{movedBy, Acting, Acted, Moved, Looking, Lookable, Looked, Tryable, Hopeless, Trying, Skipped}
@@ -331,7 +331,7 @@ module _ (pack places : List ℕ) (triggers a : ℕ) (work : List ℕ) (t : Tabl
   try-rules {whose} x = record { theory = x .theory; looking = x .looking; value = getD (x .theory .utilities) whose []; stands = rules-at (x .rules) (x .theory) (x .looking) }
 
 -- a table before the free slots, in which an action is looked at
-module _ {th : Theory} {T : List Node} {pack places : List ℕ} {h : Shape} {was : List ℕ} {t : Table} {slot : ℕ} (x : Stage th T pack places h was t slot) where
+module _ {th : Theory} {T : List Node} {pack places : List ℕ} {h : Context} {was : List ℕ} {t : Table} {slot : ℕ} (x : Stage th T pack places h was t slot) where
   module _ {a : ℕ} (l : a < h .actions) where
     stage-looking : Looking th pack places (h .triggers) a was t
     stage-looking = record { acting = record { actions = h .actions; theorized = x .theorized; there = l }; over = x .tabled .over; fits = x .tabled .fits; some = x .tabled .some }
@@ -343,7 +343,7 @@ module _ {th : Theory} {T : List Node} {pack places : List ℕ} {h : Shape} {was
     stage-hopeless whose f s plays = f th stage-looking s (subst (λ (U : List Node). Plays th (meaning (t .characters) U 0) a s) (sym (x .tabled .same)) plays)
 
 -- The first that is worth a try in the state in a slot
-module _ {pack places : List ℕ} {h : Shape} {work : List ℕ} {slot whose left base x : ℕ} where
+module _ {pack places : List ℕ} {h : Context} {work : List ℕ} {slot whose left base x : ℕ} where
   pub skipped-none : x ≤ h .actions → Skipped pack places h work slot whose left base x x
   skipped-none l = record { from = omega arith; few = l; hopeless = λ a f g. absurd (omega (arith, f, g)) }
 
@@ -358,7 +358,7 @@ module _ {pack places : List ℕ} {h : Shape} {work : List ℕ} {slot whose left
 pub below-far : (P : ℕ → Type 0) {n r : ℕ} → ((y : ℕ) → y < n → P y) → ((y : ℕ) → n ≤ y → y < r → P y) → (y : ℕ) → y < r → P y
 below-far P {n} {r} near far y l = elim (decLt y n) as (λ d. P y) [ yes h ↦ near y h | no h ↦ far y (omega (arith, h)) l ]
 
-module _ {th : Theory} {T : List Node} {pack places : List ℕ} {h : Shape} {work : List ℕ} {slot : ℕ} (x : Stage th T pack places h work (slotTable h work slot) (slot + 961)) (before : slot + 961 ≤ 28832) where
+module _ {th : Theory} {T : List Node} {pack places : List ℕ} {h : Context} {work : List ℕ} {slot : ℕ} (x : Stage th T pack places h work (slotTable h work slot) (slot + 961)) (before : slot + 961 ≤ 28832) where
   pub stage-trying : {whose : ℕ} → whose < h .characters + 1 → Trying pack places h work slot whose
   stage-trying l = record { before = before; room = x .room; narrow = omega (arith, changing.small (x .tabled)); each = λ a g. stage-tryable x g l }
 

@@ -20,13 +20,13 @@ use Rattle.chart.specs.Call.{workRoom}
 use Rattle.chart.specs.Contracts.Put.{Cleared, PartCopied}
 use Rattle.chart.specs.Contracts.Level.{Agrees, SameByte}
 use Rattle.chart.specs.Laws.Cells.{rows-same, row-in, rows-most}
-use Rattle.planner.specs.declared.memory.Shape.{Shape}
+use Rattle.planner.specs.declared.limits.Context.{Context}
 use Rattle.planner.specs.declared.fact.Key.{Key}
 use Rattle.planner.specs.Inner.Lists.{slotTable}
 use Rattle.planner.specs.Inner.Memory.{memoryAt, takenAt, stepsAt, factsAt, tablesAt, keptAt, keptTable, Kept, Named, StepFact, Fact, keyAt, SlotEntry, StepEntry, FactEntry, Memory, Place, Before, InSlot, Only, Stored, Naming, Storable, KeyPut, Recalled, Remembered, StepRead, StepPut, Noted, Slot, Again, LeftNoted}
 
 -- a mark that says nothing
-pub fact-none : (th : Theory) (K : ℕ) (k : Key) (s : ℕ → State) → Fact th K 0 k s
+pub fact-none : (th : Theory) (K : ℕ) (k : Key) (s : State) → Fact th K 0 k s
 fact-none th K k s = record { no = λ e. absurd (omega (arith, e)); yes = λ e. absurd (omega (arith, e)); none = λ e. absurd (omega (arith, e)); unexplained = λ e. absurd (omega (arith, e)); explained = λ e. absurd (omega (arith, e)) }
 
 -- a flag that is not set
@@ -34,8 +34,8 @@ pub unset : {A : Type 0} → false ≡ true → A
 unset e = let z : _≡_ {A = ℕ} 0 1 = ap (λ (b : Bool). pick b 1 0) e in absurd (omega arith)
 
 -- keys of the same numbers
-pub key-same : {w w′ n n′ l l′ b b′ : ℕ} → w ≡ w′ → n ≡ n′ → l ≡ l′ → b ≡ b′ → _≡_ {A = Key} (record { who = w; nesting = n; left = l; base = b }) (record { who = w′; nesting = n′; left = l′; base = b′ })
-key-same e f g h = λ j. record { who = e j; nesting = f j; left = g j; base = h j }
+pub key-same : {w w′ n n′ l l′ b b′ : ℕ} → w ≡ w′ → n ≡ n′ → l ≡ l′ → b ≡ b′ → _≡_ {A = Key} (record { who = w; nesting = n; number = l; base = b }) (record { who = w′; nesting = n′; number = l′; base = b′ })
+key-same e f g h = λ j. record { who = e j; nesting = f j; number = g j; base = h j }
 
 -- six bytes put down
 module _ (was : List ℕ) (a m w n l b : ℕ) (room : a + 6 ≤ length was) where
@@ -76,7 +76,7 @@ module _ (was : List ℕ) (a m w n l b : ℕ) (room : a + 6 ≤ length was) wher
   whole : b % 256 + 256 * (b / 256) ≡ b
   whole = omega (arith, div-add-mod b 256)
 
-  pub key-put : KeyPut was s6 a m (record { who = w; nesting = n; left = l; base = b })
+  pub key-put : KeyPut was s6 a m (record { who = w; nesting = n; number = l; base = b })
   key-put = record {
     marked = from5 a (λ e. omega (arith, e)) (λ e. omega (arith, e)) ∙ from3 a (λ e. omega (arith, e)) (λ e. omega (arith, e)) ∙ getD-set-other s1 (a + 1) a w 0 (λ e. omega (arith, e)) ∙ getD-set-same was a m 0 (omega arith);
     key = key-same
@@ -91,12 +91,12 @@ module _ (was : List ℕ) (a m w n l b : ℕ) (room : a + 6 ≤ length was) wher
   }
 
 -- a fact of the same mark, key and state
-pub fact-same : (th : Theory) (K : ℕ) {m m′ : ℕ} {k k′ : Key} {s s′ : ℕ → State} → m ≡ m′ → k ≡ k′ → s ≡ s′ → Fact th K m k s → Fact th K m′ k′ s′
-fact-same th K {m} {m′} {k} {k′} {s} {s′} e f g x = subst (λ (m : ℕ). Fact th K m k′ s′) e (subst (λ (k : Key). Fact th K m k s′) f (subst (λ (s : ℕ → State). Fact th K m k s) g x))
+pub fact-same : (th : Theory) (K : ℕ) {m m′ : ℕ} {k k′ : Key} {s s′ : State} → m ≡ m′ → k ≡ k′ → s ≡ s′ → Fact th K m k s → Fact th K m′ k′ s′
+fact-same th K {m} {m′} {k} {k′} {s} {s′} e f g x = subst (λ (m : ℕ). Fact th K m k′ s′) e (subst (λ (k : Key). Fact th K m k s′) f (subst (λ (s : State). Fact th K m k s) g x))
 
--- the states of all rows of a table
-pub row-states : (c : ℕ) {t u : List Node} → t ≡ u → _≡_ {A = ℕ → State} (λ root. meaning c t root) (λ root. meaning c u root)
-row-states c e = λ j. λ root. meaning c (e j) root
+-- the state of the first row of a table
+pub first-same : (c : ℕ) {t u : List Node} → t ≡ u → meaning c t 0 ≡ meaning c u 0
+first-same c e = ap (λ (t : List Node). meaning c t 0) e
 
 -- names, steps and facts that are forgotten
 pub emptied : {was now : List ℕ} → Cleared was now memoryAt 2482 → (q : ℕ) → memoryAt ≤ q → q < tablesAt → getD now q 0 ≡ 0
@@ -111,7 +111,7 @@ pub record Grown (was now : List ℕ) : Type 0 where
 pub grown-by : {was now : List ℕ} → getD now takenAt 0 ≡ getD was takenAt 0 → ((q : ℕ) → tablesAt ≤ q → getD now q 0 ≡ getD was q 0) → Grown was now
 grown-by e f = record { taken = omega (arith, e); tables = λ q l g. f q l }
 
-module _ (h : Shape) where
+module _ (h : Context) where
   abbrev w : ℕ
   w = h .fluents + h .characters
 
@@ -193,11 +193,11 @@ module _ (h : Shape) where
     fact-entry {th} {K} a e f z =
         let e6 = e (a + 6) (omega arith) (omega arith) in
         let (k, x) = f (omega (arith, e6, z)) in
-        subst (λ (n : ℕ). Kept h now n × Fact th K (getD now a 0) (keyAt now a) (λ root. stateOf (keptTable h now n) now root)) (sym e6) (
+        subst (λ (n : ℕ). Kept h now n × Fact th K (getD now a 0) (keyAt now a) (stateOf (keptTable h now n) now 0)) (sym e6) (
           kept-grown k,
           fact-same th K (sym (e a (omega arith) (omega arith)))
               (key-same (sym (e (a + 1) (omega arith) (omega arith))) (sym (e (a + 2) (omega arith) (omega arith))) (sym (e (a + 3) (omega arith) (omega arith))) (omega (arith, e (a + 4) (omega arith) (omega arith), e (a + 5) (omega arith) (omega arith))))
-              (row-states (h .characters) (sym (kept-table k))) x,
+              (first-same (h .characters) (sym (kept-table k))) x,
         )
 
     -- the memory where tables that are kept and all but some entries stay
@@ -376,9 +376,6 @@ module _ (h : Shape) where
     pub named-state : {work : List ℕ} {n : ℕ} → Before h work t → Named h work t n → (root : ℕ) → stateOf (keptTable h work n) work root ≡ stateOf t work root
     named-state {work} {n} b x root = ap (λ (c : ℕ). meaning c (tableOf (keptTable h work n) work) root) (b .characters) ∙ ap (λ (U : List Node). meaning (t .characters) U root) (x .same)
 
-    named-states : {work : List ℕ} {n : ℕ} → Before h work t → Named h work t n → _≡_ {A = ℕ → State} (λ root. stateOf (keptTable h work n) work root) (λ root. stateOf t work root)
-    named-states {work} {n} b x = (λ j. λ root. meaning (b .characters j) (tableOf (keptTable h work n) work) root) ∙ row-states (t .characters) (x .same)
-
     module _ {was : List ℕ} (b : Before h was t) where
       pub recalled-none : {mid : List ℕ} {k : Key} {r : ℕ} → Naming h t was mid r → Recalled h t k was mid 0
       recalled-none x = record { only = x .only; told = λ p K limit few s m. (x .told p K limit few s m .0, fact-none p K _ _) }
@@ -390,8 +387,8 @@ module _ (h : Shape) where
             let (m′, named) = x .told p K limit few s m in
             let e′ : getD mid (factsAt + 7 * place .number + 6) 0 ≡ r = ap (λ (a : ℕ). getD mid (a + 6) 0) (sym (place .is)) ∙ e in
             let (kept, fact) = m′ .facts (place .number) (place .few) (omega (arith, e′, some)) in
-            let here = subst (λ (a : ℕ). Fact p K (getD mid a 0) (keyAt mid a) (λ root. stateOf (keptTable h mid (getD mid (a + 6) 0)) mid root)) (sym (place .is)) fact in
-            (m′, fact-same p K refl key (row-states (h .characters) (ap (λ (n : ℕ). tableOf (keptTable h mid n) mid) e) ∙ named-states (before-now long b) (named some) ∙ row-states (t .characters) (before-same mid b (x .only .low))) here);
+            let here = subst (λ (a : ℕ). Fact p K (getD mid a 0) (keyAt mid a) (stateOf (keptTable h mid (getD mid (a + 6) 0)) mid 0)) (sym (place .is)) fact in
+            (m′, fact-same p K refl key (first-same (h .characters) (ap (λ (n : ℕ). tableOf (keptTable h mid n) mid) e) ∙ named-state (before-now long b) (named some) 0 ∙ first-same (t .characters) (before-same mid b (x .only .low))) here);
       }
 
       pub remembered-none : {mid : List ℕ} {m : ℕ} {k : Key} {r : ℕ} → Naming h t was mid r → Remembered h t m k was mid
@@ -416,11 +413,11 @@ module _ (h : Shape) where
         put-grown : Grown mid noted
         put-grown = grown-by (low takenAt (omega (arith, bounds))) (λ q l. high q (omega (arith, l, bounds)))
 
-        new : (p : Theory) (K : ℕ) → Named h mid t r → Fact p K m k (λ root. stateOf t was root) → FactEntry p K h noted a
+        new : (p : Theory) (K : ℕ) → Named h mid t r → Fact p K m k (stateOf t was 0) → FactEntry p K h noted a
         new p K named fact z =
             let last : getD noted (a + 6) 0 ≡ r = getD-set-same put (a + 6) r 0 (omega (arith, long, long′, b .room, bounds)) in
-            let state : _≡_ {A = ℕ → State} (λ root. stateOf t was root) (λ root. stateOf (keptTable h noted r) noted root) = row-states (t .characters) (sym (before-same mid b (x .only .low))) ∙ sym (named-states (before-now long b) named) ∙ row-states (h .characters) (sym (kept-table put-grown (named .kept))) in
-            subst (λ (n : ℕ). Kept h noted n × Fact p K (getD noted a 0) (keyAt noted a) (λ root. stateOf (keptTable h noted n) noted root)) (sym last) (
+            let state : stateOf t was 0 ≡ stateOf (keptTable h noted r) noted 0 = first-same (t .characters) (sym (before-same mid b (x .only .low))) ∙ sym (named-state (before-now long b) named 0) ∙ first-same (h .characters) (sym (kept-table put-grown (named .kept))) in
+            subst (λ (n : ℕ). Kept h noted n × Fact p K (getD noted a 0) (keyAt noted a) (stateOf (keptTable h noted n) noted 0)) (sym last) (
               kept-grown put-grown (named .kept),
               fact-same p K (sym (low-mark ∙ key .marked)) (sym (key-same (kept 1 (omega arith)) (kept 2 (omega arith)) (kept 3 (omega arith)) (omega (arith, kept 4 (omega arith), kept 5 (omega arith))) ∙ key .key)) state fact,
             )
@@ -487,7 +484,7 @@ module _ (was : List ℕ) (a n r x y : ℕ) (room : a + 4 ≤ length was) where
       o3 q z = getD-set-other b3 (a + 3) q y 0 z
 
 -- steps that are known
-module _ (h : Shape) where
+module _ (h : Context) where
   abbrev width : ℕ
   width = h .fluents + h .characters
 

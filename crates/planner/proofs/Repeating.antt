@@ -14,7 +14,7 @@ use Rattle.pack.specs.Laws.Rows.{cells-at, rows-length}
 use Rattle.chart.specs.Chart.{Written}
 use Rattle.chart.specs.Laws.Unique.{unique}
 use Rattle.chart.specs.Laws.Cells.{rows-node}
-use Rattle.planner.specs.declared.memory.Shape.{Shape}
+use Rattle.planner.specs.declared.limits.Context.{Context}
 use Rattle.planner.specs.Inner.Lists.{slotTable}
 
 module _ (work : List ℕ) (w f c a b : ℕ) (wide : f + c ≡ w) where
@@ -39,7 +39,7 @@ module _ (work : List ℕ) (w f c a b : ℕ) (wide : f + c ≡ w) where
       let there : b + n * w + (q - n * w) ≡ b + q = omega (arith, k) in
       ap (λ (q : ℕ). getD work q 0) here ∙ h n (omega arith) (q - n * w) (omega (arith, k, l, suc-mul n w)) ∙ ap (λ (q : ℕ). getD work q 0) there)
 
-module _ (h : Shape) (work : List ℕ) (a b : ℕ) where
+module _ (h : Context) (work : List ℕ) (a b : ℕ) where
   -- equal tables in two slots have equal bytes, their counts among them
   pub table-bytes : tableOf (slotTable h work a) work ≡ tableOf (slotTable h work b) work → (q : ℕ) → q < 1 + getD work a 0 * (h .fluents + h .characters) → getD work (a + q) 0 ≡ getD work (b + q) 0
   table-bytes e q l =

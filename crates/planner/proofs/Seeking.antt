@@ -36,7 +36,7 @@ use Rattle.chart.specs.Laws.LookedUp.{cleared-all}
 use Rattle.transition.specs.Laws.Loaded.{short-pack}
 use Rattle.planner.specs.declared.Found.{Found}
 use Rattle.planner.specs.declared.Found.the-variants as found
-use Rattle.planner.specs.declared.memory.Shape.{Shape}
+use Rattle.planner.specs.declared.limits.Context.{Context}
 use Rattle.planner.specs.declared.search.Ended.{Ended}
 use Rattle.planner.specs.Ending.{Ending, authorUtility}
 use Rattle.planner.specs.Search.{Answer, ending, none, Sought, Searched}
@@ -77,7 +77,7 @@ module _ {Good : List ℕ → ℕ → Type 0} where
     }
 
 -- from the bytes of a pack to the answer
-module _ {th : Theory} {T : List Node} {pack places : List ℕ} {h : Shape} {first nodes story foresight nesting : ℕ} {list work : List ℕ} (x : Seeking th T pack places h first nodes story foresight nesting list work) where
+module _ {th : Theory} {T : List Node} {pack places : List ℕ} {h : Context} {first nodes story foresight nesting : ℕ} {list work : List ℕ} (x : Seeking th T pack places h first nodes story foresight nesting list work) where
   abbrev f : ℕ
   f = h .fluents
 
@@ -229,13 +229,13 @@ module _ {pack places : List ℕ} (T K E : ℕ) (list work : List ℕ) {p : Cont
     abbrev theNodes : List Node
     theNodes = accepted-now .2 .0 .thePack .nodes
 
-    abbrev pub seekShape : Shape
-    seekShape = record { actions = p .actions; triggers = p .triggers; fluents = p .fluents; characters = p .characters }
+    abbrev pub context : Context
+    context = record { actions = p .actions; triggers = p .triggers; fluents = p .fluents; characters = p .characters; foresight = record { 0 = K } }
 
     fit : ChartFits (theory .characters) (theory .domains) theNodes
     fit = let y = accepted-now .2 .0 in pack-exactly pack bytes (y .thePack) .0 (y .accepted) .0 .nodes
 
-    ready : Seeking theory theNodes pack places seekShape (p .first) (p .nodes) T K E list work
+    ready : Seeking theory theNodes pack places context (p .first) (p .nodes) T K E list work
     ready =
         let y = accepted-now .2 .0 in
         let x = y .thePack in
@@ -257,10 +257,10 @@ module _ {pack places : List ℕ} (T K E : ℕ) (list work : List ℕ) {p : Cont
           room = leb-true workRoom (length work) work-room;
         }
 
-    pub search-able : Seekable pack places seekShape (p .first) (p .nodes) T K E list work
+    pub search-able : Seekable pack places context (p .first) (p .nodes) T K E list work
     search-able = (theory, (theNodes, ready))
 
-    pub search-done : (list′ work′ : List ℕ) (v : Found) → ((th : Theory) (t : List Node) → Seeking th t pack places seekShape (p .first) (p .nodes) T K E list work → SearchPut th T K E (meaning (p .characters) t 0) list list′ work work′ v) → Searching pack T K E list work list′ work′ v
+    pub search-done : (list′ work′ : List ℕ) (v : Found) → ((th : Theory) (t : List Node) → Seeking th t pack places context (p .first) (p .nodes) T K E list work → SearchPut th T K E (meaning (p .characters) t 0) list list′ work work′ v) → Searching pack T K E list work list′ work′ v
     unfolding workAfter resultAfter
     search-done list′ work′ v put =
         let (ns, g, (y, replies)) = accepted-now in

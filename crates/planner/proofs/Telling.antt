@@ -34,14 +34,14 @@ use Rattle.transition.specs.Happening.{nothing, actionOf, Plays}
 use Rattle.transition.specs.Laws.Settled.{plays-one, plays-refuses}
 use Rattle.transition.specs.Contracts.Play.{Setting, Left, PlayedIn}
 use Rattle.transition.specs.Laws.ChangedRows.{tabled-same, small, row-inside, belief-is, belief-in as inside-table}
-use Rattle.planner.specs.declared.memory.Shape.{Shape}
+use Rattle.planner.specs.declared.limits.Context.{Context}
 use Rattle.planner.specs.declared.fact.Key.{Key}
 use Rattle.planner.specs.Ending.{Leads, Explained, utilityTo}
 use Rattle.planner.specs.Inner.Lists.{counted, slotTable, Other, AboveBy, AboveBySome, Agreed}
 use Rattle.planner.specs.Inner.Lists as inner
 use Rattle.planner.specs.Inner.Memory.{stepsAt, keptTable, Named, StepFact, StepEntry, Memory, Fact, Place, Before, InSlot, Naming, StepRead, Noted, Slot, Again, LeftNoted}
 use Rattle.planner.specs.Inner.Explain.{Stage, Free, Told, Advanced}
-use Rattle.planner.proofs.Remembering.{fact-same, row-states, grown-by, before-now, named-state, memory-quiet, memory-fewer}
+use Rattle.planner.proofs.Remembering.{fact-same, first-same, grown-by, before-now, named-state, memory-quiet, memory-fewer}
 
 -- Told: passed on
 pub told-none : {M : List ℕ → Type 0} {slot : ℕ} (was : List ℕ) {P : Type 0} → M was → (P → ⊥) → Told M slot was was false P
@@ -56,7 +56,7 @@ told-no low high m f = record { memory = m; sound = λ e. let z : _≡_ {A = ℕ
 pub told-yes : {M : List ℕ → Type 0} {slot : ℕ} {was now : List ℕ} {P : Type 0} → Below was now slot → Above was now workRoom → M now → P → Told M slot was now true P
 told-yes low high m x = record { memory = m; sound = λ e. x; complete = λ e y. let z : _≡_ {A = ℕ} 0 1 = ap (λ (b : Bool). pick b 0 1) e in omega arith; low = low; high = high }
 
-module _ {th : Theory} {T : List Node} {pack places : List ℕ} {h : Shape} {was : List ℕ} {t : Table} {slot : ℕ} (x : Stage th T pack places h was t slot) where
+module _ {th : Theory} {T : List Node} {pack places : List ℕ} {h : Context} {was : List ℕ} {t : Table} {slot : ℕ} (x : Stage th T pack places h was t slot) where
   abbrev C : ℕ
   C = t .characters
 
@@ -164,7 +164,7 @@ module _ {th : Theory} {T : List Node} {pack places : List ℕ} {h : Shape} {was
       }
 
 -- a step, known or made
-module _ {th : Theory} {T : List Node} {pack places : List ℕ} {h : Shape} {was : List ℕ} {t : Table} {slot : ℕ} (x : Stage th T pack places h was t slot) (f : Free slot 1) (root : ℕ) where
+module _ {th : Theory} {T : List Node} {pack places : List ℕ} {h : Context} {was : List ℕ} {t : Table} {slot : ℕ} (x : Stage th T pack places h was t slot) (f : Free slot 1) (root : ℕ) where
   bound : slot ≤ 28832
   bound = omega (arith, f)
 
@@ -365,7 +365,7 @@ pub one-less : (k e : ℕ) → 0 < e → k * e ≡ k * (e - 1) + k
 one-less k e l = let s : e ≡ suc (e - 1) = omega arith in ap (λ (e : ℕ). k * e) s ∙ mul-suc k (e - 1)
 
 -- the row that a character believes in, and the consenters of an action
-module _ {th : Theory} {T : List Node} {pack places : List ℕ} {h : Shape} {was : List ℕ} {t : Table} {slot : ℕ} (x : Stage th T pack places h was t slot) where
+module _ {th : Theory} {T : List Node} {pack places : List ℕ} {h : Context} {was : List ℕ} {t : Table} {slot : ℕ} (x : Stage th T pack places h was t slot) where
   pub stage-row : (root c : ℕ) → root < t .nodes → c < t .characters → (t .rows + root * t .width + t .fluents + c < slot) × (slot ≤ 28832 → slot < length was)
   stage-row root c i l = (omega (arith, row-inside (x .tabled) root i, x .behind), λ g. omega (arith, x .room))
 
@@ -398,7 +398,7 @@ module _ {th : Theory} {T : List Node} {pack places : List ℕ} {h : Shape} {was
         (e, omega (arith, e, consenter-below (dims (th .characters) (th .domains)) pack (getD places (9 * a + 2) 0) consentersOf (stand .end) (stand .reads) i li, x .tabled .over .characters))
 
 -- of the table that was read
-pub table-stage : {t t′ : Table} → t ≡ t′ → {th : Theory} {T : List Node} {pack places : List ℕ} {h : Shape} {work : List ℕ} {free : ℕ} → Stage th T pack places h work t′ free → Stage th T pack places h work t free
+pub table-stage : {t t′ : Table} → t ≡ t′ → {th : Theory} {T : List Node} {pack places : List ℕ} {h : Context} {work : List ℕ} {free : ℕ} → Stage th T pack places h work t′ free → Stage th T pack places h work t free
 table-stage e {th} {T} {pack} {places} {h} {work} {free} x = subst (λ (t : Table). Stage th T pack places h work t free) (sym e) x
 
 -- rules judged in it
@@ -412,43 +412,43 @@ pub utility-in : (pack : List ℕ) (at : ℕ) (was : List ℕ) (root r : ℕ) {t
 utility-in pack at was root r e f = subst (UtilityIs pack at was root r) e f
 
 -- the table in a slot stays where its bytes do
-pub slot-same : {th : Theory} {T : List Node} {pack places : List ℕ} {h : Shape} {was now : List ℕ} (slot : ℕ) → Stage th T pack places h was (slotTable h was slot) (slot + 961) → Below was now (slot + 961) → length now ≡ length was
+pub slot-same : {th : Theory} {T : List Node} {pack places : List ℕ} {h : Context} {was now : List ℕ} (slot : ℕ) → Stage th T pack places h was (slotTable h was slot) (slot + 961) → Below was now (slot + 961) → length now ≡ length was
     → Stage th T pack places h now (slotTable h now slot) (slot + 961)
 slot-same {th} {T} {pack} {places} {h} {was} {now} slot x low long =
     subst (λ (n : ℕ). Stage th T pack places h now (counted h slot n) (slot + 961)) (sym (low slot (omega arith))) (stage-same x low long)
 
 -- a table takes no more than its slot
-pub stage-extent : {th : Theory} {T : List Node} {pack places : List ℕ} {h : Shape} {work : List ℕ} (slot : ℕ) {free : ℕ} → Stage th T pack places h work (slotTable h work slot) free → 1 + getD work slot 0 * (h .fluents + h .characters) ≤ 961
+pub stage-extent : {th : Theory} {T : List Node} {pack places : List ℕ} {h : Context} {work : List ℕ} (slot : ℕ) {free : ℕ} → Stage th T pack places h work (slotTable h work slot) free → 1 + getD work slot 0 * (h .fluents + h .characters) ≤ 961
 stage-extent {h = h} slot x = omega (arith, rows-most {w = h .fluents + h .characters} (x .tabled .few) (omega (arith, small (x .tabled))))
 
 -- what is known of a state, by its table
-module _ {th : Theory} {T : List Node} {pack places : List ℕ} {h : Shape} {work : List ℕ} {t : Table} {slot : ℕ} (x : Stage th T pack places h work t slot) where
-  states : _≡_ {A = ℕ → State} (λ root. stateOf t work root) (λ root. meaning (t .characters) T root)
-  states = row-states (t .characters) (x .tabled .same)
+module _ {th : Theory} {T : List Node} {pack places : List ℕ} {h : Context} {work : List ℕ} {t : Table} {slot : ℕ} (x : Stage th T pack places h work t slot) where
+  here : stateOf t work 0 ≡ meaning (t .characters) T 0
+  here = first-same (t .characters) (x .tabled .same)
 
-  pub known : {K m : ℕ} {k : Key} → Fact th K m k (λ root. stateOf t work root) → Fact th K m k (λ root. meaning (t .characters) T root)
-  known {K} f = fact-same th K refl refl states f
+  pub known : {K m : ℕ} {k k′ : Key} → k ≡ k′ → Fact th K m k (stateOf t work 0) → Fact th K m k′ (meaning (t .characters) T 0)
+  known {K} e f = fact-same th K refl e here f
 
-  pub note : {K m : ℕ} {k : Key} → Fact th K m k (λ root. meaning (t .characters) T root) → Fact th K m k (λ root. stateOf t work root)
-  note {K} f = fact-same th K refl refl (sym states) f
+  pub note : {K m : ℕ} {k k′ : Key} → k ≡ k′ → Fact th K m k′ (meaning (t .characters) T 0) → Fact th K m k (stateOf t work 0)
+  note {K} e f = fact-same th K refl (sym e) (sym here) f
 
 -- a verdict, by the mark 3 above that of an answer
-pub verdict : (th : Theory) (K : ℕ) (k : Key) (s : ℕ → State) {m : ℕ} {r : Bool} → (r ≡ true → Explained th K (k .nesting) (k .who) (k .left) (s (k .base))) → (r ≡ false → Explained th K (k .nesting) (k .who) (k .left) (s (k .base)) → ⊥) → (m ≡ 1 → r ≡ false) × (m ≡ 2 → r ≡ true) × (0 < m) × (m < 3) → Fact th K (m + 3) k s
+pub verdict : (th : Theory) (K : ℕ) (k : Key) (s : State) {m : ℕ} {r : Bool} → (r ≡ true → Explained th K (k .nesting) (k .who) (k .number) s) → (r ≡ false → Explained th K (k .nesting) (k .who) (k .number) s → ⊥) → (m ≡ 1 → r ≡ false) × (m ≡ 2 → r ≡ true) × (0 < m) × (m < 3) → Fact th K (m + 3) k s
 verdict th K k s sound complete (f, g, pos, few) = record { no = λ z. absurd (omega (arith, z)); yes = λ z. absurd (omega (arith, z)); none = λ z. absurd (omega (arith, z, pos)); unexplained = λ z. complete (f (omega (arith, z))); explained = λ z. sound (g (omega (arith, z))) }
 
 -- a state that is not above itself, by what follows it
-module _ (th : Theory) (K e c base left : ℕ) (states : ℕ → State) (some : 0 < left) (here : base < utilityTo th c (states 0) → ⊥) {M : List ℕ → Type 0} {slot : ℕ} {was now : List ℕ} {r : Bool} (told : Told M slot was now r (AboveBySome th K e c base (suc (left - 1)) (states 0))) where
+module _ (th : Theory) (K e c base left : ℕ) (s : State) (some : 0 < left) (here : base < utilityTo th c s → ⊥) {M : List ℕ → Type 0} {slot : ℕ} {was now : List ℕ} {r : Bool} (told : Told M slot was now r (AboveBySome th K e c base (suc (left - 1)) s)) where
   up : suc (suc (left - 1)) ≡ suc left
   up = omega arith
 
-  pub extended : Told M slot was now r (inner.Above th K e c base (suc left) (states 0))
+  pub extended : Told M slot was now r (inner.Above th K e c base (suc left) s)
   extended = record {
-    sound = λ z. let (x, by) = told .sound z in subst (λ (n : ℕ). inner.Above th K e c base n (states 0)) up (reach-by th K e c base (suc (left - 1)) x (states 0) by);
-    complete = λ z g. reach-not th K e c base (suc (left - 1)) (states 0) here (λ x l by. told .complete z (x, by)) (subst (λ (n : ℕ). inner.Above th K e c base n (states 0)) (sym up) g);
+    sound = λ z. let (x, by) = told .sound z in subst (λ (n : ℕ). inner.Above th K e c base n s) up (reach-by th K e c base (suc (left - 1)) x s by);
+    complete = λ z g. reach-not th K e c base (suc (left - 1)) s here (λ x l by. told .complete z (x, by)) (subst (λ (n : ℕ). inner.Above th K e c base n s) (sym up) g);
     low = told .low;
     high = told .high;
     memory = told .memory;
   }
 
-  pub noted : {m : ℕ} → (m ≡ 1 → r ≡ false) × (m ≡ 2 → r ≡ true) × (0 < m) × (m < 3) → Fact th K m (record { who = c; nesting = e; left = left; base = base }) states
+  pub noted : {m : ℕ} → (m ≡ 1 → r ≡ false) × (m ≡ 2 → r ≡ true) × (0 < m) × (m < 3) → Fact th K m (record { who = c; nesting = e; number = left; base = base }) s
   noted (f, g, pos, few) = record { no = λ z. extended .complete (f z); yes = λ z. extended .sound (g z); none = λ z. absurd (omega (arith, z, few)); unexplained = λ z. absurd (omega (arith, z, few)); explained = λ z. absurd (omega (arith, z, few)) }

@@ -4,14 +4,17 @@
 // In the slots stand the state asked about, one for each action of the author's list, and one for each action of each
 // explanation within it, at most 8 + 6 x 3 more. A belief is a row of the table that it is believed in and needs no
 // slot.
-use crate::fact::Key;
+use crate::fact::Deed;
+use crate::fact::Goal;
+use crate::fact::deed_key;
+use crate::fact::goal_key;
 use crate::fact::recall;
 use crate::fact::remember;
 use crate::known::known_step;
-use crate::limits::Foresight;
+use crate::limits::Context;
 use crate::limits::Nesting;
+use crate::look::Hope;
 use crate::look::next_promising;
-use crate::memory::Shape;
 use crate::memory::table_in;
 use pack::judge::utility;
 use pack::number::wide;
@@ -29,32 +32,25 @@ ghost use Rattle.planner.specs.Inner.Lists.{slotTable, Other, Above, Abo
 ghost use Rattle.planner.specs.Inner.Explain.{Prepared, Free, Answers};
 ghost use Rattle.transition.specs.Contracts.Stage.{slotRoom};
 
-// Whether character c's action a is explained: as is known, or as is found out.
+// Whether a deed is explained: as is known, or as is found out.
 pub fn explained(
     pack: &[u8],
     places: &[u16],
-    p: Shape,
+    p: Context,
     work: &mut [u8],
     slot: usize,
-    c: usize,
-    a: usize,
-    k: Foresight,
-    e: Nesting,
+    d: Deed,
 ) -> bool
-    requires { ⌜ Prepared (k .0) (now pack) (now places) p (now work) (slotTable p (now work) slot) (slot + slotRoom)
-        × (c < p .characters) × (a < p .actions) × (0 < k .0) × (k .0 ≤ 6) × Free slot (1 + k .0 * e .0) ⌝ }
-    ensures { λ r. ⌜ Answers (k .0) (now (pack .entry)) (now (places .entry)) p slot (now (work .entry))
-        (now (work .exit)) r (λ th s. Explained th (k .0) (e .0) c a s) ⌝ }
+    requires { ⌜ Prepared (now pack) (now places) p (now work) (slotTable p (now work) slot) (slot + slotRoom)
+        × (d .who < p .characters) × (d .action < p .actions) × (0 < p .foresight .0) × (p .foresight .0 ≤ 6)
+        × Free slot (1 + p .foresight .0 * d .nesting .0) ⌝ }
+    ensures { λ r. ⌜ Answers (now (pack .entry)) (now (places .entry)) p slot (now (work .entry))
+        (now (work .exit)) r (λ th s. Explained th (p .foresight .0) (d .nesting .0) (d .who) (d .action) s) ⌝ }
 {
-    if e.0 == 0 {
+    if d.nesting.0 == 0 {
         return false;
     }
-    let key = Key {
-        who: c,
-        nesting: e.0,
-        left: a,
-        base: 0,
-    };
+    let key = deed_key(d);
     let known = recall(work, p, slot, key);
     if known == 4 {
         return false;
@@ -62,31 +58,28 @@ pub fn explained(
     if known == 5 {
         return true;
     }
-    let found = explains(pack, places, p, work, slot, c, a, k, e);
+    let found = explains(pack, places, p, work, slot, d);
     remember(work, p, slot, mark(found) + 3, key);
     found
 }
 
-// As `explained`, by what c believes and the lists that begin with a there.
+// As `explained`, by what the character believes and the lists that begin with the action there.
 pub fn explains(
     pack: &[u8],
     places: &[u16],
-    p: Shape,
+    p: Context,
     work: &mut [u8],
     slot: usize,
-    c: usize,
-    a: usize,
-    k: Foresight,
-    e: Nesting,
+    d: Deed,
 ) -> bool
-    requires { ⌜ Prepared (k .0) (now pack) (now places) p (now work) (slotTable p (now work) slot) (slot + slotRoom)
-        × (c < p .characters) × (a < p .actions) × (0 < k .0) × (k .0 ≤ 6) × Free slot (1 + k .0 * e .0)
-        × (0 < e .0) ⌝ }
-    ensures { λ r. ⌜ Answers (k .0) (now (pack .entry)) (now (places .entry)) p slot (now (work .entry))
-        (now (work .exit)) r (λ th s. Explained th (k .0) (e .0) c a s) ⌝ }
+    requires { ⌜ Prepared (now pack) (now places) p (now work) (slotTable p (now work) slot) (slot + slotRoom)
+        × (d .who < p .characters) × (d .action < p .actions) × (0 < p .foresight .0) × (p .foresight .0 ≤ 6)
+        × Free slot (1 + p .foresight .0 * d .nesting .0) × (0 < d .nesting .0) ⌝ }
+    ensures { λ r. ⌜ Answers (now (pack .entry)) (now (places .entry)) p slot (now (work .entry))
+        (now (work .exit)) r (λ th s. Explained th (p .foresight .0) (d .nesting .0) (d .who) (d .action) s) ⌝ }
 {
-    let q = wide(work[slot + 1 + p.fluents + c]);
-    let number = known_step(pack, places, p, a, work, slot, q);
+    let q = wide(work[slot + 1 + p.fluents + d.who]);
+    let number = known_step(pack, places, p, d.action, work, slot, q);
     if number != 0 {
         return false;
     }
@@ -94,56 +87,53 @@ pub fn explains(
     let before = table_in(work, p, slot);
     let base = utility(
         pack,
-        places[CHARACTER_UTILITIES + c] as usize,
+        places[CHARACTER_UTILITIES + d.who] as usize,
         work,
         before,
         q,
     );
-    extends(
-        pack,
-        places,
-        p,
-        work,
-        next,
-        c,
-        k,
-        Nesting(e.0 - 1),
-        k.0 - 1,
-        base,
-    )
-}
-
-// Whether some list of at most `left` actions from the state in a slot ends with c's utility above base.
-pub fn extends(
-    pack: &[u8],
-    places: &[u16],
-    p: Shape,
-    work: &mut [u8],
-    slot: usize,
-    c: usize,
-    k: Foresight,
-    e: Nesting,
-    left: usize,
-    base: usize,
-) -> bool
-    requires { ⌜ Prepared (k .0) (now pack) (now places) p (now work) (slotTable p (now work) slot) (slot + slotRoom)
-        × (c < p .characters) × (0 < k .0) × (k .0 ≤ 6) × Free slot (1 + left + k .0 * e .0) ⌝ }
-    ensures { λ r. ⌜ Answers (k .0) (now (pack .entry)) (now (places .entry)) p slot (now (work .entry))
-        (now (work .exit)) r (λ th s. Above th (k .0) (e .0) c base (suc left) s) ⌝ }
-{
-    let t = table_in(work, p, slot);
-    if base < utility(pack, places[CHARACTER_UTILITIES + c] as usize, work, t, 0) {
-        return true;
-    }
-    if left == 0 {
-        return false;
-    }
-    let key = Key {
-        who: c,
-        nesting: e.0,
+    let nesting = Nesting(d.nesting.0 - 1);
+    let left = p.foresight.0 - 1;
+    let goal = Goal {
+        who: d.who,
+        nesting,
         left,
         base,
     };
+    extends(pack, places, p, work, next, goal)
+}
+
+// Whether some list of at most so many actions as are left to a goal leads to it from the state in a slot.
+pub fn extends(
+    pack: &[u8],
+    places: &[u16],
+    p: Context,
+    work: &mut [u8],
+    slot: usize,
+    g: Goal,
+) -> bool
+    requires { ⌜ Prepared (now pack) (now places) p (now work) (slotTable p (now work) slot) (slot + slotRoom)
+        × (g .who < p .characters) × (0 < p .foresight .0) × (p .foresight .0 ≤ 6)
+        × Free slot (1 + g .left + p .foresight .0 * g .nesting .0) ⌝ }
+    ensures { λ r. ⌜ Answers (now (pack .entry)) (now (places .entry)) p slot (now (work .entry))
+        (now (work .exit)) r (λ th s. Above th (p .foresight .0) (g .nesting .0) (g .who) (g .base) (suc (g .left)) s) ⌝ }
+{
+    let t = table_in(work, p, slot);
+    if g.base
+        < utility(
+            pack,
+            places[CHARACTER_UTILITIES + g.who] as usize,
+            work,
+            t,
+            0,
+        )
+    {
+        return true;
+    }
+    if g.left == 0 {
+        return false;
+    }
+    let key = goal_key(g);
     let known = recall(work, p, slot, key);
     if known == 1 {
         return false;
@@ -151,7 +141,15 @@ pub fn extends(
     if known == 2 {
         return true;
     }
-    let found = extends_by(pack, places, p, work, slot, c, k, e, left - 1, base);
+    let nesting = g.nesting;
+    let left = g.left - 1;
+    let rest = Goal {
+        who: g.who,
+        nesting,
+        left,
+        base: g.base,
+    };
+    let found = extends_by(pack, places, p, work, slot, rest);
     remember(work, p, slot, mark(found), key);
     found
 }
@@ -163,57 +161,61 @@ pub fn mark(found: bool) -> u8
     if found { 2 } else { 1 }
 }
 
-// Whether some action, and then some list of at most `left` actions, leads from the state in a slot to c's utility
-// above base.
+// Whether some action, and then some list as `extends` looks for, does.
 pub fn extends_by(
     pack: &[u8],
     places: &[u16],
-    p: Shape,
+    p: Context,
     work: &mut [u8],
     slot: usize,
-    c: usize,
-    k: Foresight,
-    e: Nesting,
-    left: usize,
-    base: usize,
+    g: Goal,
 ) -> bool
-    requires { ⌜ Prepared (k .0) (now pack) (now places) p (now work) (slotTable p (now work) slot) (slot + slotRoom)
-        × (c < p .characters) × (0 < k .0) × (k .0 ≤ 6) × Free slot (2 + left + k .0 * e .0) ⌝ }
-    ensures { λ r. ⌜ Answers (k .0) (now (pack .entry)) (now (places .entry)) p slot (now (work .entry))
-        (now (work .exit)) r (λ th s. AboveBySome th (k .0) (e .0) c base (suc left) s) ⌝ }
+    requires { ⌜ Prepared (now pack) (now places) p (now work) (slotTable p (now work) slot) (slot + slotRoom)
+        × (g .who < p .characters) × (0 < p .foresight .0) × (p .foresight .0 ≤ 6)
+        × Free slot (2 + g .left + p .foresight .0 * g .nesting .0) ⌝ }
+    ensures { λ r. ⌜ Answers (now (pack .entry)) (now (places .entry)) p slot (now (work .entry))
+        (now (work .exit)) r (λ th s. AboveBySome th (p .foresight .0) (g .nesting .0) (g .who) (g .base) (suc (g .left)) s) ⌝ }
 {
-    let mut x = next_promising(pack, places, p, work, slot, 0, c + 1, left, base);
+    let whose = g.who + 1;
+    let hope = Hope {
+        whose,
+        left: g.left,
+        base: g.base,
+    };
+    let mut x = next_promising(pack, places, p, work, slot, 0, hope);
     while x < p.actions {
-        let found = via(pack, places, p, work, slot, c, x, k, e, left, base);
+        let found = via(pack, places, p, work, slot, x, g);
         if found {
             return true;
         }
-        x = next_promising(pack, places, p, work, slot, x + 1, c + 1, left, base);
+        x = next_promising(pack, places, p, work, slot, x + 1, hope);
     }
     false
 }
 
-// Whether action x, and then some list of at most `left` actions, leads from the state in a slot to c's utility above
-// base.
+// Whether action x, and then some list as `extends` looks for, does.
 pub fn via(
     pack: &[u8],
     places: &[u16],
-    p: Shape,
+    p: Context,
     work: &mut [u8],
     slot: usize,
-    c: usize,
     x: usize,
-    k: Foresight,
-    e: Nesting,
-    left: usize,
-    base: usize,
+    g: Goal,
 ) -> bool
-    requires { ⌜ Prepared (k .0) (now pack) (now places) p (now work) (slotTable p (now work) slot) (slot + slotRoom)
-        × (c < p .characters) × (x < p .actions) × (0 < k .0) × (k .0 ≤ 6) × Free slot (2 + left + k .0 * e .0) ⌝ }
-    ensures { λ r. ⌜ Answers (k .0) (now (pack .entry)) (now (places .entry)) p slot (now (work .entry))
-        (now (work .exit)) r (λ th s. AboveBy th (k .0) (e .0) c base (suc left) x s) ⌝ }
+    requires { ⌜ Prepared (now pack) (now places) p (now work) (slotTable p (now work) slot) (slot + slotRoom)
+        × (g .who < p .characters) × (x < p .actions) × (0 < p .foresight .0) × (p .foresight .0 ≤ 6)
+        × Free slot (2 + g .left + p .foresight .0 * g .nesting .0) ⌝ }
+    ensures { λ r. ⌜ Answers (now (pack .entry)) (now (places .entry)) p slot (now (work .entry))
+        (now (work .exit)) r (λ th s. AboveBy th (p .foresight .0) (g .nesting .0) (g .who) (g .base) (suc (g .left)) x s) ⌝ }
 {
-    let agreed = allowed(pack, places, p, work, slot, c, x, k, e);
+    let nesting = g.nesting;
+    let deed = Deed {
+        who: g.who,
+        nesting,
+        action: x,
+    };
+    let agreed = allowed(pack, places, p, work, slot, deed);
     if !agreed {
         return false;
     }
@@ -221,32 +223,30 @@ pub fn via(
     if number != 0 {
         return false;
     }
-    extends(pack, places, p, work, slot + SLOT, c, k, e, left, base)
+    extends(pack, places, p, work, slot + SLOT, g)
 }
 
-// Whether action x is explained to each of its consenters other than `who`.
+// Whether the deed's action is explained to each of its consenters other than the one whose deed it is.
 pub fn allowed(
     pack: &[u8],
     places: &[u16],
-    p: Shape,
+    p: Context,
     work: &mut [u8],
     slot: usize,
-    who: usize,
-    x: usize,
-    k: Foresight,
-    e: Nesting,
+    d: Deed,
 ) -> bool
-    requires { ⌜ Prepared (k .0) (now pack) (now places) p (now work) (slotTable p (now work) slot) (slot + slotRoom)
-        × (x < p .actions) × (0 < k .0) × (k .0 ≤ 6) × Free slot (1 + k .0 * e .0) ⌝ }
-    ensures { λ r. ⌜ Answers (k .0) (now (pack .entry)) (now (places .entry)) p slot (now (work .entry))
-        (now (work .exit)) r (λ th s. Agreed th (k .0) (e .0) who x s) ⌝ }
+    requires { ⌜ Prepared (now pack) (now places) p (now work) (slotTable p (now work) slot) (slot + slotRoom)
+        × (d .action < p .actions) × (0 < p .foresight .0) × (p .foresight .0 ≤ 6)
+        × Free slot (1 + p .foresight .0 * d .nesting .0) ⌝ }
+    ensures { λ r. ⌜ Answers (now (pack .entry)) (now (places .entry)) p slot (now (work .entry))
+        (now (work .exit)) r (λ th s. Agreed th (p .foresight .0) (d .nesting .0) (d .who) (d .action) s) ⌝ }
 {
-    let at = places[ACTION * x + CONSENTERS] as usize;
+    let at = places[ACTION * d.action + CONSENTERS] as usize;
     let count = consenters(pack, at);
     let mut i = 0;
     while i < count {
-        let d = consenter(pack, at, i);
-        let content = fine(pack, places, p, work, slot, who, d, x, k, e);
+        let c = consenter(pack, at, i);
+        let content = fine(pack, places, p, work, slot, c, d);
         if !content {
             return false;
         }
@@ -255,26 +255,30 @@ pub fn allowed(
     true
 }
 
-// Whether d, if it is another than `who`, has action x explained to it.
+// Whether c, if it is another than that one, has it explained.
 pub fn fine(
     pack: &[u8],
     places: &[u16],
-    p: Shape,
+    p: Context,
     work: &mut [u8],
     slot: usize,
-    who: usize,
-    d: usize,
-    x: usize,
-    k: Foresight,
-    e: Nesting,
+    c: usize,
+    d: Deed,
 ) -> bool
-    requires { ⌜ Prepared (k .0) (now pack) (now places) p (now work) (slotTable p (now work) slot) (slot + slotRoom)
-        × (d < p .characters) × (x < p .actions) × (0 < k .0) × (k .0 ≤ 6) × Free slot (1 + k .0 * e .0) ⌝ }
-    ensures { λ r. ⌜ Answers (k .0) (now (pack .entry)) (now (places .entry)) p slot (now (work .entry))
-        (now (work .exit)) r (λ th s. Other who d → Explained th (k .0) (e .0) d x s) ⌝ }
+    requires { ⌜ Prepared (now pack) (now places) p (now work) (slotTable p (now work) slot) (slot + slotRoom)
+        × (c < p .characters) × (d .action < p .actions) × (0 < p .foresight .0) × (p .foresight .0 ≤ 6)
+        × Free slot (1 + p .foresight .0 * d .nesting .0) ⌝ }
+    ensures { λ r. ⌜ Answers (now (pack .entry)) (now (places .entry)) p slot (now (work .entry))
+        (now (work .exit)) r (λ th s. Other (d .who) c → Explained th (p .foresight .0) (d .nesting .0) c (d .action) s) ⌝ }
 {
-    if d == who {
+    if c == d.who {
         return true;
     }
-    explained(pack, places, p, work, slot, d, x, k, e)
+    let nesting = d.nesting;
+    let deed = Deed {
+        who: c,
+        nesting,
+        action: d.action,
+    };
+    explained(pack, places, p, work, slot, deed)
 }

@@ -1,5 +1,6 @@
 // What is known of the lists from a state: entries by the name of its table, one for each hash, each true.
-use crate::memory::Shape;
+use crate::limits::Context;
+use crate::limits::Nesting;
 use crate::memory::name_of;
 use crate::regions::LISTS;
 use pack::number::wide;
@@ -8,15 +9,58 @@ ghost use mathlib.Core.Bool.{true};
 ghost use Prim.Native.Nat.{_+_, _*_, _<_, _≤_};
 ghost use lib.ListN.{length};
 ghost use Rattle.planner.specs.Inner.Lists.{slotTable};
-ghost use Rattle.planner.specs.Inner.Memory.{Before, Place, Storable, KeyPut, Recalled, Remembered, keyAt};
+ghost use Rattle.planner.specs.Inner.Memory.{Before, Place, Storable, KeyPut, Recalled, Remembered};
+ghost use Rattle.planner.specs.Inner.Memory.{goalKey, deedKey, keyAt};
 
-// Whose list it is that is known about, at which nesting, how many actions are left to it, and above which utility it
-// is to end.
+// A list that is looked for: whose, at which nesting its actions are to be explained, how many are left to it, and
+// above which utility it is to end.
+pub struct Goal {
+    pub who: usize,
+    pub nesting: Nesting,
+    pub left: usize,
+    pub base: usize,
+}
+
+// Whose goal the author's is: no character's.
+pub const AUTHOR: usize = 7;
+
+// A character and an action, which is to be explained to it at a nesting.
+pub struct Deed {
+    pub who: usize,
+    pub nesting: Nesting,
+    pub action: usize,
+}
+
+// What an entry is found by: the numbers of a goal or of a deed, as its bytes keep them.
 pub struct Key {
     pub who: usize,
     pub nesting: usize,
-    pub left: usize,
+    pub number: usize,
     pub base: usize,
+}
+
+// The key of what is known of a goal.
+pub fn goal_key(g: Goal) -> Key
+    ensures { λ r. ⌜ r ≡ goalKey g ⌝ }
+{
+    Key {
+        who: g.who,
+        nesting: g.nesting.0,
+        number: g.left,
+        base: g.base,
+    }
+}
+
+// The key of the verdict on a deed.
+pub fn deed_key(d: Deed) -> Key
+    ensures { λ r. ⌜ r ≡ deedKey d ⌝ }
+{
+    Key {
+        who: d.who,
+        nesting: d.nesting.0,
+        number: d.action,
+        base: 0,
+    }
 }
 
 // The place of the entry for a name and a key.
@@ -24,7 +68,7 @@ pub fn fact_at(name: usize, k: Key) -> usize
     requires { ⌜ name < 256 ⌝ }
     ensures { λ r. ⌜ Place 256 44160 7 r ⌝ }
 {
-    let h = name * 11 + k.who % 8 * 37 + k.left % 32 * 5 + k.nesting % 4;
+    let h = name * 11 + k.who % 8 * 37 + k.number % 32 * 5 + k.nesting % 4;
     LISTS + 7 * (h % 256)
 }
 
@@ -39,7 +83,7 @@ pub fn keyed(work: &[u8], at: usize, k: Key) -> bool
     if wide(work[at + 2]) != k.nesting {
         return false;
     }
-    if wide(work[at + 3]) != k.left {
+    if wide(work[at + 3]) != k.number {
         return false;
     }
     wide(work[at + 4]) + 256 * wide(work[at + 5]) == k.base
@@ -58,14 +102,14 @@ pub fn storable(name: usize, k: Key) -> bool
     if 255 < k.nesting {
         return false;
     }
-    if 255 < k.left {
+    if 255 < k.number {
         return false;
     }
     k.base < 65536
 }
 
 // The mark of what is known of the table in a slot by this key; 0 where nothing is.
-pub fn recall(work: &mut [u8], p: Shape, slot: usize, k: Key) -> u8
+pub fn recall(work: &mut [u8], p: Context, slot: usize, k: Key) -> u8
     requires { ⌜ Before p (now work) (slotTable p (now work) slot) ⌝ }
     ensures { λ r. ⌜ Recalled p (slotTable p (now (work .entry)) slot) k (now (work .entry)) (now (work .exit)) r ⌝ }
 {
@@ -85,20 +129,20 @@ pub fn recall(work: &mut [u8], p: Shape, slot: usize, k: Key) -> u8
 
 // Writes an entry's mark and key.
 pub fn put_key(work: &mut [u8], at: usize, mark: u8, k: Key)
-    requires { ⌜ (at + 6 ≤ length (now work)) × (k .who < 256) × (k .nesting < 256) × (k .left < 256)
+    requires { ⌜ (at + 6 ≤ length (now work)) × (k .who < 256) × (k .nesting < 256) × (k .number < 256)
         × (k .base < 65536) ⌝ }
     ensures { λ _. ⌜ KeyPut (now (work .entry)) (now (work .exit)) at mark k ⌝ }
 {
     work[at] = mark;
     work[at + 1] = k.who as u8;
     work[at + 2] = k.nesting as u8;
-    work[at + 3] = k.left as u8;
+    work[at + 3] = k.number as u8;
     work[at + 4] = (k.base % 256) as u8;
     work[at + 5] = (k.base / 256) as u8;
 }
 
 // Puts down what is known of the table in a slot by this key, in the place of what stood there.
-pub fn remember(work: &mut [u8], p: Shape, slot: usize, mark: u8, k: Key)
+pub fn remember(work: &mut [u8], p: Context, slot: usize, mark: u8, k: Key)
     requires { ⌜ Before p (now work) (slotTable p (now work) slot) ⌝ }
     ensures { λ _. ⌜ Remembered p (slotTable p (now (work .entry)) slot) mark k (now (work .entry))
         (now (work .exit)) ⌝ }

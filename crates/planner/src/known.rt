@@ -1,5 +1,5 @@
 // Steps that are known: what an action leaves of a row of a kept table is made once, and then copied.
-use crate::memory::Shape;
+use crate::limits::Context;
 use crate::memory::name_anew;
 use crate::memory::name_of;
 use crate::memory::table_in;
@@ -59,7 +59,7 @@ pub fn put_step(work: &mut [u8], at: usize, name: usize, root: usize, action: us
 }
 
 // The same for a table in a slot that has a name.
-pub fn note(work: &mut [u8], p: Shape, t: Table, root: usize, action: usize, next: usize)
+pub fn note(work: &mut [u8], p: Context, t: Table, root: usize, action: usize, next: usize)
     requires { ⌜ Before p (now work) t × (root < 256) × (action < 256) × (next < 256) ⌝ }
     ensures { λ _. ⌜ Noted p t root action next (now (work .entry)) (now (work .exit)) ⌝ }
 {
@@ -71,7 +71,7 @@ pub fn note(work: &mut [u8], p: Shape, t: Table, root: usize, action: usize, nex
 }
 
 // Copies the table of a name into a slot, or does nothing where it is 0; a refusal's number or 0, as a step.
-pub fn again(work: &mut [u8], p: Shape, next: usize, slot: usize) -> u8
+pub fn again(work: &mut [u8], p: Context, next: usize, slot: usize) -> u8
     requires { ⌜ Slot p (now work) slot × (next < 256) × (0 < next → Kept p (now work) next) ⌝ }
     ensures { λ r. ⌜ Again p next slot (now (work .entry)) (now (work .exit)) r ⌝ }
 {
@@ -86,7 +86,7 @@ pub fn again(work: &mut [u8], p: Shape, next: usize, slot: usize) -> u8
 }
 
 // Names what a step has left in a slot, and puts the step down.
-pub fn note_left(work: &mut [u8], p: Shape, t: Table, root: usize, action: usize, slot: usize)
+pub fn note_left(work: &mut [u8], p: Context, t: Table, root: usize, action: usize, slot: usize)
     requires { ⌜ Before p (now work) t × (root < 256) × (action < 256) × Slot p (now work) slot
         × (getD (now work) slot 0 ≤ 32) ⌝ }
     ensures { λ _. ⌜ LeftNoted p t root action slot (now (work .entry)) (now (work .exit)) ⌝ }
@@ -102,7 +102,7 @@ pub fn note_left(work: &mut [u8], p: Shape, t: Table, root: usize, action: usize
 pub fn known_step(
     pack: &[u8],
     places: &[u16],
-    p: Shape,
+    p: Context,
     action: usize,
     work: &mut [u8],
     slot: usize,

@@ -13,6 +13,15 @@ pub struct Foresight(pub usize);
 // The nesting limit E: how often an explanation may rest on another, 0 to 3.
 pub struct Nesting(pub usize);
 
+// What stays the same through a call: a pack's counts, and the foresight limit.
+pub struct Context {
+    pub actions: usize,
+    pub triggers: usize,
+    pub fluents: usize,
+    pub characters: usize,
+    pub foresight: Foresight,
+}
+
 // Whether K and E are within their limits.
 pub fn explainable(k: Foresight, e: Nesting) -> bool
     ensures { λ r. ⌜ r ≡ (foresightLimit (k .0) && nestingLimit (e .0)) ⌝ }

@@ -4,7 +4,7 @@
 // Pruning: a test about the state itself, on a fluent that neither the action nor any trigger writes there, keeps its
 // outcome through the step; any other is left open. Where no rule above the old utility could hold, nobody is asked
 // and no step is made. Only a "no" is promised anything.
-use crate::memory::Shape;
+use crate::limits::Context;
 use crate::memory::table_in;
 use pack::effects::Wanted;
 use pack::effects::some_effect;
@@ -178,28 +178,34 @@ pub fn could_exceed(
     false
 }
 
-// Whether action x, with `left` actions behind it, is worth a try in row 0: its condition holds, and where it is the
-// last one it could leave a utility above base. `whose` is 0 for the author and c + 1 for character c.
+// For whose utility actions are tried, 0 for the author and c + 1 for character c; how many more may follow; and above
+// which utility they are to lead.
+pub struct Hope {
+    pub whose: usize,
+    pub left: usize,
+    pub base: usize,
+}
+
+// Whether action x is worth a try in row 0: its condition holds, and where it is the last one it could leave a utility
+// above base.
 pub fn promising(
     pack: &[u8],
     places: &[u16],
-    p: Shape,
+    p: Context,
     work: &[u8],
     t: Table,
     x: usize,
-    whose: usize,
-    left: usize,
-    base: usize,
+    h: Hope,
 ) -> bool
-    requires { ⌜ Tryable (now pack) (now places) (p .triggers) x (now work) t whose ⌝ }
+    requires { ⌜ Tryable (now pack) (now places) (p .triggers) x (now work) t (h .whose) ⌝ }
     ensures { λ r. ⌜ (r ≡ false
-        → Hopeless (now (pack .entry)) (now (places .entry)) (p .triggers) x (now (work .entry)) t whose left base) ⌝ }
+        → Hopeless (now (pack .entry)) (now (places .entry)) (p .triggers) x (now (work .entry)) t (h .whose) (h .left) (h .base)) ⌝ }
 {
     let may = holds(pack, places[ACTION * x] as usize, work, t, 0);
     if !may {
         return false;
     }
-    if 0 < left {
+    if 0 < h.left {
         return true;
     }
     could_exceed(
@@ -207,10 +213,10 @@ pub fn promising(
         places,
         p.triggers,
         x,
-        places[UTILITIES + whose] as usize,
+        places[UTILITIES + h.whose] as usize,
         work,
         t,
-        base,
+        h.base,
     )
 }
 
@@ -218,22 +224,20 @@ pub fn promising(
 pub fn next_promising(
     pack: &[u8],
     places: &[u16],
-    p: Shape,
+    p: Context,
     work: &[u8],
     slot: usize,
     x: usize,
-    whose: usize,
-    left: usize,
-    base: usize,
+    h: Hope,
 ) -> usize
-    requires { ⌜ Trying (now pack) (now places) p (now work) slot whose × (x ≤ p .actions) ⌝ }
+    requires { ⌜ Trying (now pack) (now places) p (now work) slot (h .whose) × (x ≤ p .actions) ⌝ }
     ensures { λ r. ⌜ Skipped (now (pack .entry)) (now (places .entry)) p
-        (now (work .entry)) slot whose left base x r ⌝ }
+        (now (work .entry)) slot (h .whose) (h .left) (h .base) x r ⌝ }
 {
     let t = table_in(work, p, slot);
     let mut y = x;
     while y < p.actions {
-        if promising(pack, places, p, work, t, y, whose, left, base) {
+        if promising(pack, places, p, work, t, y, h) {
             return y;
         }
         y += 1;

@@ -5,6 +5,7 @@
 // steps and facts are found. It is held byte for byte against the one that its hash leads to, so nothing proved
 // depends on the hash. Where there is no room, all is forgotten. A state is handed on as the slot that its table
 // stands in.
+use crate::limits::Context;
 use crate::regions::BEFORE_TABLES;
 use crate::regions::HASHED;
 use crate::regions::KEPT;
@@ -24,16 +25,8 @@ ghost use lib.ListN.{length};
 ghost use Rattle.planner.specs.Inner.Lists.{slotTable};
 ghost use Rattle.planner.specs.Inner.Memory.{Before, Named, Stored, Naming};
 
-// A pack's counts.
-pub struct Shape {
-    pub actions: usize,
-    pub triggers: usize,
-    pub fluents: usize,
-    pub characters: usize,
-}
-
 // The table in a slot.
-pub fn table_in(work: &[u8], p: Shape, slot: usize) -> Table
+pub fn table_in(work: &[u8], p: Context, slot: usize) -> Table
     requires { ⌜ (slot < length (now work)) × (p .fluents + p .characters ≤ 30) ⌝ }
     ensures { λ r. ⌜ r ≡ slotTable p (now (work .entry)) slot ⌝ }
 {
@@ -61,7 +54,7 @@ pub fn hash(work: &[u8], from: usize, n: usize) -> usize
 }
 
 // Whether a table is the one that is kept under a name.
-pub fn goes_by(work: &[u8], p: Shape, t: Table, name: usize) -> bool
+pub fn goes_by(work: &[u8], p: Context, t: Table, name: usize) -> bool
     requires { ⌜ Before p (now work) t × (name < 256) ⌝ }
     ensures { λ r. ⌜ (r ≡ true → Named p (now (work .entry)) t name) ⌝ }
 {
@@ -80,7 +73,7 @@ pub fn goes_by(work: &[u8], p: Shape, t: Table, name: usize) -> bool
 }
 
 // Keeps a table where there is room: its name, or 0.
-pub fn store(work: &mut [u8], p: Shape, t: Table) -> usize
+pub fn store(work: &mut [u8], p: Context, t: Table) -> usize
     requires { ⌜ Before p (now work) t ⌝ }
     ensures { λ r. ⌜ Stored p t (now (work .entry)) (now (work .exit)) r ⌝ }
 {
@@ -97,7 +90,7 @@ pub fn store(work: &mut [u8], p: Shape, t: Table) -> usize
 }
 
 // Keeps a table; where there is no room, all else is forgotten first.
-pub fn keep(work: &mut [u8], p: Shape, t: Table) -> usize
+pub fn keep(work: &mut [u8], p: Context, t: Table) -> usize
     requires { ⌜ Before p (now work) t ⌝ }
     ensures { λ r. ⌜ Stored p t (now (work .entry)) (now (work .exit)) r ⌝ }
 {
@@ -110,7 +103,7 @@ pub fn keep(work: &mut [u8], p: Shape, t: Table) -> usize
 }
 
 // The name of a table, which is kept if it is not yet; or 0.
-pub fn look_up(work: &mut [u8], p: Shape, t: Table) -> usize
+pub fn look_up(work: &mut [u8], p: Context, t: Table) -> usize
     requires { ⌜ Before p (now work) t ⌝ }
     ensures { λ r. ⌜ Stored p t (now (work .entry)) (now (work .exit)) r ⌝ }
 {
@@ -125,7 +118,7 @@ pub fn look_up(work: &mut [u8], p: Shape, t: Table) -> usize
 }
 
 // As `look_up`, of the table in a slot, whose name is known from then on.
-pub fn name_anew(work: &mut [u8], p: Shape, slot: usize) -> usize
+pub fn name_anew(work: &mut [u8], p: Context, slot: usize) -> usize
     requires { ⌜ Before p (now work) (slotTable p (now work) slot) ⌝ }
     ensures { λ r. ⌜ Naming p (slotTable p (now (work .entry)) slot) (now (work .entry)) (now (work .exit)) r ⌝ }
 {
@@ -136,7 +129,7 @@ pub fn name_anew(work: &mut [u8], p: Shape, slot: usize) -> usize
 }
 
 // The same where the slot's name is not known yet. It mostly is, so the way there is short.
-pub fn name_of(work: &mut [u8], p: Shape, slot: usize) -> usize
+pub fn name_of(work: &mut [u8], p: Context, slot: usize) -> usize
     requires { ⌜ Before p (now work) (slotTable p (now work) slot) ⌝ }
     ensures { λ r. ⌜ Naming p (slotTable p (now (work .entry)) slot) (now (work .entry)) (now (work .exit)) r ⌝ }
 {

@@ -8,16 +8,20 @@
 // consenter has.
 use crate::Found;
 use crate::explain::allowed;
-use crate::fact::Key;
+use crate::fact::AUTHOR;
+use crate::fact::Deed;
+use crate::fact::Goal;
+use crate::fact::goal_key;
 use crate::fact::recall;
 use crate::fact::remember;
 use crate::known::known_step;
+use crate::limits::Context;
 use crate::limits::Foresight;
 use crate::limits::Nesting;
 use crate::limits::Story;
 use crate::limits::searchable;
+use crate::look::Hope;
 use crate::look::next_promising;
-use crate::memory::Shape;
 use crate::memory::table_in;
 use crate::regions::BEFORE_LISTS;
 use crate::regions::LISTS;
@@ -62,56 +66,45 @@ pub struct Ended {
     pub after: usize,
 }
 
-// The author's utility at the end of the earliest list of exactly `left` actions from the state in a slot that ends
-// above base, which is put down from `done` on; or 0.
+// The author's utility at the end of the earliest list of exactly so many actions as are left to the goal, from the
+// state in the slot behind `done` others, that ends above base; the list is put down from `done` on. Or 0.
 pub fn completes(
     pack: &[u8],
     places: &[u16],
-    p: Shape,
+    p: Context,
     work: &mut [u8],
-    slot: usize,
     list: &mut [u8],
     done: usize,
-    k: Foresight,
-    e: Nesting,
-    left: usize,
-    base: usize,
+    g: Goal,
 ) -> usize
-    requires { ⌜ Underway (k .0) (e .0) base (now pack) (now places) p (now work) slot done left × (0 < k .0)
-        × (k .0 ≤ 6) × Free slot (1 + left + k .0 * e .0) × (done + left ≤ length (now list))
-        × (slot ≡ done * slotRoom) ⌝ }
-    ensures { λ r. ⌜ Finds (k .0) (e .0) base (now (pack .entry)) (now (places .entry)) p slot done left
+    requires { ⌜ Underway (g .nesting .0) (g .base) (now pack) (now places) p (now work) done (g .left)
+        × (0 < p .foresight .0) × (p .foresight .0 ≤ 6)
+        × Free (done * slotRoom) (1 + g .left + p .foresight .0 * g .nesting .0)
+        × (done + g .left ≤ length (now list)) ⌝ }
+    ensures { λ r. ⌜ Finds (g .nesting .0) (g .base) (now (pack .entry)) (now (places .entry)) p done (g .left)
         (now (list .entry)) (now (list .exit)) (now (work .entry)) (now (work .exit)) r
-        (λ th. Ends th (k .0) (e .0) base) ⌝ }
+        (λ th. Ends th (p .foresight .0) (g .nesting .0) (g .base)) ⌝ }
 {
-    if left == 0 {
-        return ends(pack, places, p, work, slot, base);
+    let slot = done * SLOT;
+    if g.left == 0 {
+        return ends(pack, places, p, work, slot, g.base);
     }
     if repeats(work, p, slot, done) {
         return 0;
     }
-    let key = Key {
-        who: 7,
-        nesting: e.0,
-        left,
-        base,
-    };
+    let key = goal_key(g);
     if recall(work, p, slot, key) == 3 {
         return 0;
     }
-    let after = completes_after(
-        pack,
-        places,
-        p,
-        work,
-        slot,
-        list,
-        done,
-        k,
-        e,
-        left - 1,
-        base,
-    );
+    let nesting = g.nesting;
+    let left = g.left - 1;
+    let rest = Goal {
+        who: g.who,
+        nesting,
+        left,
+        base: g.base,
+    };
+    let after = completes_after(pack, places, p, work, list, done, rest);
     if after == 0 {
         remember(work, p, slot, 3, key);
     }
@@ -119,7 +112,7 @@ pub fn completes(
 }
 
 // How many bytes the table in a slot takes, with its count.
-pub fn extent(work: &[u8], p: Shape, slot: usize) -> usize
+pub fn extent(work: &[u8], p: Context, slot: usize) -> usize
     requires { ⌜ Before p (now work) (slotTable p (now work) slot) ⌝ }
     ensures { λ r. ⌜ r ≡ 1 + getD (now (work .entry)) slot 0 * (p .fluents + p .characters) ⌝ }
 {
@@ -129,7 +122,7 @@ pub fn extent(work: &[u8], p: Shape, slot: usize) -> usize
 
 // Whether the state in a slot, the last of `done` + 1, is one of those in the slots before it. Written charts stand in
 // them, so equal bytes are the same state, and only they are.
-pub fn repeats(work: &[u8], p: Shape, slot: usize, done: usize) -> bool
+pub fn repeats(work: &[u8], p: Context, slot: usize, done: usize) -> bool
     requires { ⌜ Before p (now work) (slotTable p (now work) slot) × (slot ≡ done * slotRoom)
         × OnPath p (now work) done ⌝ }
     ensures { λ r. ⌜ (r ≡ true → Repeated p (now (work .entry)) slot done)
@@ -150,37 +143,40 @@ pub fn repeats(work: &[u8], p: Shape, slot: usize, done: usize) -> bool
 pub fn completes_after(
     pack: &[u8],
     places: &[u16],
-    p: Shape,
+    p: Context,
     work: &mut [u8],
-    slot: usize,
     list: &mut [u8],
     done: usize,
-    k: Foresight,
-    e: Nesting,
-    left: usize,
-    base: usize,
+    g: Goal,
 ) -> usize
-    requires { ⌜ Underway (k .0) (e .0) base (now pack) (now places) p (now work) slot done (suc left) × (0 < k .0)
-        × (k .0 ≤ 6) × Free slot (2 + left + k .0 * e .0) × (done + suc left ≤ length (now list))
-        × (slot ≡ done * slotRoom) ⌝ }
-    ensures { λ r. ⌜ Finds (k .0) (e .0) base (now (pack .entry)) (now (places .entry)) p slot done (suc left)
+    requires { ⌜ Underway (g .nesting .0) (g .base) (now pack) (now places) p (now work) done (suc (g .left))
+        × (0 < p .foresight .0) × (p .foresight .0 ≤ 6)
+        × Free (done * slotRoom) (2 + g .left + p .foresight .0 * g .nesting .0)
+        × (done + suc (g .left) ≤ length (now list)) ⌝ }
+    ensures { λ r. ⌜ Finds (g .nesting .0) (g .base) (now (pack .entry)) (now (places .entry)) p done (suc (g .left))
         (now (list .entry)) (now (list .exit)) (now (work .entry)) (now (work .exit)) r
-        (λ th. Ends th (k .0) (e .0) base) ⌝ }
+        (λ th. Ends th (p .foresight .0) (g .nesting .0) (g .base)) ⌝ }
 {
+    let slot = done * SLOT;
     let actions = p.actions;
-    let mut x = next_promising(pack, places, p, work, slot, 0, 0, left, base);
+    let hope = Hope {
+        whose: 0,
+        left: g.left,
+        base: g.base,
+    };
+    let mut x = next_promising(pack, places, p, work, slot, 0, hope);
     while x < actions {
-        let after = completes_by(pack, places, p, work, slot, list, done, x, k, e, left, base);
+        let after = completes_by(pack, places, p, work, list, done, x, g);
         if after != 0 {
             return after;
         }
-        x = next_promising(pack, places, p, work, slot, x + 1, 0, left, base);
+        x = next_promising(pack, places, p, work, slot, x + 1, hope);
     }
     0
 }
 
 // The author's utility in the state in a slot where it is above base, or 0.
-pub fn ends(pack: &[u8], places: &[u16], p: Shape, work: &[u8], slot: usize, base: usize) -> usize
+pub fn ends(pack: &[u8], places: &[u16], p: Context, work: &[u8], slot: usize, base: usize) -> usize
     requires { ⌜ Staged (now pack) (now places) p (now work) (slotTable p (now work) slot) (slot + slotRoom)
         × Free slot 1 ⌝ }
     ensures { λ r. ⌜ EndsHere base (now (pack .entry)) (now (places .entry)) p slot (now (work .entry)) r ⌝ }
@@ -194,25 +190,29 @@ pub fn ends(pack: &[u8], places: &[u16], p: Shape, work: &[u8], slot: usize, bas
 pub fn completes_by(
     pack: &[u8],
     places: &[u16],
-    p: Shape,
+    p: Context,
     work: &mut [u8],
-    slot: usize,
     list: &mut [u8],
     done: usize,
     x: usize,
-    k: Foresight,
-    e: Nesting,
-    left: usize,
-    base: usize,
+    g: Goal,
 ) -> usize
-    requires { ⌜ Underway (k .0) (e .0) base (now pack) (now places) p (now work) slot done (suc left)
-        × (x < p .actions) × (0 < k .0) × (k .0 ≤ 6) × Free slot (2 + left + k .0 * e .0)
-        × (done + suc left ≤ length (now list)) × (slot ≡ done * slotRoom) ⌝ }
-    ensures { λ r. ⌜ Finds (k .0) (e .0) base (now (pack .entry)) (now (places .entry)) p slot done (suc left)
+    requires { ⌜ Underway (g .nesting .0) (g .base) (now pack) (now places) p (now work) done (suc (g .left))
+        × (x < p .actions) × (0 < p .foresight .0) × (p .foresight .0 ≤ 6)
+        × Free (done * slotRoom) (2 + g .left + p .foresight .0 * g .nesting .0)
+        × (done + suc (g .left) ≤ length (now list)) ⌝ }
+    ensures { λ r. ⌜ Finds (g .nesting .0) (g .base) (now (pack .entry)) (now (places .entry)) p done (suc (g .left))
         (now (list .entry)) (now (list .exit)) (now (work .entry)) (now (work .exit)) r
-        (λ th. EndsBy th (k .0) (e .0) base x) ⌝ }
+        (λ th. EndsBy th (p .foresight .0) (g .nesting .0) (g .base) x) ⌝ }
 {
-    let agreed = allowed(pack, places, p, work, slot, p.characters, x, k, e);
+    let slot = done * SLOT;
+    let nesting = g.nesting;
+    let deed = Deed {
+        who: p.characters,
+        nesting,
+        action: x,
+    };
+    let agreed = allowed(pack, places, p, work, slot, deed);
     if !agreed {
         return 0;
     }
@@ -220,45 +220,38 @@ pub fn completes_by(
     if number != 0 {
         return 0;
     }
-    let after = completes(
-        pack,
-        places,
-        p,
-        work,
-        slot + SLOT,
-        list,
-        done + 1,
-        k,
-        e,
-        left,
-        base,
-    );
+    let after = completes(pack, places, p, work, list, done + 1, g);
     if after != 0 {
         list[done] = x as u8;
     }
     after
 }
 
-// The shortest list of 1 to T actions from the state in the first slot, and of those the earliest.
+// The shortest list of at least one action, and at most so many as are left to the goal, from the state in the first
+// slot; and of those the earliest. Lists are looked for by their length: one, two, and so on.
 pub fn shortest(
     pack: &[u8],
     places: &[u16],
-    p: Shape,
+    p: Context,
     work: &mut [u8],
     list: &mut [u8],
-    s: Story,
-    k: Foresight,
-    e: Nesting,
-    base: usize,
+    g: Goal,
 ) -> Ended
-    requires { ⌜ Outset (k .0) base (now pack) (now places) p (now work) × (0 < k .0) × (k .0 ≤ 6) × (e .0 ≤ 3)
-        × (s .0 ≤ 8) × (8 ≤ length (now list)) ⌝ }
-    ensures { λ r. ⌜ ShortestFrom (s .0) (k .0) (e .0) base (now (pack .entry)) (now (places .entry)) p
+    requires { ⌜ Outset (g .base) (now pack) (now places) p (now work) × (0 < p .foresight .0)
+        × (p .foresight .0 ≤ 6) × (g .nesting .0 ≤ 3) × (g .left ≤ 8) × (8 ≤ length (now list)) ⌝ }
+    ensures { λ r. ⌜ ShortestFrom (g .left) (g .nesting .0) (g .base) (now (pack .entry)) (now (places .entry)) p
         (now (list .entry)) (now (list .exit)) (now (work .entry)) (now (work .exit)) r ⌝ }
 {
     let mut n = 1;
-    while n <= s.0 {
-        let after = completes(pack, places, p, work, 0, list, 0, k, e, n, base);
+    while n <= g.left {
+        let nesting = g.nesting;
+        let of_n = Goal {
+            who: g.who,
+            nesting,
+            left: n,
+            base: g.base,
+        };
+        let after = completes(pack, places, p, work, list, 0, of_n);
         if after != 0 {
             return Ended { count: n, after };
         }
@@ -269,7 +262,7 @@ pub fn shortest(
 
 // Lays the nodes that are read from `first` on out in the first slot, merged, and empties the memory: what is known of
 // lists first and the rest last, since each by itself is short enough to be cleared by plain stores.
-pub fn lay_start(pack: &[u8], first: usize, nodes: usize, p: Shape, work: &mut [u8])
+pub fn lay_start(pack: &[u8], first: usize, nodes: usize, p: Context, work: &mut [u8])
     requires { ⌜ Layable (now pack) first nodes p (now work) ⌝ }
     ensures { λ _. ⌜ ((T : List Node) → Laying T (now (pack .entry)) first nodes p (now (work .entry))
         → LaidStart T p (now (work .entry)) (now (work .exit))) ⌝ }
@@ -287,23 +280,28 @@ pub fn lay_start(pack: &[u8], first: usize, nodes: usize, p: Shape, work: &mut [
 pub fn search_nodes(
     pack: &[u8],
     places: &[u16],
-    p: Shape,
+    p: Context,
     first: usize,
     nodes: usize,
     s: Story,
-    k: Foresight,
     e: Nesting,
     list: &mut [u8],
     work: &mut [u8],
 ) -> Found
-    requires { ⌜ Seekable (now pack) (now places) p first nodes (s .0) (k .0) (e .0) (now list) (now work) ⌝ }
-    ensures { λ r. ⌜ SearchPutFrom (now (pack .entry)) (now (places .entry)) p first nodes (s .0) (k .0) (e .0)
+    requires { ⌜ Seekable (now pack) (now places) p first nodes (s .0) (p .foresight .0) (e .0) (now list) (now work) ⌝ }
+    ensures { λ r. ⌜ SearchPutFrom (now (pack .entry)) (now (places .entry)) p first nodes (s .0) (p .foresight .0) (e .0)
         (now (list .entry)) (now (list .exit)) (now (work .entry)) (now (work .exit)) r ⌝ }
 {
     lay_start(pack, first, nodes, p, work);
     let t = table_in(work, p, 0);
     let base = utility(pack, places[UTILITIES] as usize, work, t, 0);
-    let found = shortest(pack, places, p, work, list, s, k, e, base);
+    let goal = Goal {
+        who: AUTHOR,
+        nesting: e,
+        left: s.0,
+        base,
+    };
+    let found = shortest(pack, places, p, work, list, goal);
     clear(work, 0, WORK_ROOM);
     if found.count == 0 {
         return Found::Refused(NO_ENDING, 0);
@@ -333,13 +331,14 @@ pub fn search(
     match check_lent(nodes, enough, there) {
         Number::Refused(number, at) => Found::Refused(number, at),
         Number::Is(_, _) => {
-            let shape = Shape {
+            let context = Context {
                 actions: p.actions,
                 triggers: p.triggers,
                 fluents: p.fluents,
                 characters: p.characters,
+                foresight: k,
             };
-            search_nodes(pack, &places, shape, p.first, p.nodes, t, k, e, list, work)
+            search_nodes(pack, &places, context, p.first, p.nodes, t, e, list, work)
         }
     }
 }

@@ -1,10 +1,11 @@
 // Explained: the checks, and the verdict on a chart.
 use crate::Judged;
 use crate::explain::explained;
+use crate::fact::Deed;
+use crate::limits::Context;
 use crate::limits::Foresight;
 use crate::limits::Nesting;
 use crate::limits::explainable;
-use crate::memory::Shape;
 use crate::regions::BEFORE_TABLES;
 use crate::regions::NAMES;
 use chart::bytes::clear;
@@ -50,22 +51,20 @@ pub fn in_range(
 pub fn verdict_in(
     pack: &[u8],
     places: &[u16],
-    p: Shape,
+    p: Context,
     chart: &[u8],
     nodes: usize,
-    character: usize,
-    action: usize,
-    k: Foresight,
-    e: Nesting,
+    d: Deed,
     work: &mut [u8],
 ) -> bool
-    requires { ⌜ Judgeable (now pack) (now places) p (now chart) nodes character action (k .0) (e .0) (now work) ⌝ }
-    ensures { λ r. ⌜ VerdictOf (now (pack .entry)) (now (places .entry)) p (now (chart .entry)) nodes character action
-        (k .0) (e .0) (now (work .entry)) (now (work .exit)) r ⌝ }
+    requires { ⌜ Judgeable (now pack) (now places) p (now chart) nodes (d .who) (d .action) (p .foresight .0)
+        (d .nesting .0) (now work) ⌝ }
+    ensures { λ r. ⌜ VerdictOf (now (pack .entry)) (now (places .entry)) p (now (chart .entry)) nodes (d .who)
+        (d .action) (p .foresight .0) (d .nesting .0) (now (work .entry)) (now (work .exit)) r ⌝ }
 {
     copy_table(chart, 1, nodes, work, 0, p.fluents, p.characters);
     clear(work, NAMES, BEFORE_TABLES);
-    let verdict = explained(pack, places, p, work, 0, character, action, k, e);
+    let verdict = explained(pack, places, p, work, 0, d);
     sweep(work, 0, WORK_ROOM);
     verdict
 }
@@ -92,24 +91,19 @@ pub fn verdict(
     match check_lent(nodes, WORK_ROOM <= work.len(), there) {
         Number::Refused(number, at) => Judged::Refused(number, at),
         Number::Is(n, _) => {
-            let shape = Shape {
+            let context = Context {
                 actions: p.actions,
                 triggers: p.triggers,
                 fluents: p.fluents,
                 characters: p.characters,
+                foresight: k,
             };
-            let verdict = verdict_in(
-                pack,
-                &places,
-                shape,
-                chart,
-                n,
-                character,
+            let deed = Deed {
+                who: character,
+                nesting: e,
                 action,
-                k,
-                e,
-                work,
-            );
+            };
+            let verdict = verdict_in(pack, &places, context, chart, n, deed, work);
             Judged::Verdict(verdict)
         }
     }

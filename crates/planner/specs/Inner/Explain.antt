@@ -15,14 +15,14 @@ use Rattle.chart.specs.Contracts.Look.{NodesRead}
 use Rattle.transition.specs.Contracts.Cause.{Tabled}
 use Rattle.transition.specs.Happening.{Plays}
 use Rattle.transition.specs.Contracts.Play.{Theorized, Left}
-use Rattle.planner.specs.declared.memory.Shape.{Shape}
+use Rattle.planner.specs.declared.limits.Context.{Context}
 use Rattle.planner.specs.Ending.{Explained}
 use Rattle.planner.specs.Inner.Lists.{slotTable}
 use Rattle.planner.specs.Inner.Memory.{InSlot, Memory}
 use Rattle.transition.specs.Contracts.Stage.{slotRoom, scratchAt}
 
 -- a theory, found in the pack, and a table before the first free slot
-pub record Stage (p : Theory) (T : List Node) (pack places : List ℕ) (h : Shape) (work : List ℕ) (t : Table)
+pub record Stage (p : Theory) (T : List Node) (pack places : List ℕ) (h : Context) (work : List ℕ) (t : Table)
     (slot : ℕ) : Type 0 where
   pub theorized : Theorized p pack places (h .actions) (h .triggers)
   pub tabled : Tabled (dims (p .characters) (p .domains)) T work t
@@ -33,13 +33,13 @@ pub record Stage (p : Theory) (T : List Node) (pack places : List ℕ) (h : Shap
   pub slotted : InSlot work t slot
   pub free : slot ≡ slotRoom * slotted .number + slotRoom
 
-abbrev pub Staged : (pack places : List ℕ) (h : Shape) (work : List ℕ) (t : Table) (slot : ℕ) → Type 0
+abbrev pub Staged : (pack places : List ℕ) (h : Context) (work : List ℕ) (t : Table) (slot : ℕ) → Type 0
 Staged pack places h work t slot = (p : Theory) × ((T : List Node) × Stage p T pack places h work t slot)
 
 -- and a memory in which all is true
-abbrev pub Prepared : (foresight : ℕ) (pack places : List ℕ) (h : Shape) (work : List ℕ) (t : Table) (slot : ℕ) → Type 0
-Prepared foresight pack places h work t slot =
-    (p : Theory) × ((T : List Node) × (Stage p T pack places h work t slot × Memory p foresight h slot work))
+abbrev pub Prepared : (pack places : List ℕ) (h : Context) (work : List ℕ) (t : Table) (slot : ℕ) → Type 0
+Prepared pack places h work t slot =
+    (p : Theory) × ((T : List Node) × (Stage p T pack places h work t slot × Memory p (h .foresight .0) h slot work))
 
 -- n slots from `slot` on lie before the scratch of a step
 abbrev pub Free : (slot n : ℕ) → Type 0
@@ -55,22 +55,22 @@ pub record Told (M : List ℕ → Type 0) (slot : ℕ) (was now : List ℕ) (r :
   pub memory : M now
 
 -- asked about the state in a slot, where what is known is true: the flag r says whether P holds of it
-abbrev pub Answers : (foresight : ℕ) (pack places : List ℕ) (h : Shape) (slot : ℕ) (work work′ : List ℕ) (r : Bool)
+abbrev pub Answers : (pack places : List ℕ) (h : Context) (slot : ℕ) (work work′ : List ℕ) (r : Bool)
     (P : Theory → State → Type 0)
     → Type 0
-Answers foresight pack places h slot work work′ r P =
+Answers pack places h slot work work′ r P =
     (th : Theory) (T : List Node) → Stage th T pack places h work (slotTable h work slot) (slot + slotRoom)
-    → Memory th foresight h (slot + slotRoom) work
-    → Told (Memory th foresight h (slot + slotRoom)) (slot + slotRoom) work work′ r (P th (meaning (h .characters) T 0))
+    → Memory th (h .foresight .0) h (slot + slotRoom) work
+    → Told (Memory th (h .foresight .0) h (slot + slotRoom)) (slot + slotRoom) work work′ r
+    (P th (meaning (h .characters) T 0))
 
 -- an action and a row of the table
-abbrev pub Steppable : (pack places : List ℕ) (h : Shape) (a : ℕ) (work : List ℕ) (t : Table) (root slot : ℕ) → Type 0
+abbrev pub Steppable : (pack places : List ℕ) (h : Context) (a : ℕ) (work : List ℕ) (t : Table) (root slot : ℕ) → Type 0
 Steppable pack places h a work t root slot =
-    (foresight : ℕ)
-    × (Prepared foresight pack places h work t slot × (a < h .actions) × (root < t .nodes) × Free slot 1)
+    Prepared pack places h work t slot × (a < h .actions) × (root < t .nodes) × Free slot 1
 
 -- a step into the first free slot: what it leaves stands there, or it does not play
-pub record Advanced (p : Theory) (foresight : ℕ) (h : Shape) (z : State) (a : ℕ) (t : Table) (was now : List ℕ)
+pub record Advanced (p : Theory) (foresight : ℕ) (h : Context) (z : State) (a : ℕ) (t : Table) (was now : List ℕ)
     (slot r : ℕ) : Type 0 where
   pub plays : r ≡ 0 → (s : State) × Plays p z a s × Left s t now slot
   pub none : r ≢ 0 → (s : State) → Plays p z a s → ⊥
@@ -80,15 +80,14 @@ pub record Advanced (p : Theory) (foresight : ℕ) (h : Shape) (z : State) (a : 
   pub further : r ≡ 0 → Memory p foresight h (slot + slotRoom) now
 
 -- a step of what row `root` of the table in a slot means, into the slot behind it
-abbrev pub Advances : (pack places : List ℕ) (h : Shape) (a : ℕ) (slot root : ℕ) (work work′ : List ℕ) (r : ℕ) → Type 0
+abbrev pub Advances : (pack places : List ℕ) (h : Context) (a : ℕ) (slot root : ℕ) (work work′ : List ℕ) (r : ℕ) → Type 0
 Advances pack places h a slot root work work′ r =
-    (th : Theory) (T : List Node) (foresight : ℕ)
-    → Stage th T pack places h work (slotTable h work slot) (slot + slotRoom)
-    → Memory th foresight h (slot + slotRoom) work
-    → Advanced th foresight h (meaning (h .characters) T root) a (slotTable h work slot) work work′ (slot + slotRoom) r
+    (th : Theory) (T : List Node) → Stage th T pack places h work (slotTable h work slot) (slot + slotRoom)
+    → Memory th (h .foresight .0) h (slot + slotRoom) work
+    → Advanced th (h .foresight .0) h (meaning (h .characters) T root) a (slotTable h work slot) work work′ (slot + slotRoom) r
 
 -- an accepted pack and chart, and numbers of something there
-pub record Judging (th : Theory) (T : List Node) (pack places : List ℕ) (h : Shape) (chart : List ℕ)
+pub record Judging (th : Theory) (T : List Node) (pack places : List ℕ) (h : Context) (chart : List ℕ)
     (nodes character action foresight nesting : ℕ) (work : List ℕ) : Type 0 where
   pub theorized : Theorized th pack places (h .actions) (h .triggers)
   pub read : NodesRead chart nodes (h .fluents) (h .characters) T
@@ -100,7 +99,7 @@ pub record Judging (th : Theory) (T : List Node) (pack places : List ℕ) (h : S
   pub nested : nesting ≤ 3
   pub room : workRoom ≤ length work
 
-abbrev pub Judgeable : (pack places : List ℕ) (h : Shape) (chart : List ℕ)
+abbrev pub Judgeable : (pack places : List ℕ) (h : Context) (chart : List ℕ)
     (nodes character action foresight nesting : ℕ) (work : List ℕ)
     → Type 0
 Judgeable pack places h chart nodes character action foresight nesting work =
@@ -113,7 +112,7 @@ pub record Verdict (P : Type 0) (work work′ : List ℕ) (r : Bool) : Type 0 wh
   pub scratch : work′ ≡ cleared work
 
 -- whether the action is explained to the character in what the chart means
-abbrev pub VerdictOf : (pack places : List ℕ) (h : Shape) (chart : List ℕ)
+abbrev pub VerdictOf : (pack places : List ℕ) (h : Context) (chart : List ℕ)
     (nodes character action foresight nesting : ℕ) (work work′ : List ℕ) (r : Bool)
     → Type 0
 VerdictOf pack places h chart nodes character action foresight nesting work work′ r =

@@ -8,12 +8,12 @@ use Rattle.pack.specs.Syntax.{Theory}
 use Rattle.pack.specs.State.{State}
 use Rattle.pack.specs.declared.table.Table.{Table}
 use Rattle.transition.specs.Happening.{actionOf}
-use Rattle.planner.specs.declared.memory.Shape.{Shape}
+use Rattle.planner.specs.declared.limits.Context.{Context}
 use Rattle.planner.specs.Ending.{Explained, utilityTo, authorUtility}
 use Rattle.planner.specs.Laws.Explaining as explaining
 
 -- a table of n rows in a slot
-abbrev pub counted : Shape → (slot n : ℕ) → Table
+abbrev pub counted : Context → (slot n : ℕ) → Table
 counted h slot n =
     record {
       rows = slot + 1;
@@ -24,7 +24,7 @@ counted h slot n =
     }
 
 -- the table in a slot
-abbrev pub slotTable : Shape → List ℕ → ℕ → Table
+abbrev pub slotTable : Context → List ℕ → ℕ → Table
 slotTable h work slot = counted h slot (getD work slot 0)
 
 -- asked of a consenter: to be another than c

@@ -17,7 +17,7 @@ use Rattle.chart.specs.Call.{workRoom}
 use Rattle.transition.specs.Happening.{Plays, actionOf}
 use Rattle.transition.specs.Laws.Still.{writes, triggerWrites}
 use Rattle.transition.specs.Contracts.Play.{Theorized}
-use Rattle.planner.specs.declared.memory.Shape.{Shape}
+use Rattle.planner.specs.declared.limits.Context.{Context}
 use Rattle.planner.specs.Inner.Lists.{slotTable}
 use Rattle.transition.specs.Contracts.Stage.{slotRoom, scratchAt}
 
@@ -75,14 +75,14 @@ Hopeless pack places triggers a work t whose left base =
     → (left ≡ 0) × (utility s (getD (p .utilities) whose []) ≤ base)
 
 -- every action may be tried in the state in a slot
-pub record Trying (pack places : List ℕ) (h : Shape) (work : List ℕ) (slot whose : ℕ) : Type 0 where
+pub record Trying (pack places : List ℕ) (h : Context) (work : List ℕ) (slot whose : ℕ) : Type 0 where
   pub before : slot + slotRoom ≤ scratchAt
   pub room : workRoom ≤ length work
   pub narrow : h .fluents + h .characters ≤ 30
   pub each : (a : ℕ) → a < h .actions → Tryable pack places (h .triggers) a work (slotTable h work slot) whose
 
 -- those from x up to r are hopeless there
-pub record Skipped (pack places : List ℕ) (h : Shape) (work : List ℕ) (slot whose left base x r : ℕ) : Type 0 where
+pub record Skipped (pack places : List ℕ) (h : Context) (work : List ℕ) (slot whose left base x r : ℕ) : Type 0 where
   pub from : x ≤ r
   pub few : r ≤ h .actions
   pub hopeless : (a : ℕ) → x ≤ a → a < r

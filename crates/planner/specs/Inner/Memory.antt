@@ -12,7 +12,9 @@ use Rattle.pack.specs.declared.table.Table.{Table}
 use Rattle.chart.specs.Call.{workRoom}
 use Rattle.chart.specs.Chart.{Starts}
 use Rattle.transition.specs.Happening.{Plays}
-use Rattle.planner.specs.declared.memory.Shape.{Shape}
+use Rattle.planner.specs.declared.limits.Context.{Context}
+use Rattle.planner.specs.declared.fact.Goal.{Goal}
+use Rattle.planner.specs.declared.fact.Deed.{Deed}
 use Rattle.planner.specs.declared.fact.Key.{Key}
 use Rattle.planner.specs.Ending.{Explained}
 use Rattle.planner.specs.Inner.Lists.{slotTable, Above, Ends}
@@ -39,24 +41,24 @@ tablesAt = 45952
 abbrev pub keptAt : ℕ → ℕ
 keptAt n = 45940 + 12 * n
 
-abbrev pub keptTable : Shape → List ℕ → ℕ → Table
+abbrev pub keptTable : Context → List ℕ → ℕ → Table
 keptTable h work n = slotTable h work (keptAt n)
 
 -- it lies within the blocks that are taken
-pub record Kept (h : Shape) (work : List ℕ) (n : ℕ) : Type 0 where
+pub record Kept (h : Context) (work : List ℕ) (n : ℕ) : Type 0 where
   pub some : 0 < n
   pub few : getD work (keptAt n) 0 ≤ 32
   pub inside : keptAt n + 1 + getD work (keptAt n) 0 * (h .fluents + h .characters)
       ≤ tablesAt + 12 * getD work takenAt 0
 
 -- n is the name of a table
-pub record Named (h : Shape) (work : List ℕ) (t : Table) (n : ℕ) : Type 0 where
+pub record Named (h : Context) (work : List ℕ) (t : Table) (n : ℕ) : Type 0 where
   pub kept : Kept h work n
   pub count : getD work (keptAt n) 0 ≡ t .nodes
   pub same : table.tableOf (keptTable h work n) work ≡ table.tableOf t work
 
 -- what an action leaves of a row of the table of a name: nothing, or what the table of another name starts with
-pub record StepFact (p : Theory) (h : Shape) (work : List ℕ) (n root a next : ℕ) : Type 0 where
+pub record StepFact (p : Theory) (h : Context) (work : List ℕ) (n root a next : ℕ) : Type 0 where
   pub kept : Kept h work n
   pub none : next ≡ 0 → (s : State) → Plays p (table.stateOf (keptTable h work n) work root) a s → ⊥
   pub left : 0 < next
@@ -64,16 +66,23 @@ pub record StepFact (p : Theory) (h : Shape) (work : List ℕ) (n root a next : 
       × ((s : State) × Plays p (table.stateOf (keptTable h work n) work root) a s
       × Starts (h .characters) s (table.tableOf (keptTable h work next) work))
 
--- what a mark says of the state that the first row of a table means: of a character's lists 1 that there is none and 2
--- that there is one, of the author's 3 that there is none of exactly so many actions; and of the state of row `base`,
--- whether the action `left` is explained to the character, 4 no and 5 yes
-pub record Fact (p : Theory) (foresight mark : ℕ) (k : Key) (s : ℕ → State) : Type 0 where
-  pub no : mark ≡ 1 → Above p foresight (k .nesting) (k .who) (k .base) (suc (k .left)) (s 0) → ⊥
-  pub yes : mark ≡ 2 → Above p foresight (k .nesting) (k .who) (k .base) (suc (k .left)) (s 0)
-  pub none : mark ≡ 3 → (list : List ℕ) (v : ℕ) → length list ≡ k .left
-      → Ends p foresight (k .nesting) (k .base) (s 0) list v → ⊥
-  pub unexplained : mark ≡ 4 → Explained p foresight (k .nesting) (k .who) (k .left) (s (k .base)) → ⊥
-  pub explained : mark ≡ 5 → Explained p foresight (k .nesting) (k .who) (k .left) (s (k .base))
+-- what is known of a goal, and of a deed, is found by these
+abbrev pub goalKey : Goal → Key
+goalKey g = record { who = g .who; nesting = g .nesting .0; number = g .left; base = g .base }
+
+abbrev pub deedKey : Deed → Key
+deedKey d = record { who = d .who; nesting = d .nesting .0; number = d .action; base = 0 }
+
+-- what a mark says of a state: of a character's lists 1 that there is none and 2 that there is one, of the author's 3
+-- that there is none of exactly so many actions; and of an action, whether it is explained to the character, 4 no and 5
+-- yes
+pub record Fact (p : Theory) (foresight mark : ℕ) (k : Key) (s : State) : Type 0 where
+  pub no : mark ≡ 1 → Above p foresight (k .nesting) (k .who) (k .base) (suc (k .number)) s → ⊥
+  pub yes : mark ≡ 2 → Above p foresight (k .nesting) (k .who) (k .base) (suc (k .number)) s
+  pub none : mark ≡ 3 → (list : List ℕ) (v : ℕ) → length list ≡ k .number
+      → Ends p foresight (k .nesting) (k .base) s list v → ⊥
+  pub unexplained : mark ≡ 4 → Explained p foresight (k .nesting) (k .who) (k .number) s → ⊥
+  pub explained : mark ≡ 5 → Explained p foresight (k .nesting) (k .who) (k .number) s
 
 -- a byte for the mark and five for the key
 abbrev pub keyAt : List ℕ → ℕ → Key
@@ -81,29 +90,29 @@ keyAt work a =
     record {
       who = getD work (a + 1) 0;
       nesting = getD work (a + 2) 0;
-      left = getD work (a + 3) 0;
+      number = getD work (a + 3) 0;
       base = getD work (a + 4) 0 + 256 * getD work (a + 5) 0;
     }
 
 -- entries, each empty or true: the name of the table in slot i, a step at a, a fact at a with its name behind it
-abbrev pub SlotEntry : (h : Shape) (work : List ℕ) (i : ℕ) → Type 0
+abbrev pub SlotEntry : (h : Context) (work : List ℕ) (i : ℕ) → Type 0
 SlotEntry h work i =
     0 < getD work (memoryAt + i) 0 → Named h work (slotTable h work (slotRoom * i)) (getD work (memoryAt + i) 0)
 
-abbrev pub StepEntry : (p : Theory) (h : Shape) (work : List ℕ) (a : ℕ) → Type 0
+abbrev pub StepEntry : (p : Theory) (h : Context) (work : List ℕ) (a : ℕ) → Type 0
 StepEntry p h work a =
     0 < getD work a 0
     → StepFact p h work (getD work a 0) (getD work (a + 1) 0) (getD work (a + 2) 0) (getD work (a + 3) 0)
 
-abbrev pub FactEntry : (p : Theory) (foresight : ℕ) (h : Shape) (work : List ℕ) (a : ℕ) → Type 0
+abbrev pub FactEntry : (p : Theory) (foresight : ℕ) (h : Context) (work : List ℕ) (a : ℕ) → Type 0
 FactEntry p foresight h work a =
     0 < getD work (a + 6) 0
     → Kept h work (getD work (a + 6) 0)
     × Fact p foresight (getD work a 0) (keyAt work a)
-    (λ root. table.stateOf (keptTable h work (getD work (a + 6) 0)) work root)
+    (table.stateOf (keptTable h work (getD work (a + 6) 0)) work 0)
 
 -- all are true; of slots, those before a place
-pub record Memory (p : Theory) (foresight : ℕ) (h : Shape) (limit : ℕ) (work : List ℕ) : Type 0 where
+pub record Memory (p : Theory) (foresight : ℕ) (h : Context) (limit : ℕ) (work : List ℕ) : Type 0 where
   pub narrow : h .fluents + h .characters ≤ 30
   pub slots : (i : ℕ) → slotRoom * i + slotRoom ≤ limit → SlotEntry h work i
   pub steps : (i : ℕ) → i < 128 → StepEntry p h work (stepsAt + 4 * i)
@@ -116,7 +125,7 @@ pub record Place (count first size a : ℕ) : Type 0 where
   pub is : a ≡ first + size * number
 
 -- a table before the memory
-pub record Before (h : Shape) (work : List ℕ) (t : Table) : Type 0 where
+pub record Before (h : Context) (work : List ℕ) (t : Table) : Type 0 where
   pub fluents : h .fluents ≡ t .fluents
   pub characters : h .characters ≡ t .characters
   pub wide : t .fluents + t .characters ≡ t .width
@@ -138,7 +147,7 @@ pub record Only (was now : List ℕ) : Type 0 where
   pub high : table.Above was now workRoom
 
 -- r is a name of the table, or 0, and what is known stays true
-pub record Stored (h : Shape) (t : Table) (was now : List ℕ) (r : ℕ) : Type 0 where
+pub record Stored (h : Context) (t : Table) (was now : List ℕ) (r : ℕ) : Type 0 where
   pub small : r < 256
   pub named : 0 < r → Named h now t r
   pub only : Only was now
@@ -146,7 +155,7 @@ pub record Stored (h : Shape) (t : Table) (was now : List ℕ) (r : ℕ) : Type 
       → Memory p foresight h limit now
 
 -- the same of a table in a slot, where what is known is true
-pub record Naming (h : Shape) (t : Table) (was now : List ℕ) (r : ℕ) : Type 0 where
+pub record Naming (h : Context) (t : Table) (was now : List ℕ) (r : ℕ) : Type 0 where
   pub small : r < 256
   pub only : Only was now
   pub told : (p : Theory) (foresight limit : ℕ) → limit ≤ memoryAt → InSlot was t limit → Memory p foresight h limit was
@@ -157,7 +166,7 @@ pub record Storable (name : ℕ) (k : Key) : Type 0 where
   pub some : 0 < name
   pub who : k .who < 256
   pub nesting : k .nesting < 256
-  pub left : k .left < 256
+  pub number : k .number < 256
   pub base : k .base < 65536
 
 -- a mark and a key are put down
@@ -168,16 +177,16 @@ pub record KeyPut (was now : List ℕ) (a mark : ℕ) (k : Key) : Type 0 where
   pub high : table.Above was now (a + 6)
 
 -- what the mark r says of the state is true where what is known is
-pub record Recalled (h : Shape) (t : Table) (k : Key) (was now : List ℕ) (r : ℕ) : Type 0 where
+pub record Recalled (h : Context) (t : Table) (k : Key) (was now : List ℕ) (r : ℕ) : Type 0 where
   pub only : Only was now
   pub told : (p : Theory) (foresight limit : ℕ) → limit ≤ memoryAt → InSlot was t limit → Memory p foresight h limit was
-      → Memory p foresight h limit now × Fact p foresight r k (λ root. table.stateOf t was root)
+      → Memory p foresight h limit now × Fact p foresight r k (table.stateOf t was 0)
 
 -- what is put down is true where what it says is
-pub record Remembered (h : Shape) (t : Table) (mark : ℕ) (k : Key) (was now : List ℕ) : Type 0 where
+pub record Remembered (h : Context) (t : Table) (mark : ℕ) (k : Key) (was now : List ℕ) : Type 0 where
   pub only : Only was now
   pub memory : (p : Theory) (foresight limit : ℕ) → limit ≤ memoryAt → InSlot was t limit
-      → Memory p foresight h limit was → Fact p foresight mark k (λ root. table.stateOf t was root)
+      → Memory p foresight h limit was → Fact p foresight mark k (table.stateOf t was 0)
       → Memory p foresight h limit now
 
 -- an entry of a step
@@ -197,14 +206,14 @@ pub record StepPut (was now : List ℕ) (a name root action next : ℕ) : Type 0
   pub high : table.Above was now (a + 4)
 
 -- true where what it says is, of every name of the table
-pub record Noted (h : Shape) (t : Table) (root action next : ℕ) (was now : List ℕ) : Type 0 where
+pub record Noted (h : Context) (t : Table) (root action next : ℕ) (was now : List ℕ) : Type 0 where
   pub only : Only was now
   pub memory : (p : Theory) (foresight limit : ℕ) → limit ≤ memoryAt → InSlot was t limit
       → Memory p foresight h limit was → ((n : ℕ) → Named h was t n → StepFact p h was n root action next)
       → Memory p foresight h limit now
 
 -- a slot, before the scratch of a step
-pub record Slot (h : Shape) (work : List ℕ) (slot : ℕ) : Type 0 where
+pub record Slot (h : Context) (work : List ℕ) (slot : ℕ) : Type 0 where
   pub narrow : h .fluents + h .characters ≤ 30
   pub before : slot + slotRoom ≤ scratchAt
   pub number : ℕ
@@ -212,7 +221,7 @@ pub record Slot (h : Shape) (work : List ℕ) (slot : ℕ) : Type 0 where
   pub room : workRoom ≤ length work
 
 -- the table of a name stands in it, as after a step that plays
-pub record Again (h : Shape) (next slot : ℕ) (was now : List ℕ) (r : ℕ) : Type 0 where
+pub record Again (h : Context) (next slot : ℕ) (was now : List ℕ) (r : ℕ) : Type 0 where
   pub refused : r ≢ 0 → next ≡ 0
   pub played : r ≡ 0
       → (0 < next) × (table.tableOf (slotTable h now slot) now ≡ table.tableOf (keptTable h was next) was)
@@ -223,7 +232,7 @@ pub record Again (h : Shape) (next slot : ℕ) (was now : List ℕ) (r : ℕ) : 
       → Memory p foresight h slot now × (r ≡ 0 → Memory p foresight h (slot + slotRoom) now)
 
 -- what a step has left in it is known
-pub record LeftNoted (h : Shape) (t : Table) (root a slot : ℕ) (was now : List ℕ) : Type 0 where
+pub record LeftNoted (h : Context) (t : Table) (root a slot : ℕ) (was now : List ℕ) : Type 0 where
   pub only : Only was now
   pub memory : (p : Theory) (foresight : ℕ) → InSlot was t slot → Memory p foresight h slot was
       → ((s : State) × Plays p (table.stateOf t was root) a s

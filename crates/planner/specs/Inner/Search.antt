@@ -13,7 +13,7 @@ use Rattle.chart.specs.Earliest.{Before}
 use Rattle.chart.specs.Contracts.Look.{NodesFrom}
 use Rattle.transition.specs.Contracts.Play.{Theorized}
 use Rattle.planner.specs.declared.Found.{Found}
-use Rattle.planner.specs.declared.memory.Shape.{Shape}
+use Rattle.planner.specs.declared.limits.Context.{Context}
 use Rattle.planner.specs.declared.search.Ended.{Ended}
 use Rattle.planner.specs.Search.{Answer, Searched}
 use Rattle.planner.specs.Replies.{answerReply}
@@ -52,13 +52,13 @@ abbrev pub Dry : (Good : List ℕ → ℕ → Type 0) (n : ℕ) → Type 0
 Dry Good n = (list : List ℕ) (v : ℕ) → length list < n → ¬ Good list v
 
 -- in the slots of the path, n before the last, stand written charts
-abbrev pub OnPath : (h : Shape) (work : List ℕ) (n : ℕ) → Type 0
+abbrev pub OnPath : (h : Context) (work : List ℕ) (n : ℕ) → Type 0
 OnPath h work n = (i : ℕ) → i ≤ n → Written (h .characters) (tableOf (slotTable h work (i * slotRoom)) work)
 
 -- the author's path: n states in the slots before s; from each of them, and from s, no list of fewer actions than are
 -- left to it is good; in each slot stands the written chart of its state, so that two are one exactly where no chain
 -- tells them apart
-pub record Trail (p : Theory) (foresight nesting base : ℕ) (h : Shape) (work : List ℕ) (n left : ℕ)
+pub record Trail (p : Theory) (foresight nesting base : ℕ) (h : Context) (work : List ℕ) (n left : ℕ)
     (s : State) : Type 0 where
   pub before : (i : ℕ) → i < n
       → Dry (Ends p foresight nesting base (stateOf (slotTable h work (i * slotRoom)) work 0)) (left + (n - i))
@@ -67,41 +67,43 @@ pub record Trail (p : Theory) (foresight nesting base : ℕ) (h : Shape) (work :
   pub small : (i : ℕ) → i ≤ n → 1 + getD work (i * slotRoom) 0 * (h .fluents + h .characters) ≤ slotRoom
 
 -- a stage, a memory and a path
-abbrev pub Underway : (foresight nesting base : ℕ) (pack places : List ℕ) (h : Shape) (work : List ℕ) (slot n left : ℕ)
+abbrev pub Underway : (nesting base : ℕ) (pack places : List ℕ) (h : Context) (work : List ℕ) (n left : ℕ)
     → Type 0
-Underway K e base pack places h work slot n left =
+Underway e base pack places h work n left =
     (p : Theory) × ((T : List Node)
-    × (Stage p T pack places h work (slotTable h work slot) (slot + slotRoom) × Memory p K h (slot + slotRoom) work
-    × Trail p K e base h work n left (meaning (h .characters) T 0)))
+    × (Stage p T pack places h work (slotTable h work (n * slotRoom)) (n * slotRoom + slotRoom)
+    × Memory p (h .foresight .0) h (n * slotRoom + slotRoom) work
+    × Trail p (h .foresight .0) e base h work n left (meaning (h .characters) T 0)))
 
--- asked of the state in a slot, the last of the path, where what is known is true: r is the utility at the end of the
+-- asked of the last state of the path, behind n others, where what is known is true: r is the utility at the end of the
 -- earliest good list of `left` actions, which is put down
-abbrev pub Finds : (foresight nesting base : ℕ) (pack places : List ℕ) (h : Shape) (slot n left : ℕ)
+abbrev pub Finds : (nesting base : ℕ) (pack places : List ℕ) (h : Context) (n left : ℕ)
     (was now work work′ : List ℕ) (r : ℕ) (Good : Theory → State → List ℕ → ℕ → Type 0)
     → Type 0
-Finds K e base pack places h slot n left was now work work′ r Good =
-    (th : Theory) (T : List Node) → Stage th T pack places h work (slotTable h work slot) (slot + slotRoom)
-    → Memory th K h (slot + slotRoom) work
-    → Trail th K e base h work n left (meaning (h .characters) T 0)
-    → Best (Memory th K h (slot + slotRoom)) (Good th (meaning (h .characters) T 0)) left was now n
-    (slot + slotRoom) work work′ r
+Finds e base pack places h n left was now work work′ r Good =
+    (th : Theory) (T : List Node)
+    → Stage th T pack places h work (slotTable h work (n * slotRoom)) (n * slotRoom + slotRoom)
+    → Memory th (h .foresight .0) h (n * slotRoom + slotRoom) work
+    → Trail th (h .foresight .0) e base h work n left (meaning (h .characters) T 0)
+    → Best (Memory th (h .foresight .0) h (n * slotRoom + slotRoom)) (Good th (meaning (h .characters) T 0)) left was now
+    n (n * slotRoom + slotRoom) work work′ r
 
 -- the author's utility in the state in a slot where it is above base, or 0
-abbrev pub EndsHere : (base : ℕ) (pack places : List ℕ) (h : Shape) (slot : ℕ) (work : List ℕ) (r : ℕ) → Type 0
+abbrev pub EndsHere : (base : ℕ) (pack places : List ℕ) (h : Context) (slot : ℕ) (work : List ℕ) (r : ℕ) → Type 0
 EndsHere base pack places h slot work r =
     (th : Theory) (T : List Node) → Stage th T pack places h work (slotTable h work slot) (slot + slotRoom)
     → (base < authorUtility th (meaning (h .characters) T 0) → r ≡ authorUtility th (meaning (h .characters) T 0))
     × (authorUtility th (meaning (h .characters) T 0) ≤ base → r ≡ 0)
 
 -- a stage with a written chart and a memory, and the author's utility there is at most base
-abbrev pub Outset : (foresight base : ℕ) (pack places : List ℕ) (h : Shape) (work : List ℕ) → Type 0
-Outset K base pack places h work =
+abbrev pub Outset : (base : ℕ) (pack places : List ℕ) (h : Context) (work : List ℕ) → Type 0
+Outset base pack places h work =
     (p : Theory) × ((T : List Node)
-    × (Stage p T pack places h work (slotTable h work 0) slotRoom × Memory p K h slotRoom work
+    × (Stage p T pack places h work (slotTable h work 0) slotRoom × Memory p (h .foresight .0) h slotRoom work
     × Written (h .characters) T × (authorUtility p (meaning (h .characters) T 0) ≤ base)))
 
 -- the state in a slot is one of those before it
-abbrev pub Repeated : (h : Shape) (work : List ℕ) (slot n : ℕ) → Type 0
+abbrev pub Repeated : (h : Context) (work : List ℕ) (slot n : ℕ) → Type 0
 Repeated h work slot n =
     (i : ℕ) × (i < n) × (stateOf (slotTable h work (i * slotRoom)) work 0 ≡ stateOf (slotTable h work slot) work 0)
 
@@ -117,33 +119,33 @@ pub record Shortest (Good : List ℕ → ℕ → Type 0) (story : ℕ) (was now 
   pub high : Above work work′ workRoom
 
 -- of the state in the first slot
-abbrev pub ShortestFrom : (story foresight nesting base : ℕ) (pack places : List ℕ) (h : Shape)
+abbrev pub ShortestFrom : (story nesting base : ℕ) (pack places : List ℕ) (h : Context)
     (was now work work′ : List ℕ) (r : Ended)
     → Type 0
-ShortestFrom T K e base pack places h was now work work′ r =
+ShortestFrom T e base pack places h was now work work′ r =
     (th : Theory) (table : List Node) → Stage th table pack places h work (slotTable h work 0) slotRoom
-    → Memory th K h slotRoom work → Written (h .characters) table
+    → Memory th (h .foresight .0) h slotRoom work → Written (h .characters) table
     → authorUtility th (meaning (h .characters) table 0) ≤ base
-    → Shortest (Ends th K e base (meaning (h .characters) table 0)) T was now work work′ r
+    → Shortest (Ends th (h .foresight .0) e base (meaning (h .characters) table 0)) T was now work work′ r
 
 -- the nodes that are read from a place on, and room
-pub record Laying (T : List Node) (pack : List ℕ) (first nodes : ℕ) (h : Shape) (work : List ℕ) : Type 0 where
+pub record Laying (T : List Node) (pack : List ℕ) (first nodes : ℕ) (h : Context) (work : List ℕ) : Type 0 where
   pub end : ℕ
   pub read : NodesFrom pack first end nodes (h .fluents) (h .characters) T
   pub room : workRoom ≤ length work
 
-abbrev pub Layable : (pack : List ℕ) (first nodes : ℕ) (h : Shape) (work : List ℕ) → Type 0
+abbrev pub Layable : (pack : List ℕ) (first nodes : ℕ) (h : Context) (work : List ℕ) → Type 0
 Layable pack first nodes h work = (T : List Node) × Laying T pack first nodes h work
 
 -- in the first slot stands the written chart of what node 0 means, and nothing is known yet
-pub record LaidStart (T : List Node) (h : Shape) (was now : List ℕ) : Type 0 where
+pub record LaidStart (T : List Node) (h : Context) (was now : List ℕ) : Type 0 where
   pub few : getD now 0 0 ≤ 32
   pub starts : Starts (h .characters) (meaning (h .characters) T 0) (tableOf (slotTable h now 0) now)
   pub empty : (q : ℕ) → memoryAt ≤ q → q < tablesAt → getD now q 0 ≡ 0
   pub high : Above was now workRoom
 
 -- what the search from a pack's nodes is lent: a theory, found in the pack, its nodes, and room
-pub record Seeking (th : Theory) (T : List Node) (pack places : List ℕ) (h : Shape)
+pub record Seeking (th : Theory) (T : List Node) (pack places : List ℕ) (h : Context)
     (first nodes story foresight nesting : ℕ) (list work : List ℕ) : Type 0 where
   pub theorized : Theorized th pack places (h .actions) (h .triggers)
   pub end : ℕ
@@ -156,7 +158,7 @@ pub record Seeking (th : Theory) (T : List Node) (pack places : List ℕ) (h : S
   pub list-room : listRoom ≤ length list
   pub room : workRoom ≤ length work
 
-abbrev pub Seekable : (pack places : List ℕ) (h : Shape) (first nodes story foresight nesting : ℕ) (list work : List ℕ)
+abbrev pub Seekable : (pack places : List ℕ) (h : Context) (first nodes story foresight nesting : ℕ) (list work : List ℕ)
     → Type 0
 Seekable pack places h first nodes story foresight nesting list work =
     (th : Theory) × ((T : List Node) × Seeking th T pack places h first nodes story foresight nesting list work)
@@ -171,7 +173,7 @@ pub record SearchPut (th : Theory) (story foresight nesting : ℕ) (s : State) (
   pub scratch : work′ ≡ cleared work
 
 -- the same, from what node 0 means of the nodes that are read from a place on
-abbrev pub SearchPutFrom : (pack places : List ℕ) (h : Shape) (first nodes story foresight nesting : ℕ)
+abbrev pub SearchPutFrom : (pack places : List ℕ) (h : Context) (first nodes story foresight nesting : ℕ)
     (list list′ work work′ : List ℕ) (r : Found)
     → Type 0
 SearchPutFrom pack places h first nodes story foresight nesting list list′ work work′ r =

@@ -16,7 +16,7 @@ use Rattle.transition.specs.Laws.ChangedRows.{small}
 use Rattle.planner.specs.Ending.{Explained, utilityTo}
 use Rattle.planner.specs.Inner.Lists.{slotTable, AboveBy}
 use Rattle.planner.specs.Inner.Lists as inner
-use Rattle.planner.specs.Inner.Memory.{Memory}
+use Rattle.planner.specs.Inner.Memory.{deedKey, Memory}
 use Rattle.planner.specs.Inner.Explain.{Stage, Free}
 use Rattle.planner.proofs.Remembering.{memory-fewer}
 use Rattle.planner.proofs.Looking.{below-far, stage-trying, stage-skipped}
@@ -51,6 +51,8 @@ use Rattle.pack.proofs.write.consenters.Reads as consenters-reads
 use Rattle.planner.proofs.explain.mark.Reads as mark-reads
 use Rattle.planner.proofs.look.next_promising.Reads as next-promising-reads
 use Rattle.planner.proofs.memory.table_in.Reads as table-in-reads
+use Rattle.planner.proofs.fact.deed_key.Reads as deed-key-reads
+use Rattle.planner.proofs.fact.goal_key.Reads as goal-key-reads
 use Rattle.planner.proofs.fact.recall.Reads as recall-reads
 use Rattle.planner.proofs.fact.remember.Reads as remember-reads
 use Rattle.planner.proofs.known.known_step.Reads as known-step-reads
@@ -62,25 +64,25 @@ use Rattle.planner.proofs.explain.+allowed+explained+explains+extends+e
 }
 
 abbrev μ-allowed : Measures 3 allowed-kinds.ps ℕ
-μ-allowed κs a = 1000 * a .1 .1 .1 .1 .1 .1 .1 .1 .0 .0 + 3
+μ-allowed κs a = 1000 * a .1 .1 .1 .1 .1 .0 .nesting .0 + 3
 
 abbrev μ-explained : Measures 3 explained-kinds.ps ℕ
-μ-explained κs a = 1000 * a .1 .1 .1 .1 .1 .1 .1 .1 .0 .0 + 1
+μ-explained κs a = 1000 * a .1 .1 .1 .1 .1 .0 .nesting .0 + 1
 
 abbrev μ-explains : Measures 3 explains-kinds.ps ℕ
-μ-explains κs a = 1000 * a .1 .1 .1 .1 .1 .1 .1 .1 .0 .0
+μ-explains κs a = 1000 * a .1 .1 .1 .1 .1 .0 .nesting .0
 
 abbrev μ-extends : Measures 3 extends-kinds.ps ℕ
-μ-extends κs a = 1000 * a .1 .1 .1 .1 .1 .1 .1 .0 .0 + 3 + 3 * a .1 .1 .1 .1 .1 .1 .1 .1 .0
+μ-extends κs a = 1000 * a .1 .1 .1 .1 .1 .0 .nesting .0 + 3 + 3 * a .1 .1 .1 .1 .1 .0 .left
 
 abbrev μ-extends-by : Measures 3 extends-by-kinds.ps ℕ
-μ-extends-by κs a = 1000 * a .1 .1 .1 .1 .1 .1 .1 .0 .0 + 5 + 3 * a .1 .1 .1 .1 .1 .1 .1 .1 .0
+μ-extends-by κs a = 1000 * a .1 .1 .1 .1 .1 .0 .nesting .0 + 5 + 3 * a .1 .1 .1 .1 .1 .0 .left
 
 abbrev μ-fine : Measures 3 fine-kinds.ps ℕ
-μ-fine κs a = 1000 * a .1 .1 .1 .1 .1 .1 .1 .1 .1 .0 .0 + 2
+μ-fine κs a = 1000 * a .1 .1 .1 .1 .1 .1 .0 .nesting .0 + 2
 
 abbrev μ-via : Measures 3 via-kinds.ps ℕ
-μ-via κs a = 1000 * a .1 .1 .1 .1 .1 .1 .1 .1 .0 .0 + 4 + 3 * a .1 .1 .1 .1 .1 .1 .1 .1 .1 .0
+μ-via κs a = 1000 * a .1 .1 .1 .1 .1 .1 .0 .nesting .0 + 4 + 3 * a .1 .1 .1 .1 .1 .1 .0 .left
 
 abbrev allowed-at : ℕ → In 3 allowed-kinds.ps
 allowed-at t = and 3 allowed-kinds.ps (is 3 allowed-kinds.ps μ-allowed t) allowed.Pre
@@ -129,13 +131,13 @@ abbrev via-below : ℕ → In 3 via-kinds.ps
 via-below t = and 3 via-kinds.ps (falls 3 via-kinds.ps _<_ μ-via t) via.Pre
 
 abbrev explained-calls : ℕ → explained-lts.Claims
-explained-calls t = (recall-reads.Asked, recall-reads.Learnt, explains-below t, explains.Post, mark-reads.Asked, mark-reads.Learnt, remember-reads.Asked, remember-reads.Learnt)
+explained-calls t = (deed-key-reads.Asked, deed-key-reads.Learnt, recall-reads.Asked, recall-reads.Learnt, explains-below t, explains.Post, mark-reads.Asked, mark-reads.Learnt, remember-reads.Asked, remember-reads.Learnt)
 
 abbrev explains-calls : ℕ → explains-lts.Claims
 explains-calls t = (wide-reads.Asked, wide-reads.Learnt, known-step-reads.Asked, known-step-reads.Learnt, table-in-reads.Asked, table-in-reads.Learnt, utility-reads.Asked, utility-reads.Learnt, extends-below t, extends.Post)
 
 abbrev extends-calls : ℕ → extends-lts.Claims
-extends-calls t = (table-in-reads.Asked, table-in-reads.Learnt, utility-reads.Asked, utility-reads.Learnt, recall-reads.Asked, recall-reads.Learnt, extends-by-below t, extends-by.Post, mark-reads.Asked, mark-reads.Learnt, remember-reads.Asked, remember-reads.Learnt)
+extends-calls t = (table-in-reads.Asked, table-in-reads.Learnt, utility-reads.Asked, utility-reads.Learnt, goal-key-reads.Asked, goal-key-reads.Learnt, recall-reads.Asked, recall-reads.Learnt, extends-by-below t, extends-by.Post, mark-reads.Asked, mark-reads.Learnt, remember-reads.Asked, remember-reads.Learnt)
 
 abbrev allowed-calls : ℕ → allowed-lts.Claims
 allowed-calls t = (consenters-reads.Asked, consenters-reads.Learnt, consenter-reads.Asked, consenter-reads.Learnt, fine-below t, fine.Post)
@@ -147,44 +149,44 @@ abbrev via-calls : ℕ → via-lts.Claims
 via-calls t = (allowed-below t, allowed.Post, known-step-reads.Asked, known-step-reads.Learnt, extends-below t, extends.Post)
 
 abbrev allowed-Inv-loop : allowed-lts.InvT-loop
-allowed-Inv-loop pack places p work₀ slot who x k e at count i₀ work i = (length work ≡ length work₀) × Below work₀ work (slot + 961) × Above work₀ work workRoom
-    × ((th : Theory) (T : List Node) → Stage th T pack places p work₀ (slotTable p work₀ slot) (slot + 961) → Memory th (k .0) p (slot + 961) work₀ → Memory th (k .0) p (slot + 961) work × ((j : ℕ) → j < i → Content th (k .0) (e .0) who x (meaning (p .characters) T 0) j))
+allowed-Inv-loop pack places p work₀ slot d at count i₀ work i = (length work ≡ length work₀) × Below work₀ work (slot + 961) × Above work₀ work workRoom
+    × ((th : Theory) (T : List Node) → Stage th T pack places p work₀ (slotTable p work₀ slot) (slot + 961) → Memory th (p .foresight .0) p (slot + 961) work₀ → Memory th (p .foresight .0) p (slot + 961) work × ((j : ℕ) → j < i → Content th (p .foresight .0) (d .nesting .0) (d .who) (d .action) (meaning (p .characters) T 0) j))
 
 abbrev allowed-μ-loop : allowed-lts.MeasureT-loop
-allowed-μ-loop pack places p work₀ slot who x k e at count i₀ work i = count - i
+allowed-μ-loop pack places p work₀ slot d at count i₀ work i = count - i
 
 allowed-mul-at : (t : ℕ) → allowed-lts.Need-mul-at (allowed-calls t) (allowed-at t) allowed.Post allowed-Inv-loop allowed-μ-loop
 allowed-mul-at t c =
-    let start = c .before .before .before in
+    let start = c .before .before .before .before in
     let (th, (T, (y, mem))) = start .pre .1 .0 in
     omega (arith, consent-place y _ (start .pre .1 .1))
 
 allowed-add-at : (t : ℕ) → allowed-lts.Need-add-at (allowed-calls t) (allowed-at t) allowed.Post allowed-Inv-loop allowed-μ-loop
 allowed-add-at t c =
-    let start = c .before .before .before in
+    let start = c .before .before .before .before in
     let (th, (T, (y, mem))) = start .pre .1 .0 in
     omega (arith, consent-place y _ (start .pre .1 .1))
 
 allowed-mul-at-2 : (t : ℕ) → allowed-lts.Need-mul-at-2 (allowed-calls t) (allowed-at t) allowed.Post allowed-Inv-loop allowed-μ-loop
 allowed-mul-at-2 t c =
-    let start = c .before .before .before in
+    let start = c .before .before .before .before in
     let (th, (T, (y, mem))) = start .pre .1 .0 in
     omega (arith, consent-place y _ (start .pre .1 .1))
 
 allowed-shared-slice-read-at : (t : ℕ) → allowed-lts.Need-shared-slice-read-at (allowed-calls t) (allowed-at t) allowed.Post allowed-Inv-loop allowed-μ-loop
 allowed-shared-slice-read-at t c =
-    let start = c .before .before .before .before in
+    let start = c .before .before .before .before .before in
     let (th, (T, (y, mem))) = start .pre .1 .0 in
     omega (arith, consent-place y _ (start .pre .1 .1))
 
 allowed-cast-at : (t : ℕ) → allowed-lts.Need-cast-at (allowed-calls t) (allowed-at t) allowed.Post allowed-Inv-loop allowed-μ-loop
 allowed-cast-at t c =
-    let start = c .before .before .before .before in
-    omega (arith, c .shared-slice-known3 .given (9 * start .args .x + 2))
+    let start = c .before .before .before .before .before in
+    omega (arith, c .shared-slice-known3 .given (9 * start .args .d .action + 2))
 
 allowed-consenters-requires : (t : ℕ) → allowed-lts.Need-consenters-requires (allowed-calls t) (allowed-at t) allowed.Post allowed-Inv-loop allowed-μ-loop
 allowed-consenters-requires t c κs =
-    let start = c .before .before .before .before in
+    let start = c .before .before .before .before .before in
     let (th, (T, (y, mem))) = start .pre .1 .0 in
     consent-readable y _ (start .pre .1 .1)
 
@@ -194,7 +196,7 @@ allowed-loop-holds t c = (refl, λ q l. refl, λ q l. refl, λ th T y mem. (mem,
 allowed-consenter-requires : (t : ℕ) → allowed-lts.Need-consenter-requires (allowed-calls t) (allowed-at t) allowed.Post allowed-Inv-loop allowed-μ-loop
 allowed-consenter-requires t c κs =
     let at-consenters = c .before .before in
-    let start = at-consenters .before .before .before .before .before in
+    let start = at-consenters .before .before .before .before .before .before in
     let (th, (T, (y, mem))) = start .pre .1 .0 in
     (consent-readable y _ (start .pre .1 .1), omega (arith, c .loop-test .taken, consent-count y _ (start .pre .1 .1) (at-consenters .consenters .ensures)))
 
@@ -203,7 +205,7 @@ allowed-fine-requires t c κs =
     let turn = c .before .before in
     let at-loop = turn .before in
     let at-consenters = at-loop .before in
-    let start = at-consenters .before .before .before .before .before in
+    let start = at-consenters .before .before .before .before .before .before in
     let (m, P) = start .pre in
     let a = start .args in
     let (th, (T, (y, mem))) = P .0 in
@@ -225,7 +227,7 @@ allowed-returns t c =
     let turn = at-consenter .before in
     let at-loop = turn .before in
     let at-consenters = at-loop .before in
-    let start = at-consenters .before .before .before .before .before in
+    let start = at-consenters .before .before .before .before .before .before in
     let P = start .pre .1 in
     let a = start .args in
     let (long, low, high, rest) = at-loop .loop .inv in
@@ -237,7 +239,7 @@ allowed-returns t c =
     let li : i < length (consentersOf y _ (P .1)) = omega (arith, count, turn .loop-test .taken) in
     let d = consent-each y _ (P .1) li (at-consenter .consenter .ensures) in
     told-no (λ q l. told .low q l ∙ low q l) (λ q l. told .high q l ∙ high q l) (told .memory)
-    (λ agreed. told .complete (not-true (f .result) (c .if1 .taken)) (content-of th (a .k .0) (a .e .0) (a .who) (a .x) (meaning (a .p .characters) T 0) agreed li (d .0)))
+    (λ agreed. told .complete (not-true (f .result) (c .if1 .taken)) (content-of th (a .p .foresight .0) (a .d .nesting .0) (a .d .who) (a .d .action) (meaning (a .p .characters) T 0) agreed li (d .0)))
 
 allowed-add-i : (t : ℕ) → allowed-lts.Need-add-i (allowed-calls t) (allowed-at t) allowed.Post allowed-Inv-loop allowed-μ-loop
 allowed-add-i t c = search needs
@@ -252,7 +254,7 @@ allowed-loop-again t c =
     let turn = at-consenter .before in
     let at-loop = turn .before in
     let at-consenters = at-loop .before in
-    let start = at-consenters .before .before .before .before .before in
+    let start = at-consenters .before .before .before .before .before .before in
     let P = start .pre .1 in
     let a = start .args in
     let (long, low, high, rest) = at-loop .loop .inv in
@@ -267,7 +269,7 @@ allowed-loop-again t c =
           let count = consent-count y _ (P .1) (at-consenters .consenters .ensures) in
           let li : at-loop .loop .i < length (consentersOf y _ (P .1)) = omega (arith, count, turn .loop-test .taken) in
           let d = consent-each y _ (P .1) li (at-consenter .consenter .ensures) in
-          (told .memory, content-more th (a .k .0) (a .e .0) (a .who) (a .x) (meaning (a .p .characters) T 0) (rest th T y mem .1) (d .0) (told .sound (not-false (f .result) (c .if1 .left)))),
+          (told .memory, content-more th (a .p .foresight .0) (a .d .nesting .0) (a .d .who) (a .d .action) (meaning (a .p .characters) T 0) (rest th T y mem .1) (d .0) (told .sound (not-false (f .result) (c .if1 .left)))),
     )
 
 allowed-same-length-2 : (t : ℕ) → allowed-lts.Need-same-length-2 (allowed-calls t) (allowed-at t) allowed.Post allowed-Inv-loop allowed-μ-loop
@@ -277,22 +279,25 @@ allowed-returns-2 : (t : ℕ) → allowed-lts.Need-returns-2 (allowed-calls t) (
 allowed-returns-2 t c =
     let at-loop = c .before in
     let at-consenters = at-loop .before in
-    let start = at-consenters .before .before .before .before .before in
+    let start = at-consenters .before .before .before .before .before .before in
     let P = start .pre .1 in
     let a = start .args in
     let (long, low, high, rest) = at-loop .loop .inv in
-    λ th T y mem. let count = consent-count y _ (P .1) (at-consenters .consenters .ensures) in told-yes low high (rest th T y mem .0) (agreed-all th (a .k .0) (a .e .0) (a .who) (a .x) (meaning (a .p .characters) T 0) {n = at-loop .loop .i} (omega (arith, count, c .loop-test .left)) (rest th T y mem .1))
+    λ th T y mem. let count = consent-count y _ (P .1) (at-consenters .consenters .ensures) in told-yes low high (rest th T y mem .0) (agreed-all th (a .p .foresight .0) (a .d .nesting .0) (a .d .who) (a .d .action) (meaning (a .p .characters) T 0) {n = at-loop .loop .i} (omega (arith, count, c .loop-test .left)) (rest th T y mem .1))
 
 explained-returns : (t : ℕ) → explained-lts.Need-returns (explained-calls t) (explained-at t) explained.Post
 explained-returns t c =
     let start = c .before .before .before .before .before in
     let a = start .args in
-    let none : 0 ≡ a .e .0 = omega (arith, c .if1 .taken) in
-    λ th T y mem. told-none _ mem (λ z. explained-zero th (a .k .0) (a .c) (a .a) (meaning (a .p .characters) T 0) (subst (λ (e : ℕ). Explained th (a .k .0) e (a .c) (a .a) (meaning (a .p .characters) T 0)) (sym none) z))
+    let none : 0 ≡ a .d .nesting .0 = omega (arith, c .if1 .taken) in
+    λ th T y mem. told-none _ mem (λ z. explained-zero th (a .p .foresight .0) (a .d .who) (a .d .action) (meaning (a .p .characters) T 0) (subst (λ (e : ℕ). Explained th (a .p .foresight .0) e (a .d .who) (a .d .action) (meaning (a .p .characters) T 0)) (sym none) z))
+
+explained-deed-key-requires : (t : ℕ) → explained-lts.Need-deed-key-requires (explained-calls t) (explained-at t) explained.Post
+explained-deed-key-requires t c κs = search needs
 
 explained-recall-requires : (t : ℕ) → explained-lts.Need-recall-requires (explained-calls t) (explained-at t) explained.Post
 explained-recall-requires t c κs =
-    let start = c .before .before .before .before .before .before in
+    let start = c .before .before .before .before .before .before .before in
     let P = start .pre .1 in
     let (th, (T, (y, mem))) = P .0 in
     stage-before y (omega (arith, P .5))
@@ -303,13 +308,14 @@ explained-same-length t c = search needs
 explained-returns-2 : (t : ℕ) → explained-lts.Need-returns-2 (explained-calls t) (explained-at t) explained.Post
 explained-returns-2 t c =
     let at-recall = c .before .before .before in
-    let start = at-recall .before .before .before .before .before .before .before in
+    let key = at-recall .before .before .deed-key .ensures in
+    let start = at-recall .before .before .before .before .before .before .before .before in
     let P = start .pre .1 in
     let a = start .args in
     let r = at-recall .recall in
     λ th T y mem.
-    let (m, fact) = (r .ensures .told th (a .k .0) (a .slot + 961) (omega (arith, P .5)) (y .slotted) mem) in
-    told-no (λ q l. r .ensures .only .low q (omega (arith, l, P .5))) (r .ensures .only .high) m (known y fact .unexplained (c .if2 .taken))
+    let (m, fact) = (r .ensures .told th (a .p .foresight .0) (a .slot + 961) (omega (arith, P .5)) (y .slotted) mem) in
+    told-no (λ q l. r .ensures .only .low q (omega (arith, l, P .5))) (r .ensures .only .high) m (known y key fact .unexplained (c .if2 .taken))
 
 explained-same-length-2 : (t : ℕ) → explained-lts.Need-same-length-2 (explained-calls t) (explained-at t) explained.Post
 explained-same-length-2 t c = search needs
@@ -317,24 +323,25 @@ explained-same-length-2 t c = search needs
 explained-returns-3 : (t : ℕ) → explained-lts.Need-returns-3 (explained-calls t) (explained-at t) explained.Post
 explained-returns-3 t c =
     let at-recall = c .before .before .before .before in
-    let start = at-recall .before .before .before .before .before .before .before in
+    let key = at-recall .before .before .deed-key .ensures in
+    let start = at-recall .before .before .before .before .before .before .before .before in
     let P = start .pre .1 in
     let a = start .args in
     let r = at-recall .recall in
     λ th T y mem.
-    let (m, fact) = (r .ensures .told th (a .k .0) (a .slot + 961) (omega (arith, P .5)) (y .slotted) mem) in
-    told-yes (λ q l. r .ensures .only .low q (omega (arith, l, P .5))) (r .ensures .only .high) m (known y fact .explained (c .if3 .taken))
+    let (m, fact) = (r .ensures .told th (a .p .foresight .0) (a .slot + 961) (omega (arith, P .5)) (y .slotted) mem) in
+    told-yes (λ q l. r .ensures .only .low q (omega (arith, l, P .5))) (r .ensures .only .high) m (known y key fact .explained (c .if3 .taken))
 
 explained-explains-requires : (t : ℕ) → explained-lts.Need-explains-requires (explained-calls t) (explained-at t) explained.Post
 explained-explains-requires t c κs =
     let at-recall = c .before .before .before .before .before in
-    let at-if1 = at-recall .before .before in
+    let at-if1 = at-recall .before .before .before in
     let start = at-if1 .before .before .before .before .before in
     let (m, P) = start .pre in
     let a = start .args in
     let (th, (T, (y, mem))) = P .0 in
     let r = at-recall .recall in
-    (omega (arith, m), ((th, (T, (slot-same (a .slot) y (λ q l. r .ensures .only .low q (omega (arith, l, P .5))) (r .kept .0), (r .ensures .told th (a .k .0) (a .slot + 961) (omega (arith, P .5)) (y .slotted) mem) .0))), P .1, P .2, P .3, P .4, P .5, omega (arith, at-if1 .if1 .left)))
+    (omega (arith, m), ((th, (T, (slot-same (a .slot) y (λ q l. r .ensures .only .low q (omega (arith, l, P .5))) (r .kept .0), (r .ensures .told th (a .p .foresight .0) (a .slot + 961) (omega (arith, P .5)) (y .slotted) mem) .0))), P .1, P .2, P .3, P .4, P .5, omega (arith, at-if1 .if1 .left)))
 
 explained-mark-requires : (t : ℕ) → explained-lts.Need-mark-requires (explained-calls t) (explained-at t) explained.Post
 explained-mark-requires t c κs = search needs
@@ -346,13 +353,13 @@ explained-remember-requires : (t : ℕ) → explained-lts.Need-remember-requires
 explained-remember-requires t c κs =
     let at-explains = c .before .before .before .before in
     let at-recall = at-explains .before .before .before .before .before .before in
-    let start = at-recall .before .before .before .before .before .before .before in
+    let start = at-recall .before .before .before .before .before .before .before .before in
     let P = start .pre .1 in
     let a = start .args in
     let (th, (T, (y, mem))) = P .0 in
     let r = at-recall .recall in
     let x = at-explains .explains in
-    let told = x .ensures th T (slot-same {now = r .last .0} (a .slot) y (λ q l. r .ensures .only .low q (omega (arith, l, P .5))) (r .kept .0)) ((r .ensures .told th (a .k .0) (a .slot + 961) (omega (arith, P .5)) (y .slotted) mem) .0) in
+    let told = x .ensures th T (slot-same {now = r .last .0} (a .slot) y (λ q l. r .ensures .only .low q (omega (arith, l, P .5))) (r .kept .0)) ((r .ensures .told th (a .p .foresight .0) (a .slot + 961) (omega (arith, P .5)) (y .slotted) mem) .0) in
     let z = slot-same (a .slot) (slot-same {now = r .last .0} (a .slot) y (λ q l. r .ensures .only .low q (omega (arith, l, P .5))) (r .kept .0)) (told .low) (x .kept .1 .1 .1 .0) in
     stage-before z (omega (arith, P .5))
 
@@ -369,21 +376,22 @@ explained-returns-4 t c =
     let at-mark = at-remember .before in
     let at-explains = at-mark .before .before .before .before in
     let at-recall = at-explains .before .before .before .before .before .before in
-    let start = at-recall .before .before .before .before .before .before .before in
+    let key = at-recall .before .before .deed-key .ensures in
+    let start = at-recall .before .before .before .before .before .before .before .before in
     let P = start .pre .1 in
     let a = start .args in
     let r = at-recall .recall in
     let rem = at-remember .remember .ensures in
     λ th T y mem.
     let x = at-explains .explains in
-    let told = x .ensures th T (slot-same {now = r .last .0} (a .slot) y (λ q l. r .ensures .only .low q (omega (arith, l, P .5))) (r .kept .0)) ((r .ensures .told th (a .k .0) (a .slot + 961) (omega (arith, P .5)) (y .slotted) mem) .0) in
+    let told = x .ensures th T (slot-same {now = r .last .0} (a .slot) y (λ q l. r .ensures .only .low q (omega (arith, l, P .5))) (r .kept .0)) ((r .ensures .told th (a .p .foresight .0) (a .slot + 961) (omega (arith, P .5)) (y .slotted) mem) .0) in
     let z = slot-same (a .slot) (slot-same {now = r .last .0} (a .slot) y (λ q l. r .ensures .only .low q (omega (arith, l, P .5))) (r .kept .0)) (told .low) (x .kept .1 .1 .1 .0) in
     record {
       sound = told .sound;
       complete = told .complete;
       low = λ q l. rem .only .low q (omega (arith, l, P .5)) ∙ told .low q l ∙ r .ensures .only .low q (omega (arith, l, P .5));
       high = λ q l. rem .only .high q l ∙ told .high q l ∙ r .ensures .only .high q l;
-      memory = rem .memory th (a .k .0) (a .slot + 961) (omega (arith, P .5)) (z .slotted) (told .memory) (note z (verdict th (a .k .0) (record { who = a .c; nesting = a .e .0; left = a .a; base = 0 }) (λ (root : ℕ). meaning (a .p .characters) T root) (told .sound) (told .complete) (at-mark .mark .ensures)));
+      memory = rem .memory th (a .p .foresight .0) (a .slot + 961) (omega (arith, P .5)) (z .slotted) (told .memory) (note z key (verdict th (a .p .foresight .0) (deedKey (a .d)) (meaning (a .p .characters) T 0) (told .sound) (told .complete) (at-mark .mark .ensures)));
     }
 
 explains-add-wide : (t : ℕ) → explains-lts.Need-add-wide (explains-calls t) (explains-at t) explains.Post
@@ -400,13 +408,13 @@ explains-add-wide-2 t c =
 
 explains-add-wide-3 : (t : ℕ) → explains-lts.Need-add-wide-3 (explains-calls t) (explains-at t) explains.Post
 explains-add-wide-3 t c =
-    let start = c .before .before .before .before in
+    let start = c .before .before .before .before .before in
     let (th, (T, (y, mem))) = start .pre .1 .0 in
     omega (arith, stage-row y 0 _ (y .tabled .some) (start .pre .1 .1), start .pre .1 .5)
 
 explains-slice-read-wide : (t : ℕ) → explains-lts.Need-slice-read-wide (explains-calls t) (explains-at t) explains.Post
 explains-slice-read-wide t c =
-    let start = c .before .before .before .before .before in
+    let start = c .before .before .before .before .before .before in
     let (th, (T, (y, mem))) = start .pre .1 .0 in
     let (low, there) = stage-row y 0 _ (y .tabled .some) (start .pre .1 .1) in
     omega (arith, low, there (omega (arith, start .pre .1 .5)))
@@ -416,22 +424,22 @@ explains-wide-requires t c κs = search needs
 
 -- the row of what c believes
 explains-believed : (t : ℕ) (c : explains-lts.After-wide (explains-calls t) (explains-at t) explains.Post) {th : Theory} {T : List Node} →
-    let start = c .before .before .before .before .before .before in
+    let start = c .before .before .before .before .before .before .before in
     let a = start .args in
-    Stage th T (a .pack .now) (a .places .now) (a .p) (a .work .now) (slotTable (a .p) (a .work .now) (a .slot)) (a .slot + 961) → (belief (meaning (a .p .characters) T 0) (a .c) ≡ meaning (a .p .characters) T (c .wide .result)) × (c .wide .result < getD (a .work .now) (a .slot) 0)
+    Stage th T (a .pack .now) (a .places .now) (a .p) (a .work .now) (slotTable (a .p) (a .work .now) (a .slot)) (a .slot + 961) → (belief (meaning (a .p .characters) T 0) (a .d .who) ≡ meaning (a .p .characters) T (c .wide .result)) × (c .wide .result < getD (a .work .now) (a .slot) 0)
 explains-believed t c y =
-    let start = c .before .before .before .before .before .before in
+    let start = c .before .before .before .before .before .before .before in
     let a = start .args in
-    stage-believed y 0 (a .c) (y .tabled .some) (start .pre .1 .1) (ap (λ (q : ℕ). getD (a .work .now) q 0) (omega arith) ∙ c .wide .ensures)
+    stage-believed y 0 (a .d .who) (y .tabled .some) (start .pre .1 .1) (ap (λ (q : ℕ). getD (a .work .now) q 0) (omega arith) ∙ c .wide .ensures)
 
 explains-known-step-requires : (t : ℕ) → explains-lts.Need-known-step-requires (explains-calls t) (explains-at t) explains.Post
 explains-known-step-requires t c κs =
-    let start = c .before .before .before .before .before .before .before in
+    let start = c .before .before .before .before .before .before .before .before in
     let P = start .pre .1 in
     let a = start .args in
     let (th, (T, (y, mem))) = P .0 in
-    let less = one-less (a .k .0) (a .e .0) (P .6) in
-    (a .k .0, ((th, (T, (y, mem))), P .2, explains-believed t (c .before) y .1, omega (arith, P .5, P .3, less)))
+    let less = one-less (a .p .foresight .0) (a .d .nesting .0) (P .6) in
+    (((th, (T, (y, mem))), P .2, explains-believed t (c .before) y .1, omega (arith, P .5, P .3, less)))
 
 explains-same-length : (t : ℕ) → explains-lts.Need-same-length (explains-calls t) (explains-at t) explains.Post
 explains-same-length t c = search needs
@@ -440,74 +448,74 @@ explains-returns : (t : ℕ) → explains-lts.Need-returns (explains-calls t) (e
 explains-returns t c =
     let at-known-step = c .before .before .before in
     let at-wide = at-known-step .before .before in
-    let start = at-wide .before .before .before .before .before .before in
+    let start = at-wide .before .before .before .before .before .before .before in
     let a = start .args in
     λ th T y mem.
     let (same, inside) = explains-believed t at-wide y in
-    let played = at-known-step .known-step .ensures th T (a .k .0) y mem in
-    told-no (played .low) (played .high) (played .memory) (explained-plays th (a .k .0) (a .e .0) (a .c) (a .a) (meaning (a .p .characters) T 0) (λ t q. played .none (c .if1 .taken) t (subst (λ (s : State). Plays th s (a .a) t) same q)))
+    let played = at-known-step .known-step .ensures th T y mem in
+    told-no (played .low) (played .high) (played .memory) (explained-plays th (a .p .foresight .0) (a .d .nesting .0) (a .d .who) (a .d .action) (meaning (a .p .characters) T 0) (λ t q. played .none (c .if1 .taken) t (subst (λ (s : State). Plays th s (a .d .action) t) same q)))
 
 explains-add-next : (t : ℕ) → explains-lts.Need-add-next (explains-calls t) (explains-at t) explains.Post
 explains-add-next t c =
     let at-wide = c .before .before .before .before .before in
-    let start = at-wide .before .before .before .before .before .before in
+    let start = at-wide .before .before .before .before .before .before .before in
     omega (arith, start .pre .1 .5)
 
 explains-table-in-requires : (t : ℕ) → explains-lts.Need-table-in-requires (explains-calls t) (explains-at t) explains.Post
 explains-table-in-requires t c κs =
     let at-known-step = c .before .before .before .before in
-    let start = at-known-step .before .before .before .before .before .before .before .before in
+    let start = at-known-step .before .before .before .before .before .before .before .before .before in
     let (th, (T, (y, mem))) = start .pre .1 .0 in
     (omega (arith, start .pre .1 .5, y .room, at-known-step .known-step .kept .1 .1 .1 .1 .0), omega (arith, small (y .tabled)))
 
 explains-add-utility : (t : ℕ) → explains-lts.Need-add-utility (explains-calls t) (explains-at t) explains.Post
 explains-add-utility t c =
-    let at-wide = c .before .before .before .before .before .before .before in
-    let start = at-wide .before .before .before .before .before .before in
+    let at-wide = c .before .before .before .before .before .before .before .before in
+    let start = at-wide .before .before .before .before .before .before .before in
     let (th, (T, (y, mem))) = start .pre .1 .0 in
     omega (arith, small (y .tabled), start .pre .1 .1)
 
 explains-mul-utility : (t : ℕ) → explains-lts.Need-mul-utility (explains-calls t) (explains-at t) explains.Post
 explains-mul-utility t c =
-    let at-wide = c .before .before .before .before .before .before .before in
-    let start = at-wide .before .before .before .before .before .before in
+    let at-wide = c .before .before .before .before .before .before .before .before in
+    let start = at-wide .before .before .before .before .before .before .before in
     let (th, (T, (y, mem))) = start .pre .1 .0 in
     omega (arith, small (y .tabled), start .pre .1 .1)
 
 explains-shared-slice-read-utility : (t : ℕ) → explains-lts.Need-shared-slice-read-utility (explains-calls t) (explains-at t) explains.Post
 explains-shared-slice-read-utility t c =
-    let at-wide = c .before .before .before .before .before .before .before .before in
-    let start = at-wide .before .before .before .before .before .before in
+    let at-wide = c .before .before .before .before .before .before .before .before .before in
+    let start = at-wide .before .before .before .before .before .before .before in
     let (th, (T, (y, mem))) = start .pre .1 .0 in
     omega (arith, y .theorized .marked, small (y .tabled), start .pre .1 .1)
 
 explains-cast-utility : (t : ℕ) → explains-lts.Need-cast-utility (explains-calls t) (explains-at t) explains.Post
 explains-cast-utility t c =
-    let at-wide = c .before .before .before .before .before .before .before .before in
-    let start = at-wide .before .before .before .before .before .before in
-    omega (arith, c .shared-slice-known3 .given (321 + start .args .c))
+    let at-wide = c .before .before .before .before .before .before .before .before .before in
+    let start = at-wide .before .before .before .before .before .before .before in
+    omega (arith, c .shared-slice-known3 .given (321 + start .args .d .who))
 
 -- the table in the slot after the step
 explains-stays : (t : ℕ) (c : explains-lts.After-known-step (explains-calls t) (explains-at t) explains.Post) {th : Theory} {T : List Node} →
     let at-wide = c .before .before in
-    let start = at-wide .before .before .before .before .before .before in
+    let start = at-wide .before .before .before .before .before .before .before in
     let a = start .args in
-    Stage th T (a .pack .now) (a .places .now) (a .p) (a .work .now) (slotTable (a .p) (a .work .now) (a .slot)) (a .slot + 961) → Memory th (a .k .0) (a .p) (a .slot + 961) (a .work .now)
+    Stage th T (a .pack .now) (a .places .now) (a .p) (a .work .now) (slotTable (a .p) (a .work .now) (a .slot)) (a .slot + 961) → Memory th (a .p .foresight .0) (a .p) (a .slot + 961) (a .work .now)
     → Stage th T (a .pack .now) (a .places .now) (a .p) (c .known-step .last .1 .1 .1 .1 .0) (slotTable (a .p) (c .known-step .last .1 .1 .1 .1 .0) (a .slot)) (a .slot + 961) × (at-wide .wide .result < getD (c .known-step .last .1 .1 .1 .1 .0) (a .slot) 0)
 explains-stays t c {th} {T} y mem =
     let at-wide = c .before .before in
-    let start = at-wide .before .before .before .before .before .before in
+    let start = at-wide .before .before .before .before .before .before .before in
     let a = start .args in
     let s = c .known-step in
-    let low = s .ensures th T (a .k .0) y mem .low in
+    let low = s .ensures th T y mem .low in
     (slot-same (a .slot) y low (s .kept .1 .1 .1 .1 .0), omega (arith, explains-believed t at-wide y .1, low (a .slot) (omega arith)))
 
 explains-utility-requires : (t : ℕ) → explains-lts.Need-utility-requires (explains-calls t) (explains-at t) explains.Post
 explains-utility-requires t c κs =
-    let at-table-in = c .before .before in
+    let at-table-in = c .before .before .before in
     let at-known-step = at-table-in .before .before .before .before .before in
     let at-wide = at-known-step .before .before in
-    let start = at-wide .before .before .before .before .before .before in
+    let start = at-wide .before .before .before .before .before .before .before in
     let P = start .pre .1 in
     let (th, (T, (y, mem))) = P .0 in
     let (z, inside) = explains-stays t at-known-step y mem in
@@ -517,28 +525,28 @@ explains-sub-t15 : (t : ℕ) → explains-lts.Need-sub-t15 (explains-calls t) (e
 explains-sub-t15 t c =
     let at-if1 = c .before .before .before .before .before .before .before in
     let at-wide = at-if1 .before .before .before .before .before in
-    let start = at-wide .before .before .before .before .before .before in
+    let start = at-wide .before .before .before .before .before .before .before in
     omega (arith, start .pre .1 .6)
 
-explains-sub-extends : (t : ℕ) → explains-lts.Need-sub-extends (explains-calls t) (explains-at t) explains.Post
-explains-sub-extends t c =
+explains-sub-left : (t : ℕ) → explains-lts.Need-sub-left (explains-calls t) (explains-at t) explains.Post
+explains-sub-left t c =
     let at-if1 = c .before .before .before .before .before .before .before .before in
     let at-wide = at-if1 .before .before .before .before .before in
-    let start = at-wide .before .before .before .before .before .before in
+    let start = at-wide .before .before .before .before .before .before .before in
     omega (arith, start .pre .1 .3)
 
 explains-extends-requires : (t : ℕ) → explains-lts.Need-extends-requires (explains-calls t) (explains-at t) explains.Post
 explains-extends-requires t c κs =
-    let at-if1 = c .before .before .before .before .before .before .before .before in
+    let at-if1 = c .before .before .before .before .before .before .before .before .before in
     let at-known-step = at-if1 .before .before .before in
-    let start = at-known-step .before .before .before .before .before .before .before .before in
+    let start = at-known-step .before .before .before .before .before .before .before .before .before in
     let (m, P) = start .pre in
     let a = start .args in
     let (th, (T, (y, mem))) = P .0 in
     let s = at-known-step .known-step in
-    let less = one-less (a .k .0) (a .e .0) (P .6) in
+    let less = one-less (a .p .foresight .0) (a .d .nesting .0) (P .6) in
     let f : Free (a .slot + 961) 1 = omega (arith, P .5, P .3, less) in
-    let played = s .ensures th T (a .k .0) y mem in
+    let played = s .ensures th T y mem in
     let long = s .kept .1 .1 .1 .1 .0 in
     let zero : s .result ≡ 0 = omega (arith, at-if1 .if1 .left) in
     (omega (arith, m, P .4, P .6), ((th, (nextTable y _ played f long zero, (next-stage y _ played f long zero, played .further zero))), P .1, P .3, P .4, omega (arith, P .5, P .3, less)))
@@ -546,7 +554,7 @@ explains-extends-requires t c κs =
 explains-same-length-2 : (t : ℕ) → explains-lts.Need-same-length-2 (explains-calls t) (explains-at t) explains.Post
 explains-same-length-2 t c =
     let at-extends = c .before .before in
-    let at-table-in = at-extends .before .before .before .before .before .before .before in
+    let at-table-in = at-extends .before .before .before .before .before .before .before .before in
     let at-known-step = at-table-in .before .before .before .before .before in
     at-extends .extends .kept .1 .1 .1 .0 ∙ at-known-step .known-step .kept .1 .1 .1 .1 .0
 
@@ -554,31 +562,31 @@ explains-returns-2 : (t : ℕ) → explains-lts.Need-returns-2 (explains-calls t
 explains-returns-2 t c =
     let at-extends = c .before .before in
     let at-utility = at-extends .before .before .before .before in
-    let at-table-in = at-utility .before .before .before in
+    let at-table-in = at-utility .before .before .before .before in
     let at-if1 = at-table-in .before .before in
     let at-known-step = at-if1 .before .before .before in
     let at-wide = at-known-step .before .before in
-    let start = at-wide .before .before .before .before .before .before in
+    let start = at-wide .before .before .before .before .before .before .before in
     let P = start .pre .1 in
     let a = start .args in
     let s = at-known-step .known-step in
-    let some : 0 < a .e .0 = P .6 in
-    let less = one-less (a .k .0) (a .e .0) some in
+    let some : 0 < a .d .nesting .0 = P .6 in
+    let less = one-less (a .p .foresight .0) (a .d .nesting .0) some in
     let f : Free (a .slot + 961) 1 = omega (arith, P .5, P .3, less) in
     let long = s .kept .1 .1 .1 .1 .0 in
     let zero : s .result ≡ 0 = omega (arith, at-if1 .if1 .left) in
-    let up : suc (a .e .0 - 1) ≡ a .e .0 = omega (arith, some) in
-    let all : suc (a .k .0 - 1) ≡ a .k .0 = omega (arith, P .3) in
+    let up : suc (a .d .nesting .0 - 1) ≡ a .d .nesting .0 = omega (arith, some) in
+    let all : suc (a .p .foresight .0 - 1) ≡ a .p .foresight .0 = omega (arith, P .3) in
     λ th T y mem.
     let (same, inside) = explains-believed t at-wide y in
-    let played = s .ensures th T (a .k .0) y mem in
-    let base = stage-utility (explains-stays t at-known-step y mem .0) (a .c) (at-wide .wide .result) (P .1) (utility-in (a .pack .now) (getD (a .places .now) (321 + a .c) 0) (s .last .1 .1 .1 .1 .0) (at-wide .wide .result) (at-utility .utility .result) (at-table-in .table-in .ensures) (at-utility .utility .ensures)) in
-    let b = base ∙ ap (utilityTo th (a .c)) (sym same) in
-    let plays = subst (λ (s : State). Plays th s (a .a) (meaning (a .p .characters) (nextTable y _ played f long zero) 0)) (sym same) (next-plays y _ played f long zero) in
+    let played = s .ensures th T y mem in
+    let base = stage-utility (explains-stays t at-known-step y mem .0) (a .d .who) (at-wide .wide .result) (P .1) (utility-in (a .pack .now) (getD (a .places .now) (321 + a .d .who) 0) (s .last .1 .1 .1 .1 .0) (at-wide .wide .result) (at-utility .utility .result) (at-table-in .table-in .ensures) (at-utility .utility .ensures)) in
+    let b = base ∙ ap (utilityTo th (a .d .who)) (sym same) in
+    let plays = subst (λ (s : State). Plays th s (a .d .action) (meaning (a .p .characters) (nextTable y _ played f long zero) 0)) (sym same) (next-plays y _ played f long zero) in
     let told = at-extends .extends .ensures th (nextTable y _ played f long zero) (next-stage y _ played f long zero) (played .further zero) in
     told-by (omega arith) (memory-fewer (a .p) (omega arith)) (played .low) (played .high) told
-    (λ z. subst (λ (e : ℕ). Explained th (a .k .0) e (a .c) (a .a) (meaning (a .p .characters) T 0)) up (explained-from th (a .k .0) (a .e .0 - 1) (a .c) (a .a) (meaning (a .p .characters) T 0) _ _ b plays (a .k .0 - 1) all z))
-    (λ z. explained-to th (a .k .0) (a .e .0 - 1) (a .c) (a .a) (meaning (a .p .characters) T 0) _ _ b plays (a .k .0 - 1) all (subst (λ (e : ℕ). Explained th (a .k .0) e (a .c) (a .a) (meaning (a .p .characters) T 0)) (sym up) z))
+    (λ z. subst (λ (e : ℕ). Explained th (a .p .foresight .0) e (a .d .who) (a .d .action) (meaning (a .p .characters) T 0)) up (explained-from th (a .p .foresight .0) (a .d .nesting .0 - 1) (a .d .who) (a .d .action) (meaning (a .p .characters) T 0) _ _ b plays (a .p .foresight .0 - 1) all z))
+    (λ z. explained-to th (a .p .foresight .0) (a .d .nesting .0 - 1) (a .d .who) (a .d .action) (meaning (a .p .characters) T 0) _ _ b plays (a .p .foresight .0 - 1) all (subst (λ (e : ℕ). Explained th (a .p .foresight .0) e (a .d .who) (a .d .action) (meaning (a .p .characters) T 0)) (sym up) z))
 
 extends-table-in-requires : (t : ℕ) → extends-lts.Need-table-in-requires (extends-calls t) (extends-at t) extends.Post
 extends-table-in-requires t c κs =
@@ -588,30 +596,30 @@ extends-table-in-requires t c κs =
 
 extends-add-utility : (t : ℕ) → extends-lts.Need-add-utility (extends-calls t) (extends-at t) extends.Post
 extends-add-utility t c =
-    let start = c .before .before .before .before .before in
+    let start = c .before .before .before .before .before .before in
     let (th, (T, (y, mem))) = start .pre .1 .0 in
     omega (arith, small (y .tabled), start .pre .1 .1)
 
 extends-mul-utility : (t : ℕ) → extends-lts.Need-mul-utility (extends-calls t) (extends-at t) extends.Post
 extends-mul-utility t c =
-    let start = c .before .before .before .before .before in
+    let start = c .before .before .before .before .before .before in
     let (th, (T, (y, mem))) = start .pre .1 .0 in
     omega (arith, small (y .tabled), start .pre .1 .1)
 
 extends-shared-slice-read-utility : (t : ℕ) → extends-lts.Need-shared-slice-read-utility (extends-calls t) (extends-at t) extends.Post
 extends-shared-slice-read-utility t c =
-    let start = c .before .before .before .before .before .before in
+    let start = c .before .before .before .before .before .before .before in
     let (th, (T, (y, mem))) = start .pre .1 .0 in
     omega (arith, y .theorized .marked, small (y .tabled), start .pre .1 .1)
 
 extends-cast-utility : (t : ℕ) → extends-lts.Need-cast-utility (extends-calls t) (extends-at t) extends.Post
 extends-cast-utility t c =
-    let start = c .before .before .before .before .before .before in
-    omega (arith, c .shared-slice-known3 .given (321 + start .args .c))
+    let start = c .before .before .before .before .before .before .before in
+    omega (arith, c .shared-slice-known3 .given (321 + start .args .g .who))
 
 extends-utility-requires : (t : ℕ) → extends-lts.Need-utility-requires (extends-calls t) (extends-at t) extends.Post
 extends-utility-requires t c κs =
-    let at-table-in = c .before .before in
+    let at-table-in = c .before .before .before in
     let start = at-table-in .before .before .before .before .before in
     let P = start .pre .1 in
     let (th, (T, (y, mem))) = P .0 in
@@ -622,29 +630,32 @@ extends-same-length t c = search needs
 
 extends-returns : (t : ℕ) → extends-lts.Need-returns (extends-calls t) (extends-at t) extends.Post
 extends-returns t c =
-    let at-utility = c .before in
-    let at-table-in = at-utility .before .before .before in
+    let at-utility = c .before .before in
+    let at-table-in = at-utility .before .before .before .before in
     let start = at-table-in .before .before .before .before .before in
     let P = start .pre .1 in
     let a = start .args in
-    λ th T y mem. told-yes (λ q l. refl) (λ q l. refl) mem (reach-here th (a .k .0) (a .e .0) (a .c) (a .base) (a .left) (meaning (a .p .characters) T 0) (omega (arith, stage-utility y (a .c) 0 (P .1) (utility-in (a .pack .now) (getD (a .places .now) (321 + a .c) 0) (a .work .now) 0 (at-utility .utility .result) (at-table-in .table-in .ensures) (at-utility .utility .ensures)), c .if1 .taken)))
+    λ th T y mem. told-yes (λ q l. refl) (λ q l. refl) mem (reach-here th (a .p .foresight .0) (a .g .nesting .0) (a .g .who) (a .g .base) (a .g .left) (meaning (a .p .characters) T 0) (omega (arith, stage-utility y (a .g .who) 0 (P .1) (utility-in (a .pack .now) (getD (a .places .now) (321 + a .g .who) 0) (a .work .now) 0 (at-utility .utility .result) (at-table-in .table-in .ensures) (at-utility .utility .ensures)), c .if1 .taken)))
 
 extends-same-length-2 : (t : ℕ) → extends-lts.Need-same-length-2 (extends-calls t) (extends-at t) extends.Post
 extends-same-length-2 t c = search needs
 
 extends-returns-2 : (t : ℕ) → extends-lts.Need-returns-2 (extends-calls t) (extends-at t) extends.Post
 extends-returns-2 t c =
-    let at-utility = c .before .before in
-    let at-table-in = at-utility .before .before .before in
+    let at-utility = c .before .before .before .before in
+    let at-table-in = at-utility .before .before .before .before in
     let start = at-table-in .before .before .before .before .before in
     let P = start .pre .1 in
     let a = start .args in
-    let none : 1 ≡ suc (a .left) = omega (arith, c .if2 .taken) in
-    λ th T y mem. told-none _ mem (λ z. reach-no-more th (a .k .0) (a .e .0) (a .c) (a .base) (meaning (a .p .characters) T 0) (λ b. omega (arith, stage-utility y (a .c) 0 (P .1) (utility-in (a .pack .now) (getD (a .places .now) (321 + a .c) 0) (a .work .now) 0 (at-utility .utility .result) (at-table-in .table-in .ensures) (at-utility .utility .ensures)), c .before .if1 .left)) (subst (λ (n : ℕ). inner.Above th (a .k .0) (a .e .0) (a .c) (a .base) n (meaning (a .p .characters) T 0)) (sym none) z))
+    let none : 1 ≡ suc (a .g .left) = omega (arith, c .if2 .taken) in
+    λ th T y mem. told-none _ mem (λ z. reach-no-more th (a .p .foresight .0) (a .g .nesting .0) (a .g .who) (a .g .base) (meaning (a .p .characters) T 0) (λ b. omega (arith, stage-utility y (a .g .who) 0 (P .1) (utility-in (a .pack .now) (getD (a .places .now) (321 + a .g .who) 0) (a .work .now) 0 (at-utility .utility .result) (at-table-in .table-in .ensures) (at-utility .utility .ensures)), c .before .before .if1 .left)) (subst (λ (n : ℕ). inner.Above th (a .p .foresight .0) (a .g .nesting .0) (a .g .who) (a .g .base) n (meaning (a .p .characters) T 0)) (sym none) z))
+
+extends-goal-key-requires : (t : ℕ) → extends-lts.Need-goal-key-requires (extends-calls t) (extends-at t) extends.Post
+extends-goal-key-requires t c κs = search needs
 
 extends-recall-requires : (t : ℕ) → extends-lts.Need-recall-requires (extends-calls t) (extends-at t) extends.Post
 extends-recall-requires t c κs =
-    let at-table-in = c .before .before .before .before .before .before in
+    let at-table-in = c .before .before .before .before .before .before .before .before .before .before in
     let start = at-table-in .before .before .before .before .before in
     let P = start .pre .1 in
     let (th, (T, (y, mem))) = P .0 in
@@ -656,14 +667,15 @@ extends-same-length-3 t c = search needs
 extends-returns-3 : (t : ℕ) → extends-lts.Need-returns-3 (extends-calls t) (extends-at t) extends.Post
 extends-returns-3 t c =
     let at-recall = c .before .before .before in
-    let at-table-in = at-recall .before .before .before .before .before .before .before in
+    let key = at-recall .before .before .goal-key .ensures in
+    let at-table-in = at-recall .before .before .before .before .before .before .before .before .before .before .before in
     let start = at-table-in .before .before .before .before .before in
     let P = start .pre .1 in
     let a = start .args in
     let r = at-recall .recall in
     λ th T y mem.
-    let (m, fact) = r .ensures .told th (a .k .0) (a .slot + 961) (omega (arith, P .4)) (y .slotted) mem in
-    told-no (λ q l. r .ensures .only .low q (omega (arith, l, P .4))) (r .ensures .only .high) m (known y fact .no (c .if3 .taken))
+    let (m, fact) = r .ensures .told th (a .p .foresight .0) (a .slot + 961) (omega (arith, P .4)) (y .slotted) mem in
+    told-no (λ q l. r .ensures .only .low q (omega (arith, l, P .4))) (r .ensures .only .high) m (known y key fact .no (c .if3 .taken))
 
 extends-same-length-4 : (t : ℕ) → extends-lts.Need-same-length-4 (extends-calls t) (extends-at t) extends.Post
 extends-same-length-4 t c = search needs
@@ -671,31 +683,32 @@ extends-same-length-4 t c = search needs
 extends-returns-4 : (t : ℕ) → extends-lts.Need-returns-4 (extends-calls t) (extends-at t) extends.Post
 extends-returns-4 t c =
     let at-recall = c .before .before .before .before in
-    let at-table-in = at-recall .before .before .before .before .before .before .before in
+    let key = at-recall .before .before .goal-key .ensures in
+    let at-table-in = at-recall .before .before .before .before .before .before .before .before .before .before .before in
     let start = at-table-in .before .before .before .before .before in
     let P = start .pre .1 in
     let a = start .args in
     let r = at-recall .recall in
     λ th T y mem.
-    let (m, fact) = r .ensures .told th (a .k .0) (a .slot + 961) (omega (arith, P .4)) (y .slotted) mem in
-    told-yes (λ q l. r .ensures .only .low q (omega (arith, l, P .4))) (r .ensures .only .high) m (known y fact .yes (c .if4 .taken))
+    let (m, fact) = r .ensures .told th (a .p .foresight .0) (a .slot + 961) (omega (arith, P .4)) (y .slotted) mem in
+    told-yes (λ q l. r .ensures .only .low q (omega (arith, l, P .4))) (r .ensures .only .high) m (known y key fact .yes (c .if4 .taken))
 
-extends-sub-extends-by : (t : ℕ) → extends-lts.Need-sub-extends-by (extends-calls t) (extends-at t) extends.Post
-extends-sub-extends-by t c =
-    let at-if2 = c .before .before .before .before .before .before .before in
+extends-sub-left : (t : ℕ) → extends-lts.Need-sub-left (extends-calls t) (extends-at t) extends.Post
+extends-sub-left t c =
+    let at-if2 = c .before .before .before .before .before .before .before .before .before in
     omega (arith, at-if2 .if2 .left)
 
 extends-extends-by-requires : (t : ℕ) → extends-lts.Need-extends-by-requires (extends-calls t) (extends-at t) extends.Post
 extends-extends-by-requires t c κs =
-    let at-recall = c .before .before .before .before .before in
-    let at-if2 = at-recall .before .before in
-    let at-table-in = at-if2 .before .before .before .before .before in
+    let at-recall = c .before .before .before .before .before .before .before in
+    let at-if2 = at-recall .before .before .before in
+    let at-table-in = at-if2 .before .before .before .before .before .before .before .before in
     let start = at-table-in .before .before .before .before .before in
     let (m, P) = start .pre in
     let a = start .args in
     let (th, (T, (y, mem))) = P .0 in
     let r = at-recall .recall in
-    (omega (arith, m, at-if2 .if2 .left), ((th, (T, (slot-same (a .slot) y (λ q l. r .ensures .only .low q (omega (arith, l, P .4))) (r .kept .0), r .ensures .told th (a .k .0) (a .slot + 961) (omega (arith, P .4)) (y .slotted) mem .0))), P .1, P .2, P .3, omega (arith, P .4, at-if2 .if2 .left)))
+    (omega (arith, m, at-if2 .if2 .left), ((th, (T, (slot-same (a .slot) y (λ q l. r .ensures .only .low q (omega (arith, l, P .4))) (r .kept .0), r .ensures .told th (a .p .foresight .0) (a .slot + 961) (omega (arith, P .4)) (y .slotted) mem .0))), P .1, P .2, P .3, omega (arith, P .4, at-if2 .if2 .left)))
 
 extends-mark-requires : (t : ℕ) → extends-lts.Need-mark-requires (extends-calls t) (extends-at t) extends.Post
 extends-mark-requires t c κs = search needs
@@ -703,22 +716,22 @@ extends-mark-requires t c κs = search needs
 extends-remember-requires : (t : ℕ) → extends-lts.Need-remember-requires (extends-calls t) (extends-at t) extends.Post
 extends-remember-requires t c κs =
     let at-extends-by = c .before .before .before .before in
-    let at-recall = at-extends-by .before .before .before .before .before .before in
-    let at-table-in = at-recall .before .before .before .before .before .before .before in
+    let at-recall = at-extends-by .before .before .before .before .before .before .before .before in
+    let at-table-in = at-recall .before .before .before .before .before .before .before .before .before .before .before in
     let start = at-table-in .before .before .before .before .before in
     let P = start .pre .1 in
     let a = start .args in
     let (th, (T, (y, mem))) = P .0 in
     let r = at-recall .recall in
     let x = at-extends-by .extends-by in
-    let told = x .ensures th T (slot-same (a .slot) y (λ q l. r .ensures .only .low q (omega (arith, l, P .4))) (r .kept .0)) (r .ensures .told th (a .k .0) (a .slot + 961) (omega (arith, P .4)) (y .slotted) mem .0) in
+    let told = x .ensures th T (slot-same (a .slot) y (λ q l. r .ensures .only .low q (omega (arith, l, P .4))) (r .kept .0)) (r .ensures .told th (a .p .foresight .0) (a .slot + 961) (omega (arith, P .4)) (y .slotted) mem .0) in
     stage-before (slot-same (a .slot) (slot-same {now = r .last .0} (a .slot) y (λ q l. r .ensures .only .low q (omega (arith, l, P .4))) (r .kept .0)) (told .low) (x .kept .1 .1 .1 .0)) (omega (arith, P .4))
 
 extends-same-length-5 : (t : ℕ) → extends-lts.Need-same-length-5 (extends-calls t) (extends-at t) extends.Post
 extends-same-length-5 t c =
     let at-remember = c .before .before in
     let at-extends-by = at-remember .before .before .before .before .before in
-    let at-recall = at-extends-by .before .before .before .before .before .before in
+    let at-recall = at-extends-by .before .before .before .before .before .before .before .before in
     at-remember .remember .kept .0 ∙ at-extends-by .extends-by .kept .1 .1 .1 .0 ∙ at-recall .recall .kept .0
 
 extends-returns-5 : (t : ℕ) → extends-lts.Need-returns-5 (extends-calls t) (extends-at t) extends.Post
@@ -726,42 +739,42 @@ extends-returns-5 t c =
     let at-remember = c .before .before in
     let at-mark = at-remember .before in
     let at-extends-by = at-mark .before .before .before .before in
-    let at-recall = at-extends-by .before .before .before .before .before .before in
-    let at-if2 = at-recall .before .before in
-    let at-if1 = at-if2 .before in
-    let at-utility = at-if1 .before in
-    let at-table-in = at-utility .before .before .before in
+    let at-recall = at-extends-by .before .before .before .before .before .before .before .before in
+    let key = at-recall .before .before .goal-key .ensures in
+    let at-if2 = at-recall .before .before .before in
+    let at-if1 = at-if2 .before .before in
+    let at-utility = at-if1 .before .before in
+    let at-table-in = at-utility .before .before .before .before in
     let start = at-table-in .before .before .before .before .before in
     let P = start .pre .1 in
     let a = start .args in
-    let some : 0 < a .left = omega (arith, at-if2 .if2 .left) in
+    let some : 0 < a .g .left = omega (arith, at-if2 .if2 .left) in
     let rem = at-remember .remember .ensures in
     let r = at-recall .recall in
     let x = at-extends-by .extends-by in
     λ th T y mem.
     let s = meaning (a .p .characters) T 0 in
-    let states : ℕ → State = λ root. meaning (a .p .characters) T root in
-    let told = x .ensures th T (slot-same (a .slot) y (λ q l. r .ensures .only .low q (omega (arith, l, P .4))) (r .kept .0)) (r .ensures .told th (a .k .0) (a .slot + 961) (omega (arith, P .4)) (y .slotted) mem .0) in
-    let here : a .base < utilityTo th (a .c) s → ⊥ = (λ b. omega (arith, stage-utility y (a .c) 0 (P .1) (utility-in (a .pack .now) (getD (a .places .now) (321 + a .c) 0) (a .work .now) 0 (at-utility .utility .result) (at-table-in .table-in .ensures) (at-utility .utility .ensures)), at-if1 .if1 .left, b)) in
-    let whole = extended th (a .k .0) (a .e .0) (a .c) (a .base) (a .left) states some here told in
+    let told = x .ensures th T (slot-same (a .slot) y (λ q l. r .ensures .only .low q (omega (arith, l, P .4))) (r .kept .0)) (r .ensures .told th (a .p .foresight .0) (a .slot + 961) (omega (arith, P .4)) (y .slotted) mem .0) in
+    let here : a .g .base < utilityTo th (a .g .who) s → ⊥ = (λ b. omega (arith, stage-utility y (a .g .who) 0 (P .1) (utility-in (a .pack .now) (getD (a .places .now) (321 + a .g .who) 0) (a .work .now) 0 (at-utility .utility .result) (at-table-in .table-in .ensures) (at-utility .utility .ensures)), at-if1 .if1 .left, b)) in
+    let whole = extended th (a .p .foresight .0) (a .g .nesting .0) (a .g .who) (a .g .base) (a .g .left) s some here told in
     let z′ = slot-same (a .slot) (slot-same {now = r .last .0} (a .slot) y (λ q l. r .ensures .only .low q (omega (arith, l, P .4))) (r .kept .0)) (told .low) (x .kept .1 .1 .1 .0) in
     record {
       sound = whole .sound;
       complete = whole .complete;
       low = λ q l. rem .only .low q (omega (arith, l, P .4)) ∙ told .low q l ∙ r .ensures .only .low q (omega (arith, l, P .4));
       high = λ q l. rem .only .high q l ∙ told .high q l ∙ r .ensures .only .high q l;
-      memory = rem .memory th (a .k .0) (a .slot + 961) (omega (arith, P .4)) (z′ .slotted) (told .memory) (note z′ (noted th (a .k .0) (a .e .0) (a .c) (a .base) (a .left) states some here told (at-mark .mark .ensures)));
+      memory = rem .memory th (a .p .foresight .0) (a .slot + 961) (omega (arith, P .4)) (z′ .slotted) (told .memory) (note z′ key (noted th (a .p .foresight .0) (a .g .nesting .0) (a .g .who) (a .g .base) (a .g .left) s some here told (at-mark .mark .ensures)));
     }
 
 abbrev extends-by-Inv-loop : extends-by-lts.InvT-loop
-extends-by-Inv-loop pack places p work₀ slot c k e left base x₀ work x = (length work ≡ length work₀) × Below work₀ work (slot + 961) × Above work₀ work workRoom
-    × ((th : Theory) (T : List Node) → Stage th T pack places p work₀ (slotTable p work₀ slot) (slot + 961) → Memory th (k .0) p (slot + 961) work₀ → Memory th (k .0) p (slot + 961) work × ((y : ℕ) → y < x → AboveBy th (k .0) (e .0) c base (suc left) y (meaning (p .characters) T 0) → ⊥))
+extends-by-Inv-loop pack places p work₀ slot g whose hope x₀ work x = (length work ≡ length work₀) × Below work₀ work (slot + 961) × Above work₀ work workRoom
+    × ((th : Theory) (T : List Node) → Stage th T pack places p work₀ (slotTable p work₀ slot) (slot + 961) → Memory th (p .foresight .0) p (slot + 961) work₀ → Memory th (p .foresight .0) p (slot + 961) work × ((y : ℕ) → y < x → AboveBy th (p .foresight .0) (g .nesting .0) (g .who) (g .base) (suc (g .left)) y (meaning (p .characters) T 0) → ⊥))
 
 abbrev extends-by-μ-loop : extends-by-lts.MeasureT-loop
-extends-by-μ-loop pack places p work₀ slot c k e left base x₀ work x = p .actions - x
+extends-by-μ-loop pack places p work₀ slot g whose hope x₀ work x = p .actions - x
 
-extends-by-add-next-promising : (t : ℕ) → extends-by-lts.Need-add-next-promising (extends-by-calls t) (extends-by-at t) extends-by.Post extends-by-Inv-loop extends-by-μ-loop
-extends-by-add-next-promising t c =
+extends-by-add-whose : (t : ℕ) → extends-by-lts.Need-add-whose (extends-by-calls t) (extends-by-at t) extends-by.Post extends-by-Inv-loop extends-by-μ-loop
+extends-by-add-whose t c =
     let start = c .before .before .before .before in
     let P = start .pre .1 in
     let (th, (T, (y, mem))) = P .0 in
@@ -769,22 +782,22 @@ extends-by-add-next-promising t c =
 
 extends-by-next-promising-requires : (t : ℕ) → extends-by-lts.Need-next-promising-requires (extends-by-calls t) (extends-by-at t) extends-by.Post extends-by-Inv-loop extends-by-μ-loop
 extends-by-next-promising-requires t c κs =
-    let start = c .before .before .before .before in
+    let start = c .before .before .before .before .before in
     let P = start .pre .1 in
     let (th, (T, (y, mem))) = P .0 in
     (stage-trying y (omega (arith, P .4)) (omega (arith, P .1)), omega arith)
 
 extends-by-loop-holds : (t : ℕ) → extends-by-lts.Need-loop-holds (extends-by-calls t) (extends-by-at t) extends-by.Post extends-by-Inv-loop extends-by-μ-loop
 extends-by-loop-holds t c =
-    let start = c .before .before .before .before .before in
+    let start = c .before .before .before .before .before .before in
     let P = start .pre .1 in
     let a = start .args in
-    (refl, λ q l. refl, λ q l. refl, λ th T y mem. (mem, λ j l. by-hopeless th (a .k .0) (a .e .0) (a .c) (a .base) (a .left) j (meaning (a .p .characters) T 0) (stage-skipped y (omega (arith, P .4)) (c .next-promising .ensures) j (omega arith) l)))
+    (refl, λ q l. refl, λ q l. refl, λ th T y mem. (mem, λ j l. by-hopeless th (a .p .foresight .0) (a .g .nesting .0) (a .g .who) (a .g .base) (a .g .left) j (meaning (a .p .characters) T 0) (stage-skipped y (omega (arith, P .4)) (c .next-promising .ensures) j (omega arith) l)))
 
 extends-by-via-requires : (t : ℕ) → extends-by-lts.Need-via-requires (extends-by-calls t) (extends-by-at t) extends-by.Post extends-by-Inv-loop extends-by-μ-loop
 extends-by-via-requires t c κs =
     let at-loop = c .before .before .before in
-    let start = at-loop .before .before .before .before .before .before in
+    let start = at-loop .before .before .before .before .before .before .before in
     let (m, P) = start .pre in
     let a = start .args in
     let (th, (T, (y, mem))) = P .0 in
@@ -801,7 +814,7 @@ extends-by-returns : (t : ℕ) → extends-by-lts.Need-returns (extends-by-calls
 extends-by-returns t c =
     let at-via = c .before .before .before in
     let at-loop = at-via .before .before .before .before in
-    let start = at-loop .before .before .before .before .before .before in
+    let start = at-loop .before .before .before .before .before .before .before in
     let a = start .args in
     let (long, low, high, rest) = at-loop .loop .inv in
     let v = at-via .via in
@@ -809,27 +822,19 @@ extends-by-returns t c =
     let told = v .ensures th T (slot-same (a .slot) y low long) (rest th T y mem .0) in
     told-yes (λ q l. told .low q l ∙ low q l) (λ q l. told .high q l ∙ high q l) (told .memory) (at-loop .loop .x, told .sound (c .if2 .taken))
 
-extends-by-add-next-promising-2 : (t : ℕ) → extends-by-lts.Need-add-next-promising-2 (extends-by-calls t) (extends-by-at t) extends-by.Post extends-by-Inv-loop extends-by-μ-loop
-extends-by-add-next-promising-2 t c =
+extends-by-add-next-promising : (t : ℕ) → extends-by-lts.Need-add-next-promising (extends-by-calls t) (extends-by-at t) extends-by.Post extends-by-Inv-loop extends-by-μ-loop
+extends-by-add-next-promising t c =
     let at-if1 = c .before .before .before .before .before .before in
-    let start = at-if1 .before .before .before .before .before .before .before .before in
+    let start = at-if1 .before .before .before .before .before .before .before .before .before in
     let (th, (T, (y, mem))) = start .pre .1 .0 in
     omega (arith, at-if1 .if1 .taken, y .theorized .found .mostActions)
-
-extends-by-add-next-promising-3 : (t : ℕ) → extends-by-lts.Need-add-next-promising-3 (extends-by-calls t) (extends-by-at t) extends-by.Post extends-by-Inv-loop extends-by-μ-loop
-extends-by-add-next-promising-3 t c =
-    let at-loop = c .before .before .before .before .before .before .before .before in
-    let start = at-loop .before .before .before .before .before .before in
-    let P = start .pre .1 in
-    let (th, (T, (y, mem))) = P .0 in
-    omega (arith, P .1, small (y .tabled))
 
 extends-by-next-promising-requires-2 : (t : ℕ) → extends-by-lts.Need-next-promising-requires-2 (extends-by-calls t) (extends-by-at t) extends-by.Post extends-by-Inv-loop extends-by-μ-loop
 extends-by-next-promising-requires-2 t c κs =
     let at-via = c .before .before .before .before in
     let at-if1 = at-via .before .before in
     let at-loop = at-if1 .before .before in
-    let start = at-loop .before .before .before .before .before .before in
+    let start = at-loop .before .before .before .before .before .before .before in
     let P = start .pre .1 in
     let a = start .args in
     let (long, low, high, rest) = at-loop .loop .inv in
@@ -848,7 +853,7 @@ extends-by-loop-again t c =
     let at-if2 = c .before .before in
     let at-via = at-if2 .before .before .before in
     let at-loop = at-via .before .before .before .before in
-    let start = at-loop .before .before .before .before .before .before in
+    let start = at-loop .before .before .before .before .before .before .before in
     let P = start .pre .1 in
     let a = start .args in
     let (long, low, high, rest) = at-loop .loop .inv in
@@ -862,9 +867,9 @@ extends-by-loop-again t c =
           let told = v .ensures th T (slot-same (a .slot) y low long) (rest th T y mem .0) in
           let z = slot-same (a .slot) y (λ q l. told .low q l ∙ low q l) (v .kept .1 .1 .1 .0 ∙ long) in (
             told .memory,
-            below-far (λ x. AboveBy th (a .k .0) (a .e .0) (a .c) (a .base) (suc (a .left)) x (meaning (a .p .characters) T 0) → ⊥)
-                (below-more (λ x. AboveBy th (a .k .0) (a .e .0) (a .c) (a .base) (suc (a .left)) x (meaning (a .p .characters) T 0) → ⊥) (at-loop .loop .x) (rest th T y mem .1) (told .complete (at-if2 .if2 .left)))
-                (λ j f l. by-hopeless th (a .k .0) (a .e .0) (a .c) (a .base) (a .left) j (meaning (a .p .characters) T 0) (stage-skipped z (omega (arith, P .4)) (c .next-promising2 .ensures) j f l)),
+            below-far (λ x. AboveBy th (a .p .foresight .0) (a .g .nesting .0) (a .g .who) (a .g .base) (suc (a .g .left)) x (meaning (a .p .characters) T 0) → ⊥)
+                (below-more (λ x. AboveBy th (a .p .foresight .0) (a .g .nesting .0) (a .g .who) (a .g .base) (suc (a .g .left)) x (meaning (a .p .characters) T 0) → ⊥) (at-loop .loop .x) (rest th T y mem .1) (told .complete (at-if2 .if2 .left)))
+                (λ j f l. by-hopeless th (a .p .foresight .0) (a .g .nesting .0) (a .g .who) (a .g .base) (a .g .left) j (meaning (a .p .characters) T 0) (stage-skipped z (omega (arith, P .4)) (c .next-promising2 .ensures) j f l)),
           ),
     )
 
@@ -888,7 +893,7 @@ fine-explained-requires : (t : ℕ) → fine-lts.Need-explained-requires (
   explained.Post,
 ) (fine-at t) fine.Post
 fine-explained-requires t c κs =
-    let start = c .before .before .before .before .before in
+    let start = c .before .before .before .before .before .before .before in
     let (m, P) = start .pre in
     (omega (arith, m), (P .0, P .1, P .2, P .3, P .4, P .5))
 
@@ -900,12 +905,12 @@ fine-returns-2 :
     (t : ℕ) → fine-lts.Need-returns-2 (explained-below t, explained.Post) (fine-at t) fine.Post
 fine-returns-2 t c =
     let at-explained = c .before .before in
-    let at-if1 = at-explained .before .before in
+    let at-if1 = at-explained .before .before .before in
     λ th T y mem. told-by (omega arith) (λ m. m) (λ q l. refl) (λ q l. refl) (at-explained .explained .ensures th T y mem) (λ z o. z) (λ f. f (at-if1 .if1 .left))
 
 via-allowed-requires : (t : ℕ) → via-lts.Need-allowed-requires (via-calls t) (via-at t) via.Post
 via-allowed-requires t c κs =
-    let start = c .before .before .before .before in
+    let start = c .before .before .before .before .before in
     let (m, P) = start .pre in
     (omega (arith, m), (P .0, P .2, P .3, P .4, omega (arith, P .5)))
 
@@ -923,14 +928,14 @@ via-returns t c =
 via-known-step-requires : (t : ℕ) → via-lts.Need-known-step-requires (via-calls t) (via-at t) via.Post
 via-known-step-requires t c κs =
     let at-allowed = c .before .before .before .before in
-    let start = at-allowed .before .before .before .before .before in
+    let start = at-allowed .before .before .before .before .before .before in
     let P = start .pre .1 in
     let a = start .args in
     let (th, (T, (y, mem))) = P .0 in
     let w = at-allowed .allowed in
     let told = w .ensures th T y mem in
     let z = slot-same (a .slot) y (told .low) (w .kept .1 .1 .1 .0) in
-    (a .k .0, ((th, (T, (z, told .memory))), P .2, z .tabled .some, omega (arith, P .5)))
+    (((th, (T, (z, told .memory))), P .2, z .tabled .some, omega (arith, P .5)))
 
 via-same-length-2 : (t : ℕ) → via-lts.Need-same-length-2 (via-calls t) (via-at t) via.Post
 via-same-length-2 t c =
@@ -942,26 +947,26 @@ via-returns-2 : (t : ℕ) → via-lts.Need-returns-2 (via-calls t) (via-at t) vi
 via-returns-2 t c =
     let at-known-step = c .before .before .before in
     let at-allowed = at-known-step .before .before .before .before .before in
-    let start = at-allowed .before .before .before .before .before in
+    let start = at-allowed .before .before .before .before .before .before in
     let a = start .args in
     let w = at-allowed .allowed in
     let s = at-known-step .known-step in
     λ th T y mem.
     let told = w .ensures th T y mem in
-    let played = s .ensures th T (a .k .0) (slot-same (a .slot) y (told .low) (w .kept .1 .1 .1 .0)) (told .memory) in
+    let played = s .ensures th T (slot-same (a .slot) y (told .low) (w .kept .1 .1 .1 .0)) (told .memory) in
     told-no (λ q l. played .low q l ∙ told .low q l) (λ q l. played .high q l ∙ told .high q l) (played .memory) (λ g. played .none (c .if2 .taken) (g .0) (g .1))
 
 via-add-extends : (t : ℕ) → via-lts.Need-add-extends (via-calls t) (via-at t) via.Post
 via-add-extends t c =
     let at-if1 = c .before .before .before .before .before .before in
-    let start = at-if1 .before .before .before .before .before .before .before .before in
+    let start = at-if1 .before .before .before .before .before .before .before .before .before in
     omega (arith, start .pre .1 .5)
 
 via-extends-requires : (t : ℕ) → via-lts.Need-extends-requires (via-calls t) (via-at t) via.Post
 via-extends-requires t c κs =
     let at-known-step = c .before .before .before .before in
     let at-allowed = at-known-step .before .before .before .before .before in
-    let start = at-allowed .before .before .before .before .before in
+    let start = at-allowed .before .before .before .before .before .before in
     let (m, P) = start .pre in
     let a = start .args in
     let (th, (T, (y, mem))) = P .0 in
@@ -971,7 +976,7 @@ via-extends-requires t c κs =
     let z′ = slot-same (a .slot) y (told .low) (w .kept .1 .1 .1 .0) in
     let f : Free (a .slot + 961) 1 = omega (arith, P .5) in
     let long = s .kept .1 .1 .1 .1 .0 in
-    let played = s .ensures th T (a .k .0) z′ (told .memory) in
+    let played = s .ensures th T z′ (told .memory) in
     let zero : s .result ≡ 0 = omega (arith, c .before .if2 .left) in
     (omega (arith, m), ((th, (nextTable z′ 0 played f long zero, (next-stage z′ 0 played f long zero, played .further zero))), P .1, P .3, P .4, omega (arith, P .5)))
 
@@ -989,7 +994,7 @@ via-returns-3 t c =
     let at-known-step = at-if2 .before .before .before in
     let at-if1 = at-known-step .before .before in
     let at-allowed = at-if1 .before .before .before in
-    let start = at-allowed .before .before .before .before .before in
+    let start = at-allowed .before .before .before .before .before .before in
     let P = start .pre .1 in
     let a = start .args in
     let w = at-allowed .allowed in
@@ -1000,11 +1005,11 @@ via-returns-3 t c =
     λ th T y mem.
     let told = w .ensures th T y mem in
     let z′ = slot-same (a .slot) y (told .low) (w .kept .1 .1 .1 .0) in
-    let played = s .ensures th T (a .k .0) z′ (told .memory) in
+    let played = s .ensures th T z′ (told .memory) in
     let plays = next-plays z′ 0 played f long zero in
     told-by (omega arith) (memory-fewer (a .p) (omega arith)) (λ q l. played .low q l ∙ told .low q l) (λ q l. played .high q l ∙ told .high q l) (at-extends .extends .ensures th (nextTable z′ 0 played f long zero) (next-stage z′ 0 played f long zero) (played .further zero))
-    (λ g. by-from th (a .k .0) (a .e .0) (a .c) (a .base) (suc (a .left)) (a .x) (meaning (a .p .characters) T 0) _ plays (told .sound (not-false (w .result) (at-if1 .if1 .left))) g)
-    (λ g. by-to th (a .k .0) (a .e .0) (a .c) (a .base) (suc (a .left)) (a .x) (meaning (a .p .characters) T 0) _ plays g)
+    (λ g. by-from th (a .p .foresight .0) (a .g .nesting .0) (a .g .who) (a .g .base) (suc (a .g .left)) (a .x) (meaning (a .p .characters) T 0) _ plays (told .sound (not-false (w .result) (at-if1 .if1 .left))) g)
+    (λ g. by-to th (a .p .foresight .0) (a .g .nesting .0) (a .g .who) (a .g .base) (suc (a .g .left)) (a .x) (meaning (a .p .characters) T 0) _ plays g)
 
 pub +allowed+explained+explains+extends+extends-by+fine+via-spec : {M : Type 1} → statement M
 +allowed+explained+explains+extends+extends-by+fine+via-spec =
@@ -1033,6 +1038,7 @@ pub +allowed+explained+explains+extends+extends-by+fine+via-spec : {M : Type 1} 
     (explained-at t)
     explained.Post
     (explained-returns t)
+    (explained-deed-key-requires t)
     (explained-recall-requires t)
     (explained-same-length t)
     (explained-returns-2 t)
@@ -1063,7 +1069,7 @@ pub +allowed+explained+explains+extends+extends-by+fine+via-spec : {M : Type 1} 
     (explains-cast-utility t)
     (explains-utility-requires t)
     (explains-sub-t15 t)
-    (explains-sub-extends t)
+    (explains-sub-left t)
     (explains-extends-requires t)
     (explains-same-length-2 t)
     (explains-returns-2 t))
@@ -1080,12 +1086,13 @@ pub +allowed+explained+explains+extends+extends-by+fine+via-spec : {M : Type 1} 
     (extends-returns t)
     (extends-same-length-2 t)
     (extends-returns-2 t)
+    (extends-goal-key-requires t)
     (extends-recall-requires t)
     (extends-same-length-3 t)
     (extends-returns-3 t)
     (extends-same-length-4 t)
     (extends-returns-4 t)
-    (extends-sub-extends-by t)
+    (extends-sub-left t)
     (extends-extends-by-requires t)
     (extends-mark-requires t)
     (extends-remember-requires t)
@@ -1096,14 +1103,13 @@ pub +allowed+explained+explains+extends+extends-by+fine+via-spec : {M : Type 1} 
     extends-by.Post
     extends-by-Inv-loop
     extends-by-μ-loop
-    (extends-by-add-next-promising t)
+    (extends-by-add-whose t)
     (extends-by-next-promising-requires t)
     (extends-by-loop-holds t)
     (extends-by-via-requires t)
     (extends-by-same-length t)
     (extends-by-returns t)
-    (extends-by-add-next-promising-2 t)
-    (extends-by-add-next-promising-3 t)
+    (extends-by-add-next-promising t)
     (extends-by-next-promising-requires-2 t)
     (extends-by-loop-less t)
     (extends-by-loop-again t)

@@ -22,7 +22,7 @@ remember-spec =
     let start = at-name-of .before .before .before in
     let s = at-storable .storable .ensures (at-if1 .if1 .taken) in
     let p = c .before .fact-at .ensures in
-    (omega (arith, p .is, p .few, at-name-of .name-of .kept .0, start .pre .room), s .who, s .nesting, s .left, s .base))
+    (omega (arith, p .is, p .few, at-name-of .name-of .kept .0, start .pre .room), s .who, s .nesting, s .number, s .base))
     (λ c. search needs)
     (λ c. search needs)
     (λ c. search needs)

@@ -33,7 +33,7 @@ again-requires c κs =
     let at-step-at = at-step-is .before .before in
     let at-name-of = at-step-at .before .before .before in
     let start = at-name-of .before .before .before .before .before .before .before in
-    let (K, ((th, (T, (x, m))), there, row, free)) = start .pre in
+    let ((th, (T, (x, m))), there, row, free) = start .pre in
     let n = at-name-of .name-of in
     let fact = known-fact x free (start .args .root) (n .ensures) (n .kept .0) (at-step-is .step-is .ensures (at-if1 .if1 .taken)) (at-step-at .step-at .ensures) (at-wide .wide .ensures) m in
     (stage-slot (stage-same x (λ q l. n .ensures .only .low q (omega (arith, l, free))) (n .kept .0)) free, omega (arith, at-wide .wide .ensures, at-slice-known3 .slice-known3 .given (at-step-at .step-at .result + 3)), λ z. fact .left z .0)
@@ -47,9 +47,9 @@ returns c =
     let at-step-at = at-step-is .before .before in
     let at-name-of = at-step-at .before .before .before in
     let start = at-name-of .before .before .before .before .before .before .before in
-    let (K, ((th, (T, (x, m))), there, row, free)) = start .pre in
+    let ((th, (T, (x, m))), there, row, free) = start .pre in
     let n = at-name-of .name-of in
-    λ th T K x m. step-again x free (start .args .root) (n .ensures) (n .kept .0) (at-step-is .step-is .ensures (at-if1 .if1 .taken)) (at-step-at .step-at .ensures) (at-wide .wide .ensures) m (at-again .again .ensures)
+    λ th T x m. step-again x free (start .args .root) (n .ensures) (n .kept .0) (at-step-is .step-is .ensures (at-if1 .if1 .taken)) (at-step-at .step-at .ensures) (at-wide .wide .ensures) m (at-again .again .ensures)
 
 step-slot-requires : tie.Need-step-slot-requires
 step-slot-requires c κs =
@@ -57,7 +57,7 @@ step-slot-requires c κs =
     let at-table-in = at-name-of .before .before in
     let start = at-table-in .before .before .before .before .before in
     let a = start .args in
-    let (K, ((th, (T, (x, m))), there, row, free)) = start .pre in
+    let ((th, (T, (x, m))), there, row, free) = start .pre in
     let n = at-name-of .name-of in
     let y = table-stage (at-table-in .table-in .ensures) x in
     (th, (T, (_, (stage-setting (stage-same y (λ q l. n .ensures .only .low q (omega (arith, l, free))) (n .kept .0)) free, there, subst (λ (t : Table). a .root < t .nodes) (sym (at-table-in .table-in .ensures)) row))))
@@ -69,7 +69,7 @@ note-left-requires c κs =
     let at-table-in = at-name-of .before .before in
     let start = at-table-in .before .before .before .before .before in
     let a = start .args in
-    let (K, ((th, (T, (x, m))), there, row, free)) = start .pre in
+    let ((th, (T, (x, m))), there, row, free) = start .pre in
     let n = at-name-of .name-of in
     let s = at-step-slot .step-slot in
     let y = table-stage (at-table-in .table-in .ensures) x in
@@ -85,7 +85,7 @@ note-requires c κs =
     let at-table-in = at-name-of .before .before in
     let start = at-table-in .before .before .before .before .before in
     let a = start .args in
-    let (K, ((th, (T, (x, m))), there, row, free)) = start .pre in
+    let ((th, (T, (x, m))), there, row, free) = start .pre in
     let n = at-name-of .name-of in
     let s = at-step-slot .step-slot in
     let y = table-stage (at-table-in .table-in .ensures) x in
@@ -103,13 +103,13 @@ returns-2 c =
     let at-table-in = at-name-of .before .before in
     let start = at-table-in .before .before .before .before .before in
     let a = start .args in
-    let (K, (_, there, row, free)) = start .pre in
+    let (_, there, row, free) = start .pre in
     let n = at-name-of .name-of in
     let s = at-step-slot .step-slot in
-    λ th T K x m.
+    λ th T x m.
     let y = table-stage (at-table-in .table-in .ensures) x in
     let y′ = stage-same y (λ q l. n .ensures .only .low q (omega (arith, l, free))) (n .kept .0) in
-    subst (λ (t : Table). Advanced th K (a .p) (meaning (t .characters) T (a .root)) (a .action) t (a .work .now) (at-note-left .note-left .last .0) (a .slot + 961) (s .result)) (at-table-in .table-in .ensures)
+    subst (λ (t : Table). Advanced th (a .p .foresight .0) (a .p) (meaning (t .characters) T (a .root)) (a .action) t (a .work .now) (at-note-left .note-left .last .0) (a .slot + 961) (s .result)) (at-table-in .table-in .ensures)
     (step-left y free (a .root) (named at-name-of) (s .ensures th T _ (stage-setting y′ free) there (subst (λ (t : Table). a .root < t .nodes) (sym (at-table-in .table-in .ensures)) row)) m (s .kept .1 .1 .1 .1 .0 ∙ n .kept .0) (at-if2 .if2 .taken) (at-note-left .note-left .ensures))
 
 returns-3 : tie.Need-returns-3
@@ -121,13 +121,13 @@ returns-3 c =
     let at-table-in = at-name-of .before .before in
     let start = at-table-in .before .before .before .before .before in
     let a = start .args in
-    let (K, (_, there, row, free)) = start .pre in
+    let (_, there, row, free) = start .pre in
     let n = at-name-of .name-of in
     let s = at-step-slot .step-slot in
-    λ th T K x m.
+    λ th T x m.
     let y = table-stage (at-table-in .table-in .ensures) x in
     let y′ = stage-same y (λ q l. n .ensures .only .low q (omega (arith, l, free))) (n .kept .0) in
-    subst (λ (t : Table). Advanced th K (a .p) (meaning (t .characters) T (a .root)) (a .action) t (a .work .now) (at-note .note .last .0) (a .slot + 961) (s .result)) (at-table-in .table-in .ensures)
+    subst (λ (t : Table). Advanced th (a .p .foresight .0) (a .p) (meaning (t .characters) T (a .root)) (a .action) t (a .work .now) (at-note .note .last .0) (a .slot + 961) (s .result)) (at-table-in .table-in .ensures)
     (step-refused y free (a .root) (named at-name-of) (s .ensures th T _ (stage-setting y′ free) there (subst (λ (t : Table). a .root < t .nodes) (sym (at-table-in .table-in .ensures)) row)) m (s .kept .1 .1 .1 .1 .0 ∙ n .kept .0) (at-if2 .if2 .left) (at-note .note .ensures))
 
 pub known-step-spec : {M : Type 1} → statement M
@@ -136,16 +136,16 @@ known-step-spec =
     (tie.spec
     (λ c κs.
     let start = c .before .before .before .before in
-    let (K, ((th, (T, (x, m))), there, row, free)) = start .pre in
+    let ((th, (T, (x, m))), there, row, free) = start .pre in
     (omega (arith, free, x .room), omega (arith, small (x .tabled))))
     (λ c κs.
     let start = c .before .before .before .before .before .before in
-    let (K, ((th, (T, (x, m))), there, row, free)) = start .pre in
+    let ((th, (T, (x, m))), there, row, free) = start .pre in
     stage-before x (omega (arith, free)))
     (λ c κs.
     let at-name-of = c .before .before in
     let start = at-name-of .before .before .before .before .before .before .before in
-    let (K, ((th, (T, (x, m))), there, row, free)) = start .pre in
+    let ((th, (T, (x, m))), there, row, free) = start .pre in
     (at-name-of .name-of .ensures .small, omega (arith, row, x .tabled .few), omega (arith, there, x .theorized .found .mostActions)))
     (λ c κs. search needs)
     (λ c. search needs)
@@ -155,7 +155,7 @@ known-step-spec =
     let at-step-at = c .before .before .before .before .before .before in
     let at-table-in = at-step-at .before .before .before .before .before in
     let start = at-table-in .before .before .before .before .before in
-    let (K, (_, there, row, free)) = start .pre in
+    let (_, there, row, free) = start .pre in
     omega (arith, free))
     again-requires
     (λ c. search needs)
@@ -163,14 +163,14 @@ known-step-spec =
     (λ c.
     let at-name-of = c .before .before .before .before .before .before .before in
     let start = at-name-of .before .before .before .before .before .before .before in
-    let (K, (_, there, row, free)) = start .pre in
+    let (_, there, row, free) = start .pre in
     omega (arith, free))
     step-slot-requires
     (λ c.
     let at-step-is = c .before .before .before .before .before .before .before in
     let at-table-in = at-step-is .before .before .before .before .before .before .before in
     let start = at-table-in .before .before .before .before .before in
-    let (K, (_, there, row, free)) = start .pre in
+    let (_, there, row, free) = start .pre in
     omega (arith, free))
     note-left-requires
     note-requires

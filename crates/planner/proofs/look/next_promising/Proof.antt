@@ -10,10 +10,10 @@ use Rattle.planner.proofs.look.next_promising.Statement.{statement}
 use Rattle.planner.proofs.look.next_promising.Tie as tie
 
 abbrev Inv-loop : tie.InvT-loop
-Inv-loop pack places p work slot x whose left base t y₀ y = Skipped pack places p work slot whose left base x y
+Inv-loop pack places p work slot x h t y₀ y = Skipped pack places p work slot (h .whose) (h .left) (h .base) x y
 
 abbrev μ-loop : tie.MeasureT-loop
-μ-loop pack places p work slot x whose left base t y₀ y = p .actions - y
+μ-loop pack places p work slot x h t y₀ y = p .actions - y
 
 promising-requires : tie.Need-promising-requires Inv-loop μ-loop
 promising-requires c κs =
@@ -21,7 +21,7 @@ promising-requires c κs =
     let at-table-in = at-loop .before in
     let start = at-table-in .before .before .before .before in
     let a = start .args in
-    subst (λ (t : Table). Tryable (a .pack .now) (a .places .now) (a .p .triggers) (at-loop .loop .y) (a .work .now) t (a .whose)) (sym (at-table-in .table-in .ensures)) (start .pre .0 .each (at-loop .loop .y) (c .if1 .taken))
+    subst (λ (t : Table). Tryable (a .pack .now) (a .places .now) (a .p .triggers) (at-loop .loop .y) (a .work .now) t (a .h .whose)) (sym (at-table-in .table-in .ensures)) (start .pre .0 .each (at-loop .loop .y) (c .if1 .taken))
 
 loop-again : tie.Need-loop-again Inv-loop μ-loop
 loop-again c =
@@ -31,7 +31,7 @@ loop-again c =
     let start = at-table-in .before .before .before .before in
     let a = start .args in
     skipped-more (at-loop .loop .inv) (at-if1 .if1 .taken)
-    (subst (λ (t : Table). Hopeless (a .pack .now) (a .places .now) (a .p .triggers) (at-loop .loop .y) (a .work .now) t (a .whose) (a .left) (a .base)) (at-table-in .table-in .ensures) (c .before .promising .ensures (c .if2 .left)))
+    (subst (λ (t : Table). Hopeless (a .pack .now) (a .places .now) (a .p .triggers) (at-loop .loop .y) (a .work .now) t (a .h .whose) (a .h .left) (a .h .base)) (at-table-in .table-in .ensures) (c .before .promising .ensures (c .if2 .left)))
 
 pub next-promising-spec : {M : Type 1} → statement M
 next-promising-spec =

@@ -26,12 +26,12 @@ promising-spec =
     (λ c. search needs)
     (λ c. search needs)
     (λ c.
-    let start = c .before .before .before .before .before .before .before .before in
-    omega (arith, c .shared-slice-known5 .given (320 + start .args .whose)))
+    let start = c .before .before .before .before .before .before .before .before .before .before in
+    omega (arith, c .shared-slice-known5 .given (320 + start .args .h .whose)))
     (λ c κs.
-    let start = c .before .before .before .before .before .before .before .before in
+    let start = c .before .before .before .before .before .before .before .before .before .before in
     try-rules _ _ _ _ _ _ (start .pre))
     (λ c.
-    let at-if2 = c .before .before in
-    let start = at-if2 .before .before .before .before .before .before .before in
+    let at-if2 = c .before .before .before in
+    let start = at-if2 .before .before .before .before .before .before .before .before in
     λ e. try-hopeless _ _ _ _ _ _ (start .pre .rules) (omega (arith, at-if2 .if2 .left)) (c .could-exceed .ensures) e))

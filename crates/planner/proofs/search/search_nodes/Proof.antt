@@ -52,7 +52,7 @@ worth : (c : tie.After-utility) {th : Theory} {T : List Node} →
     let start = at-lay-start .before .before .before .before .before .before in
     let a = start .args in
     let l = at-lay-start .lay-start in
-    (x : Seeking th T (a .pack .now) (a .places .now) (a .p) (a .first) (a .nodes) (a .s .0) (a .k .0) (a .e .0) (a .list .now) (a .work .now))
+    (x : Seeking th T (a .pack .now) (a .places .now) (a .p) (a .first) (a .nodes) (a .s .0) (a .p .foresight .0) (a .e .0) (a .list .now) (a .work .now))
     → c .utility .result ≡ authorUtility th (meaning (a .p .characters) (seekTable x (l .ensures T (seek-laying x)) (l .kept .1 .1 .1 .1 .0)) 0)
 worth c {th} {T} x =
     let at-table-in = c .before .before .before in
