@@ -21,9 +21,9 @@ use Rattle.chart.specs.Contracts.Put.{Cleared, PartCopied}
 use Rattle.chart.specs.Contracts.Level.{Agrees, SameByte}
 use Rattle.chart.specs.Laws.Cells.{rows-same, row-in, rows-most}
 use Rattle.planner.specs.declared.limits.Context.{Context}
-use Rattle.planner.specs.declared.fact.Key.{Key}
+use Rattle.planner.specs.declared.entry.Key.{Key}
 use Rattle.planner.specs.Inner.Lists.{slotTable}
-use Rattle.planner.specs.Inner.Memory.{memoryAt, takenAt, stepsAt, factsAt, tablesAt, keptAt, keptTable, Kept, Named, StepFact, Fact, keyAt, SlotEntry, StepEntry, FactEntry, Memory, Place, Before, InSlot, Only, Stored, Naming, Storable, KeyPut, Recalled, Remembered, StepRead, StepPut, Noted, Slot, Again, LeftNoted}
+use Rattle.planner.specs.Inner.Memory.{memoryAt, takenAt, stepsAt, factsAt, tablesAt, keptAt, keptTable, Kept, HasId, StepFact, Fact, keyAt, SlotEntry, StepEntry, FactEntry, Memory, Place, Before, InSlot, Only, Stored, Interning, Storable, KeyPut, Recalled, Remembered, StepRead, StepPut, Noted, Slot, Again, LeftNoted}
 
 -- a mark that says nothing
 pub fact-none : (th : Theory) (K : ℕ) (k : Key) (s : State) → Fact th K 0 k s
@@ -98,7 +98,7 @@ fact-same th K {m} {m′} {k} {k′} {s} {s′} e f g x = subst (λ (m : ℕ). F
 pub first-same : (c : ℕ) {t u : List Node} → t ≡ u → meaning c t 0 ≡ meaning c u 0
 first-same c e = ap (λ (t : List Node). meaning c t 0) e
 
--- names, steps and facts that are forgotten
+-- ids, steps and facts that are forgotten
 pub emptied : {was now : List ℕ} → Cleared was now memoryAt 2482 → (q : ℕ) → memoryAt ≤ q → q < tablesAt → getD now q 0 ≡ 0
 emptied {was} {now} x q low high = let y : q ≡ memoryAt + (q - memoryAt) = omega (arith, low) in ap (λ (q : ℕ). getD now q 0) y ∙ x .clear (q - memoryAt) (omega (arith, low, high))
 
@@ -107,7 +107,7 @@ pub record Grown (was now : List ℕ) : Type 0 where
   pub taken : getD was takenAt 0 ≤ getD now takenAt 0
   pub tables : (q : ℕ) → tablesAt ≤ q → q < tablesAt + 12 * getD was takenAt 0 → getD now q 0 ≡ getD was q 0
 
--- only bytes of names, steps and facts change
+-- only bytes of ids, steps and facts change
 pub grown-by : {was now : List ℕ} → getD now takenAt 0 ≡ getD was takenAt 0 → ((q : ℕ) → tablesAt ≤ q → getD now q 0 ≡ getD was q 0) → Grown was now
 grown-by e f = record { taken = omega (arith, e); tables = λ q l g. f q l }
 
@@ -159,7 +159,7 @@ module _ (h : Context) where
     pub kept-table : {n : ℕ} → Kept h was n → tableOf (keptTable h now n) now ≡ tableOf (keptTable h was n) was
     kept-table {n} k = table-moved was now (keptAt n) (keptAt n) (kept-byte k)
 
-    pub named-grown : {t t′ : Table} {n : ℕ} → t .nodes ≡ t′ .nodes → tableOf t′ now ≡ tableOf t was → Named h was t n → Named h now t′ n
+    pub named-grown : {t t′ : Table} {n : ℕ} → t .nodes ≡ t′ .nodes → tableOf t′ now ≡ tableOf t was → HasId h was t n → HasId h now t′ n
     named-grown c e x = record { kept = kept-grown (x .kept); count = kept-count (x .kept) ∙ x .count ∙ c; same = kept-table (x .kept) ∙ x .same ∙ sym e }
 
     step-grown : {th : Theory} {n root a next : ℕ} → StepFact th h was n root a next → StepFact th h now n root a next
@@ -178,7 +178,7 @@ module _ (h : Context) where
         let x = f (omega (arith, e, z)) in
         let most = rows-most (x .kept .few) narrow in
         let size : getD was (961 * i) 0 * w ≤ 960 = omega (arith, most, ap (λ (n : ℕ). n * w) (x .count)) in
-        subst (Named h now (slotTable h now (961 * i))) (sym e) (named-grown (sym (low (961 * i) (omega (arith, l)))) (table-moved was now (961 * i) (961 * i) (λ j m. low (961 * i + j) (omega (arith, l, m, size)))) x)
+        subst (HasId h now (slotTable h now (961 * i))) (sym e) (named-grown (sym (low (961 * i) (omega (arith, l)))) (table-moved was now (961 * i) (961 * i) (λ j m. low (961 * i + j) (omega (arith, l, m, size)))) x)
 
     step-entry : {th : Theory} (a : ℕ) → ((q : ℕ) → a ≤ q → q < a + 4 → getD now q 0 ≡ getD was q 0) → StepEntry th h was a → StepEntry th h now a
     step-entry {th} a e f z =
@@ -214,7 +214,7 @@ module _ (h : Context) where
 
     -- entries all stay
     pub memory-quiet : {th : Theory} {K limit : ℕ} → limit ≤ memoryAt → ((q : ℕ) → q < limit → getD now q 0 ≡ getD was q 0) → ((q : ℕ) → memoryAt ≤ q → q < takenAt → getD now q 0 ≡ getD was q 0) → ((q : ℕ) → stepsAt ≤ q → q < tablesAt → getD now q 0 ≡ getD was q 0) → Memory th K h limit was → Memory th K h limit now
-    memory-quiet few low names mid = memory-but low (λ i l. inl (names (memoryAt + i) (omega arith) (omega (arith, few, l)))) (λ i l. inl (λ q a b. mid q (omega (arith, a)) (omega (arith, b, l)))) (λ i l. inl (λ q a b. mid q (omega (arith, a)) (omega (arith, b, l))))
+    memory-quiet few low ids mid = memory-but low (λ i l. inl (ids (memoryAt + i) (omega arith) (omega (arith, few, l)))) (λ i l. inl (λ q a b. mid q (omega (arith, a)) (omega (arith, b, l)))) (λ i l. inl (λ q a b. mid q (omega (arith, a)) (omega (arith, b, l))))
 
   -- nothing is known
   pub memory-clear : {th : Theory} {K limit : ℕ} {now : List ℕ} → w ≤ 30 → limit ≤ memoryAt → ((q : ℕ) → memoryAt ≤ q → q < tablesAt → getD now q 0 ≡ 0) → Memory th K h limit now
@@ -232,7 +232,7 @@ module _ (h : Context) where
   module _ {t : Table} where
     -- a table with the count and the bytes of the one that is kept
     pub kept-as : {now : List ℕ} → Before h now t → (n : ℕ) → 0 < n → 12 * n + t .nodes * t .width ≤ 12 * getD now takenAt 0 + 11 → getD now (keptAt n) 0 ≡ t .nodes
-        → ((q : ℕ) → q < t .nodes * t .width → getD now (keptAt n + 1 + q) 0 ≡ getD now (t .rows + q) 0) → Named h now t n
+        → ((q : ℕ) → q < t .nodes * t .width → getD now (keptAt n + 1 + q) 0 ≡ getD now (t .rows + q) 0) → HasId h now t n
     kept-as {now} b n some inside count same =
         let wide : w ≡ t .width = ap (λ (f : ℕ). f + h .characters) (b .fluents) ∙ ap (λ (c : ℕ). t .fluents + c) (b .characters) ∙ b .wide in
         let size : getD now (keptAt n) 0 * w ≡ t .nodes * t .width = ap (λ (c : ℕ). c * w) count ∙ ap (λ (k : ℕ). t .nodes * k) wide in
@@ -249,7 +249,7 @@ module _ (h : Context) where
     pub before-now : {was now : List ℕ} → length now ≡ length was → Before h was t → Before h now t
     before-now long b = record { fluents = b .fluents; characters = b .characters; wide = b .wide; narrow = b .narrow; few = b .few; before = b .before; room = omega (arith, long, b .room) }
 
-    pub stored-known : {was : List ℕ} {r : ℕ} → r < 256 → Named h was t r → Stored h t was was r
+    pub stored-known : {was : List ℕ} {r : ℕ} → r < 256 → HasId h was t r → Stored h t was was r
     stored-known small x = record { small = small; named = λ z. x; only = record { low = λ q l. refl; high = λ q l. refl }; memory = λ p K limit few m. m }
 
     pub stored-none : {was : List ℕ} → Stored h t was was 0
@@ -304,7 +304,7 @@ module _ (h : Context) where
       memory = λ p K limit few m. x .memory p K limit few (memory-clear (m .narrow) few (emptied c));
     }
 
-    -- a name found by a hash
+    -- an id found by a hash
     pub stored-hashed : {was mid : List ℕ} {r q : ℕ} (v : ℕ) → Before h mid t → Stored h t was mid r → 43520 ≤ q → q < stepsAt → Stored h t was (set mid q v) r
     stored-hashed {was} {mid} {r} {q} v b x low high =
         let other : (a : ℕ) → a ≢ q → getD (set mid q v) a 0 ≡ getD mid a 0 = λ a n. getD-set-other mid q a v 0 n in
@@ -321,13 +321,13 @@ module _ (h : Context) where
     slot-number x = let all = div-add-mod (t .rows) 961 in let rest : t .rows % 961 < 961 = mod-lt (t .rows) (omega arith) in omega (arith, all, rest, x .rows)
 
     -- a table that is known by its slot
-    pub slot-named : {was : List ℕ} {p : Theory} {K limit r : ℕ} → Before h was t → getD was (43470 + t .rows / 961) 0 ≡ r → InSlot was t limit → Memory p K h limit was → 0 < r → Named h was t r
+    pub slot-named : {was : List ℕ} {p : Theory} {K limit r : ℕ} → Before h was t → getD was (43470 + t .rows / 961) 0 ≡ r → InSlot was t limit → Memory p K h limit was → 0 < r → HasId h was t r
     slot-named {was} {r = r} b e x m z =
         let e′ : getD was (memoryAt + x .number) 0 ≡ r = ap (λ (i : ℕ). getD was (43470 + i) 0) (sym (slot-number x)) ∙ e in
         let y = m .slots (x .number) (x .before) (omega (arith, e′, z)) in
-        subst (Named h was t) e′ (record { kept = y .kept; count = y .count ∙ x .counted; same = y .same ∙ slot-table b x })
+        subst (HasId h was t) e′ (record { kept = y .kept; count = y .count ∙ x .counted; same = y .same ∙ slot-table b x })
 
-    pub naming-known : {was : List ℕ} {r : ℕ} → Before h was t → r < 256 → getD was (43470 + t .rows / 961) 0 ≡ r → Naming h t was was r
+    pub naming-known : {was : List ℕ} {r : ℕ} → Before h was t → r < 256 → getD was (43470 + t .rows / 961) 0 ≡ r → Interning h t was was r
     naming-known b small e = record { small = small; only = record { low = λ q l. refl; high = λ q l. refl }; told = λ p K limit few x m. (m, slot-named b e x m) }
 
     -- and is from now on
@@ -350,7 +350,7 @@ module _ (h : Context) where
       kept-now : tableOf t now ≡ tableOf t mid
       kept-now = before-same now (before-now long b) (λ q l. other q (λ z. omega (arith, z, l)))
 
-      named : 0 < r → Named h now t r
+      named : 0 < r → HasId h now t r
       named z = named-grown grown refl kept-now (x .named z)
 
       slots : {limit : ℕ} → InSlot was t limit → (i : ℕ) → (getD now (memoryAt + i) 0 ≡ getD mid (memoryAt + i) 0) ⊎ SlotEntry h now i
@@ -360,27 +360,27 @@ module _ (h : Context) where
           let y = named (omega (arith, here, z)) in
           let back : (q : ℕ) → q < memoryAt → getD now q 0 ≡ getD was q 0 = λ q l. other q (λ z. omega (arith, z, l)) ∙ x .only .low q l in
           let s′ : InSlot now t (961 * s .number + 961) = record { number = s .number; rows = s .rows; counted = back (961 * s .number) (omega (arith, s .rows, b .before)) ∙ s .counted; before = omega arith } in
-          subst (Named h now (slotTable h now (961 * i))) (sym here)
-          (subst (λ (i : ℕ). Named h now (slotTable h now (961 * i)) r) (sym e)
+          subst (HasId h now (slotTable h now (961 * i))) (sym here)
+          (subst (λ (i : ℕ). HasId h now (slotTable h now (961 * i)) r) (sym e)
           (record { kept = y .kept; count = y .count ∙ sym (s′ .counted); same = y .same ∙ sym (slot-table (before-now (length-set mid at r ∙ long) b) s′) }))))
           (λ n. inl (other (memoryAt + i) (λ z. n (omega (arith, z, slot-number s)))))
 
-      pub naming-new : Naming h t was now r
+      pub naming-new : Interning h t was now r
       naming-new = record {
         small = x .small;
         only = record { low = λ q l. other q (λ z. omega (arith, z, l)) ∙ x .only .low q l; high = λ q l. other q (λ z. omega (arith, z, l, index)) ∙ x .only .high q l };
         told = λ p K limit few s m. (memory-but grown (λ q l. other q (λ z. omega (arith, z, l, few))) (λ i l. slots s i) (λ i l. inl (λ q a b. other q (λ z. omega (arith, z, a, index)))) (λ i l. inl (λ q a b. other q (λ z. omega (arith, z, a, index)))) (x .memory p K limit few m), λ z. named z);
       }
 
-    -- what is known by a name is known of the table
-    pub named-state : {work : List ℕ} {n : ℕ} → Before h work t → Named h work t n → (root : ℕ) → stateOf (keptTable h work n) work root ≡ stateOf t work root
+    -- what is known by an id is known of the table
+    pub named-state : {work : List ℕ} {n : ℕ} → Before h work t → HasId h work t n → (root : ℕ) → stateOf (keptTable h work n) work root ≡ stateOf t work root
     named-state {work} {n} b x root = ap (λ (c : ℕ). meaning c (tableOf (keptTable h work n) work) root) (b .characters) ∙ ap (λ (U : List Node). meaning (t .characters) U root) (x .same)
 
     module _ {was : List ℕ} (b : Before h was t) where
-      pub recalled-none : {mid : List ℕ} {k : Key} {r : ℕ} → Naming h t was mid r → Recalled h t k was mid 0
+      pub recalled-none : {mid : List ℕ} {k : Key} {r : ℕ} → Interning h t was mid r → Recalled h t k was mid 0
       recalled-none x = record { only = x .only; told = λ p K limit few s m. (x .told p K limit few s m .0, fact-none p K _ _) }
 
-      pub recalled : {mid : List ℕ} {k : Key} {r a : ℕ} → length mid ≡ length was → Naming h t was mid r → 0 < r → Place 256 factsAt 7 a → getD mid (a + 6) 0 ≡ r → keyAt mid a ≡ k → Recalled h t k was mid (getD mid a 0)
+      pub recalled : {mid : List ℕ} {k : Key} {r a : ℕ} → length mid ≡ length was → Interning h t was mid r → 0 < r → Place 256 factsAt 7 a → getD mid (a + 6) 0 ≡ r → keyAt mid a ≡ k → Recalled h t k was mid (getD mid a 0)
       recalled {mid} {k} {r} {a} long x some place e key = record {
         only = x .only;
         told = λ p K limit few s m.
@@ -391,10 +391,10 @@ module _ (h : Context) where
             (m′, fact-same p K refl key (first-same (h .characters) (ap (λ (n : ℕ). tableOf (keptTable h mid n) mid) e) ∙ named-state (before-now long b) (named some) 0 ∙ first-same (t .characters) (before-same mid b (x .only .low))) here);
       }
 
-      pub remembered-none : {mid : List ℕ} {m : ℕ} {k : Key} {r : ℕ} → Naming h t was mid r → Remembered h t m k was mid
+      pub remembered-none : {mid : List ℕ} {m : ℕ} {k : Key} {r : ℕ} → Interning h t was mid r → Remembered h t m k was mid
       remembered-none x = record { only = x .only; memory = λ p K limit few s y f. x .told p K limit few s y .0 }
 
-      module _ {mid put : List ℕ} {m r a : ℕ} {k : Key} (long : length mid ≡ length was) (long′ : length put ≡ length mid) (x : Naming h t was mid r) (some : 0 < r) (place : Place 256 factsAt 7 a) (key : KeyPut mid put a m k) where
+      module _ {mid put : List ℕ} {m r a : ℕ} {k : Key} (long : length mid ≡ length was) (long′ : length put ≡ length mid) (x : Interning h t was mid r) (some : 0 < r) (place : Place 256 factsAt 7 a) (key : KeyPut mid put a m k) where
         abbrev noted : List ℕ
         noted = set put (a + 6) r
 
@@ -413,7 +413,7 @@ module _ (h : Context) where
         put-grown : Grown mid noted
         put-grown = grown-by (low takenAt (omega (arith, bounds))) (λ q l. high q (omega (arith, l, bounds)))
 
-        new : (p : Theory) (K : ℕ) → Named h mid t r → Fact p K m k (stateOf t was 0) → FactEntry p K h noted a
+        new : (p : Theory) (K : ℕ) → HasId h mid t r → Fact p K m k (stateOf t was 0) → FactEntry p K h noted a
         new p K named fact z =
             let last : getD noted (a + 6) 0 ≡ r = getD-set-same put (a + 6) r 0 (omega (arith, long, long′, b .room, bounds)) in
             let state : stateOf t was 0 ≡ stateOf (keptTable h noted r) noted 0 = first-same (t .characters) (sym (before-same mid b (x .only .low))) ∙ sym (named-state (before-now long b) named 0) ∙ first-same (h .characters) (sym (kept-table put-grown (named .kept))) in
@@ -489,19 +489,19 @@ module _ (h : Context) where
   width = h .fluents + h .characters
 
   -- a step put down
-  module _ {t : Table} {was now : List ℕ} {name root a next at : ℕ} (b : Before h was t) (e : getD was (43470 + t .rows / 961) 0 ≡ name) (some : 0 < name) (place : Place 128 stepsAt 4 at) (put : StepPut was now at name root a next) where
+  module _ {t : Table} {was now : List ℕ} {id root a next at : ℕ} (b : Before h was t) (e : getD was (43470 + t .rows / 961) 0 ≡ id) (some : 0 < id) (place : Place 128 stepsAt 4 at) (put : StepPut was now at id root a next) where
     step-bounds : (stepsAt ≤ at) × (at + 4 ≤ factsAt)
     step-bounds = (omega (arith, place .is), omega (arith, place .is, place .few))
 
     step-kept : Grown was now
     step-kept = grown-by (put .low takenAt (omega (arith, step-bounds))) (λ q l. put .high q (omega (arith, l, step-bounds)))
 
-    new-step : {p : Theory} → StepFact p h was name root a next → StepEntry p h now at
+    new-step : {p : Theory} → StepFact p h was id root a next → StepEntry p h now at
     new-step {p} x z =
         let y = step-grown h step-kept x in
         subst (λ (k : ℕ). StepFact p h now k (getD now (at + 1) 0) (getD now (at + 2) 0) (getD now (at + 3) 0)) (sym (put .read))
-        (subst (λ (k : ℕ). StepFact p h now name k (getD now (at + 2) 0) (getD now (at + 3) 0)) (sym (put .row))
-        (subst (λ (k : ℕ). StepFact p h now name root k (getD now (at + 3) 0)) (sym (put .acted)) (subst (λ (k : ℕ). StepFact p h now name root a k) (sym (put .leaves)) y)))
+        (subst (λ (k : ℕ). StepFact p h now id k (getD now (at + 2) 0) (getD now (at + 3) 0)) (sym (put .row))
+        (subst (λ (k : ℕ). StepFact p h now id root k (getD now (at + 3) 0)) (sym (put .acted)) (subst (λ (k : ℕ). StepFact p h now id root a k) (sym (put .leaves)) y)))
 
     pub noted-step : Noted h t root a next was now
     noted-step = record {
@@ -509,7 +509,7 @@ module _ (h : Context) where
       memory = λ p K limit few s m f.
           memory-but h step-kept (λ q l. put .low q (omega (arith, l, few, step-bounds))) (λ i l. inl (put .low (memoryAt + i) (omega (arith, l, few, step-bounds))))
           (λ i l. by-cases (ℕ-discrete i (place .number))
-          (λ z. inr (subst (λ (i : ℕ). StepEntry p h now (stepsAt + 4 * i)) (sym z) (subst (StepEntry p h now) (place .is) (new-step (f name (slot-named h b e s m some))))))
+          (λ z. inr (subst (λ (i : ℕ). StepEntry p h now (stepsAt + 4 * i)) (sym z) (subst (StepEntry p h now) (place .is) (new-step (f id (slot-named h b e s m some))))))
           (λ z. inl (λ q g u. by-cases (decLe i (place .number)) (λ v. put .low q (omega (arith, u, v, z, place .is))) (λ v. put .high q (omega (arith, g, v, place .is))))))
           (λ i l. inl (λ q g u. put .high q (omega (arith, g, step-bounds)))) m;
     }
@@ -523,7 +523,7 @@ module _ (h : Context) where
     facts = m .facts;
   }
 
-  -- where a slot's name stands
+  -- where a slot's id stands
   module _ {work : List ℕ} {slot : ℕ} (s : Slot h work slot) where
     slot-index : slot / 961 ≡ s .number
     slot-index = let all = div-add-mod slot 961 in let rest : slot % 961 < 961 = mod-lt slot (omega arith) in omega (arith, all, rest, s .is)
@@ -531,7 +531,7 @@ module _ (h : Context) where
     pub slot-few : slot / 961 ≤ 29
     slot-few = omega (arith, slot-index, s .is, s .before)
 
-  -- the name of a slot is forgotten
+  -- the id of a slot is forgotten
   module _ {was : List ℕ} {slot : ℕ} (s : Slot h was slot) where
     abbrev pub nameless : List ℕ
     nameless = set was (43470 + slot / 961) 0
@@ -548,7 +548,7 @@ module _ (h : Context) where
         (λ i l. inl (nameless-other (memoryAt + i) (λ z. omega (arith, z, l, s .is, slot-index s)))) (λ i l. inl (λ q g u. nameless-other q (λ z. omega (arith, z, g, slot-few s)))) (λ i l. inl (λ q g u. nameless-other q (λ z. omega (arith, z, g, slot-few s)))) m)
         (λ z. let e : getD nameless (memoryAt + s .number) 0 ≡ 0 = ap (λ (i : ℕ). getD nameless (43470 + i) 0) (sym (slot-index s)) ∙ getD-set-same was (43470 + slot / 961) 0 0 (omega (arith, slot-few s, s .room)) in absurd (omega (arith, e, z)))
 
-  -- the table of a name is copied into a slot
+  -- the table of an id is copied into a slot
   module _ {was mid : List ℕ} {slot next : ℕ} (s : Slot h was slot) (taken : getD was takenAt 0 < 256) (k : Kept h was next) (copied : PartCopied was mid (keptAt next) slot (1 + getD was (keptAt next) 0 * width)) (long : length mid ≡ length was) where
     abbrev again : List ℕ
     again = set mid (43470 + slot / 961) next
@@ -580,7 +580,7 @@ module _ (h : Context) where
     again-memory : {p : Theory} {K : ℕ} → Memory p K h slot was → Memory p K h slot again
     again-memory m = memory-but h again-grown again-low (λ i l. inl (again-other (memoryAt + i) (λ z. omega (arith, z, l, s .is, slot-index s)) ∙ copied .high (memoryAt + i) (omega (arith, s .before, again-size)))) (λ i l. inl (λ q g u. again-high q (omega (arith, g)))) (λ i l. inl (λ q g u. again-high q (omega (arith, g)))) m
 
-    again-named : Named h again (slotTable h again slot) next
+    again-named : HasId h again (slotTable h again slot) next
     again-named = record { kept = kept-grown h again-grown k; count = let c = kept-count h again-grown k in c ∙ sym again-count; same = kept-table h again-grown k ∙ sym again-table }
 
     pub copied-again : Again h next slot was again 0
@@ -593,7 +593,7 @@ module _ (h : Context) where
         again-memory m,
         λ z. memory-more (s .number) (s .is) (again-memory m) (λ y.
             let here : getD again (memoryAt + s .number) 0 ≡ next = ap (λ (i : ℕ). getD again (43470 + i) 0) (sym (slot-index s)) ∙ getD-set-same mid (43470 + slot / 961) next 0 (omega (arith, slot-few s, s .room, long)) in
-            subst (Named h again (slotTable h again (961 * s .number))) (sym here) (subst (λ (a : ℕ). Named h again (slotTable h again a) next) (s .is) again-named)),
+            subst (HasId h again (slotTable h again (961 * s .number))) (sym here) (subst (λ (a : ℕ). HasId h again (slotTable h again a) next) (s .is) again-named)),
       );
     }
 
@@ -617,14 +617,14 @@ module _ (h : Context) where
     left-in : InSlot (nameless s) left (slot + 961)
     left-in = record { number = s .number; rows = ap (λ (a : ℕ). a + 1) (s .is); counted = ap (λ (a : ℕ). getD (nameless s) a 0) (sym (s .is)); before = omega (arith, s .is) }
 
-    module _ {t : Table} {mid : List ℕ} {next : ℕ} (b : Before h was t) (long : length mid ≡ length was) (x : Naming h left (nameless s) mid next) where
+    module _ {t : Table} {mid : List ℕ} {next : ℕ} (b : Before h was t) (long : length mid ≡ length was) (x : Interning h left (nameless s) mid next) where
       left-low : (q : ℕ) → q < memoryAt → getD mid q 0 ≡ getD was q 0
       left-low q l = x .only .low q l ∙ nameless-only s .low q l
 
       left-only : Only was mid
       left-only = record { low = left-low; high = λ q l. x .only .high q l ∙ nameless-only s .high q l }
 
-      left-memory : {p : Theory} {K : ℕ} → Memory p K h slot was → Memory p K h (slot + 961) mid × (0 < next → Named h mid left next)
+      left-memory : {p : Theory} {K : ℕ} → Memory p K h slot was → Memory p K h (slot + 961) mid × (0 < next → HasId h mid left next)
       left-memory {p} {K} m = x .told p K (slot + 961) (omega (arith, s .before)) left-in (memory-nameless s m)
 
       pub left-unnoted : {root a : ℕ} → LeftNoted h t root a slot was mid

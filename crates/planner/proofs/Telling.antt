@@ -35,11 +35,11 @@ use Rattle.transition.specs.Laws.Settled.{plays-one, plays-refuses}
 use Rattle.transition.specs.Contracts.Play.{Setting, Left, PlayedIn}
 use Rattle.transition.specs.Laws.ChangedRows.{tabled-same, small, row-inside, belief-is, belief-in as inside-table}
 use Rattle.planner.specs.declared.limits.Context.{Context}
-use Rattle.planner.specs.declared.fact.Key.{Key}
+use Rattle.planner.specs.declared.entry.Key.{Key}
 use Rattle.planner.specs.Ending.{Leads, Explained, utilityTo}
 use Rattle.planner.specs.Inner.Lists.{counted, slotTable, Other, AboveBy, AboveBySome, Agreed}
 use Rattle.planner.specs.Inner.Lists as inner
-use Rattle.planner.specs.Inner.Memory.{stepsAt, keptTable, Named, StepFact, StepEntry, Memory, Fact, Place, Before, InSlot, Naming, StepRead, Noted, Slot, Again, LeftNoted}
+use Rattle.planner.specs.Inner.Memory.{stepsAt, keptTable, HasId, StepFact, StepEntry, Memory, Fact, Place, Before, InSlot, Interning, StepRead, Noted, Slot, Again, LeftNoted}
 use Rattle.planner.specs.Inner.Explain.{Stage, Free, Told, Advanced}
 use Rattle.planner.proofs.Remembering.{fact-same, first-same, grown-by, before-now, named-state, memory-quiet, memory-fewer}
 
@@ -180,11 +180,11 @@ module _ {th : Theory} {T : List Node} {pack places : List ℕ} {h : Context} {w
   same-rows now = ap (λ (f : ℕ). rowsBy now (f + h .characters) f (h .characters)) (x .same-fluents) ∙ ap (λ (c : ℕ). rowsBy now (t .fluents + c) (t .fluents) c) (x .same-characters) ∙ ap (λ (w : ℕ). rowsBy now w (t .fluents) (t .characters)) (x .tabled .fits .wide)
 
   -- it is known
-  module _ {K : ℕ} {mid : List ℕ} {name next a at : ℕ} (n : Naming h t was mid name) (long : length mid ≡ length was) (read : StepRead mid at name root a) (place : Place 128 stepsAt 4 at) (e : getD mid (at + 3) 0 ≡ next) (m : Memory th K h slot was) where
-    abbrev mid-memory : Memory th K h slot mid × (0 < name → Named h mid t name)
+  module _ {K : ℕ} {mid : List ℕ} {id next a at : ℕ} (n : Interning h t was mid id) (long : length mid ≡ length was) (read : StepRead mid at id root a) (place : Place 128 stepsAt 4 at) (e : getD mid (at + 3) 0 ≡ next) (m : Memory th K h slot was) where
+    abbrev mid-memory : Memory th K h slot mid × (0 < id → HasId h mid t id)
     mid-memory = n .told th K slot (omega (arith, bound)) (x .slotted) m
 
-    pub known-fact : StepFact th h mid name root a next
+    pub known-fact : StepFact th h mid id root a next
     known-fact =
         subst (λ (k : ℕ). StepFact th h mid k root a next) (read .read)
         (subst (λ (k : ℕ). StepFact th h mid (getD mid at 0) k a next) (read .row)
@@ -192,7 +192,7 @@ module _ {th : Theory} {T : List Node} {pack places : List ℕ} {h : Context} {w
         (subst (λ (k : ℕ). StepFact th h mid (getD mid at 0) (getD mid (at + 1) 0) (getD mid (at + 2) 0) k) e
         (subst (λ (a : ℕ). StepEntry th h mid a) (sym (place .is)) (mid-memory .0 .steps (place .number) (place .few)) (omega (arith, read .read, read .some))))))
 
-    known-state : stateOf (keptTable h mid name) mid root ≡ meaning (t .characters) T root
+    known-state : stateOf (keptTable h mid id) mid root ≡ meaning (t .characters) T root
     known-state = named-state h (before-now h long (stage-before x bound)) (mid-memory .1 (read .some)) root ∙ row-state mid (λ q l. n .only .low q (omega (arith, l, bound)))
 
     pub step-again : {now : List ℕ} {r : ℕ} → Again h next slot mid now r → Advanced th K h (meaning (t .characters) T root) a t was now slot r
@@ -209,7 +209,7 @@ module _ {th : Theory} {T : List Node} {pack places : List ℕ} {h : Context} {w
     }
 
   -- it is made
-  module _ {K : ℕ} {mid left : List ℕ} {name a r : ℕ} (n : Naming h t was mid name) (y : PlayedIn th (meaning (t .characters) T root) a t mid left slot r) (m : Memory th K h slot was) (long : length left ≡ length was) where
+  module _ {K : ℕ} {mid left : List ℕ} {id a r : ℕ} (n : Interning h t was mid id) (y : PlayedIn th (meaning (t .characters) T root) a t mid left slot r) (m : Memory th K h slot was) (long : length left ≡ length was) where
     left-low : Below was left slot
     left-low q l = y .only .low q l ∙ n .only .low q (omega (arith, l, bound))
 

@@ -4,18 +4,18 @@
 // In the slots stand the state asked about, one for each action of the author's list, and one for each action of each
 // explanation within it, at most 8 + 6 x 3 more. A belief is a row of the table that it is believed in and needs no
 // slot.
-use crate::fact::Deed;
-use crate::fact::Goal;
-use crate::fact::deed_key;
-use crate::fact::goal_key;
-use crate::fact::recall;
-use crate::fact::remember;
-use crate::known::known_step;
+use crate::entry::Deed;
+use crate::entry::Goal;
+use crate::entry::deed_key;
+use crate::entry::goal_key;
+use crate::entry::recall;
+use crate::entry::remember;
+use crate::intern::table_in;
 use crate::limits::Context;
 use crate::limits::Nesting;
-use crate::look::Hope;
-use crate::look::next_promising;
-use crate::memory::table_in;
+use crate::prune::Hope;
+use crate::prune::next_promising;
+use crate::steps::known_step;
 use pack::judge::utility;
 use pack::number::wide;
 use pack::places::ACTION;
@@ -59,7 +59,7 @@ pub fn explained(
         return true;
     }
     let found = explains(pack, places, p, work, slot, d);
-    remember(work, p, slot, mark(found) + 3, key);
+    remember(work, p, slot, mark_of(found) + 3, key);
     found
 }
 
@@ -119,15 +119,14 @@ pub fn extends(
         (now (work .exit)) r (λ th s. Above th (p .foresight .0) (g .nesting .0) (g .who) (g .base) (suc (g .left)) s) ⌝ }
 {
     let t = table_in(work, p, slot);
-    if g.base
-        < utility(
-            pack,
-            places[CHARACTER_UTILITIES + g.who] as usize,
-            work,
-            t,
-            0,
-        )
-    {
+    let worth = utility(
+        pack,
+        places[CHARACTER_UTILITIES + g.who] as usize,
+        work,
+        t,
+        0,
+    );
+    if g.base < worth {
         return true;
     }
     if g.left == 0 {
@@ -150,12 +149,12 @@ pub fn extends(
         base: g.base,
     };
     let found = extends_by(pack, places, p, work, slot, rest);
-    remember(work, p, slot, mark(found), key);
+    remember(work, p, slot, mark_of(found), key);
     found
 }
 
 // How the memory marks whether there is a list.
-pub fn mark(found: bool) -> u8
+pub fn mark_of(found: bool) -> u8
     ensures { λ r. ⌜ (r ≡ 1 → found ≡ false) × (r ≡ 2 → found ≡ true) × (0 < r) × (r < 3) ⌝ }
 {
     if found { 2 } else { 1 }

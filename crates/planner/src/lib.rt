@@ -1,13 +1,13 @@
 // The planner layer: explanations and endings. What it promises stands in specs/; here are the answers that its public
 // calls hand back.
+pub mod entry;
 pub mod explain;
-pub mod fact;
-pub mod known;
+pub mod intern;
 pub mod limits;
-pub mod look;
-pub mod memory;
+pub mod prune;
 pub mod regions;
 pub mod search;
+pub mod steps;
 pub mod verdict;
 
 // What Explained hands back: yes or no, or a refusal's number and place.

@@ -1,7 +1,7 @@
 // Where the memory keeps what in the work buffer, as specs/Inner/Memory has it.
 
-// The names of the tables in the slots, a byte for each slot: the memory begins with them.
-pub const NAMES: usize = 43470;
+// The ids of the tables in the slots, a byte for each slot: the memory begins with them.
+pub const IDS: usize = 43470;
 
 // How many blocks of 12 bytes are taken by tables.
 pub const TAKEN: usize = 43518;
@@ -17,13 +17,13 @@ pub const LISTS: usize = 44160;
 
 pub const OF_LISTS: usize = 1792;
 
-// How many bytes stand before it from the names on.
+// How many bytes stand before it from the ids on.
 pub const BEFORE_LISTS: usize = 690;
 
-// The tables that are kept, in blocks, and how many bytes stand before them from the names on.
+// The tables that are kept, in blocks, and how many bytes stand before them from the ids on.
 pub const TABLES: usize = 45952;
 
 pub const BEFORE_TABLES: usize = 2482;
 
-// The table of name n begins 12 n bytes behind this.
+// The table of id n begins 12 n bytes behind this.
 pub const KEPT: usize = 45940;

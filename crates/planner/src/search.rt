@@ -1,32 +1,32 @@
 // Search: the list search of the author, shortest lists first, and the public call. A state is row 0 of the table in a
 // slot of the work buffer; the slots behind it are free.
 //
-// A depth-limited search, deepened one action at a time. The memory is emptied in two parts, one before the nodes are
-// laid out and one after: each is below 2,048 bytes, up to which C's `memset` writes by plain stores. The list is
-// written on the way back from its end, so nothing is put down where there is none; `none` is a utility of 0, since
-// one above another is at least 1. Everybody is asked: the character left out is the number of characters, which no
-// consenter has.
+// Iterative deepening (`deepen`) over a depth-limited search (`completes`). The memory is emptied in two parts, one
+// before the nodes are laid out and one after: each is below 2,048 bytes, up to which C's `memset` writes by plain
+// stores. The list is written on the way back from its end, so nothing is put down where there is none; `none` is a
+// utility of 0, since one above another is at least 1. Everybody is asked: the character left out is the number of
+// characters, which no consenter has.
 use crate::Found;
+use crate::entry::AUTHOR;
+use crate::entry::Deed;
+use crate::entry::Goal;
+use crate::entry::goal_key;
+use crate::entry::recall;
+use crate::entry::remember;
 use crate::explain::allowed;
-use crate::fact::AUTHOR;
-use crate::fact::Deed;
-use crate::fact::Goal;
-use crate::fact::goal_key;
-use crate::fact::recall;
-use crate::fact::remember;
-use crate::known::known_step;
+use crate::intern::table_in;
 use crate::limits::Context;
 use crate::limits::Foresight;
 use crate::limits::Nesting;
 use crate::limits::Story;
 use crate::limits::searchable;
-use crate::look::Hope;
-use crate::look::next_promising;
-use crate::memory::table_in;
+use crate::prune::Hope;
+use crate::prune::next_promising;
 use crate::regions::BEFORE_LISTS;
+use crate::regions::IDS;
 use crate::regions::LISTS;
-use crate::regions::NAMES;
 use crate::regions::OF_LISTS;
+use crate::steps::known_step;
 use chart::bytes::clear;
 use chart::bytes::copy_part;
 use chart::call::WORK_ROOM;
@@ -229,7 +229,7 @@ pub fn completes_by(
 
 // The shortest list of at least one action, and at most so many as are left to the goal, from the state in the first
 // slot; and of those the earliest. Lists are looked for by their length: one, two, and so on.
-pub fn shortest(
+pub fn deepen(
     pack: &[u8],
     places: &[u16],
     p: Context,
@@ -273,7 +273,7 @@ pub fn lay_start(pack: &[u8], first: usize, nodes: usize, p: Context, work: &mut
     let rows = merge_table(work, nodes, width, p.fluents, p.characters);
     work[0] = rows as u8;
     copy_part(work, MERGED, 1, rows * width);
-    clear(work, NAMES, BEFORE_LISTS);
+    clear(work, IDS, BEFORE_LISTS);
 }
 
 // The search from what node 0 means of the nodes that are read from `first` on. The work buffer is cleared.
@@ -301,7 +301,7 @@ pub fn search_nodes(
         left: s.0,
         base,
     };
-    let found = shortest(pack, places, p, work, list, goal);
+    let found = deepen(pack, places, p, work, list, goal);
     clear(work, 0, WORK_ROOM);
     if found.count == 0 {
         return Found::Refused(NO_ENDING, 0);

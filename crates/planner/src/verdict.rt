@@ -1,13 +1,13 @@
 // Explained: the checks, and the verdict on a chart.
 use crate::Judged;
+use crate::entry::Deed;
 use crate::explain::explained;
-use crate::fact::Deed;
 use crate::limits::Context;
 use crate::limits::Foresight;
 use crate::limits::Nesting;
 use crate::limits::explainable;
 use crate::regions::BEFORE_TABLES;
-use crate::regions::NAMES;
+use crate::regions::IDS;
 use chart::bytes::clear;
 use chart::bytes::sweep;
 use chart::call::WORK_ROOM;
@@ -63,7 +63,7 @@ pub fn verdict_in(
         (d .action) (p .foresight .0) (d .nesting .0) (now (work .entry)) (now (work .exit)) r ⌝ }
 {
     copy_table(chart, 1, nodes, work, 0, p.fluents, p.characters);
-    clear(work, NAMES, BEFORE_TABLES);
+    clear(work, IDS, BEFORE_TABLES);
     let verdict = explained(pack, places, p, work, 0, d);
     sweep(work, 0, WORK_ROOM);
     verdict

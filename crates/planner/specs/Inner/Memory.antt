@@ -1,5 +1,5 @@
--- What is known of states, behind a step's scratch: tables that are kept, each under a number that is its name, and
--- what is known of steps and lists by these names. Every entry is true, whatever it is replaced by. Assumes nothing.
+-- What is known of states, behind a step's scratch: tables that are kept, each under a number that is its id, and
+-- what is known of steps and lists by these ids. Every entry is true, whatever it is replaced by. Assumes nothing.
 use mathlib.Core.Path.{_≡_}
 use mathlib.Core.Logic.{_≢_}
 use mathlib.Core.List.{List}
@@ -13,15 +13,15 @@ use Rattle.chart.specs.Call.{workRoom}
 use Rattle.chart.specs.Chart.{Starts}
 use Rattle.transition.specs.Happening.{Plays}
 use Rattle.planner.specs.declared.limits.Context.{Context}
-use Rattle.planner.specs.declared.fact.Goal.{Goal}
-use Rattle.planner.specs.declared.fact.Deed.{Deed}
-use Rattle.planner.specs.declared.fact.Key.{Key}
+use Rattle.planner.specs.declared.entry.Goal.{Goal}
+use Rattle.planner.specs.declared.entry.Deed.{Deed}
+use Rattle.planner.specs.declared.entry.Key.{Key}
 use Rattle.planner.specs.Ending.{Explained}
 use Rattle.planner.specs.Inner.Lists.{slotTable, Above, Ends}
 use Rattle.transition.specs.Contracts.Stage.{slotRoom, scratchAt}
 
--- where it begins, with the name of the table in each slot; how many blocks of 12 bytes are taken; behind that are
--- names found by a hash, of which nothing is asked; then steps, lists and tables
+-- where it begins, with the id of the table in each slot; how many blocks of 12 bytes are taken; behind that are
+-- ids found by a hash, of which nothing is asked; then steps, lists and tables
 abbrev pub memoryAt : ℕ
 memoryAt = 43470
 
@@ -37,7 +37,7 @@ factsAt = 44160
 abbrev pub tablesAt : ℕ
 tablesAt = 45952
 
--- the table of a name begins with a block
+-- the table of an id begins with a block
 abbrev pub keptAt : ℕ → ℕ
 keptAt n = 45940 + 12 * n
 
@@ -51,13 +51,13 @@ pub record Kept (h : Context) (work : List ℕ) (n : ℕ) : Type 0 where
   pub inside : keptAt n + 1 + getD work (keptAt n) 0 * (h .fluents + h .characters)
       ≤ tablesAt + 12 * getD work takenAt 0
 
--- n is the name of a table
-pub record Named (h : Context) (work : List ℕ) (t : Table) (n : ℕ) : Type 0 where
+-- n is the id of a table
+pub record HasId (h : Context) (work : List ℕ) (t : Table) (n : ℕ) : Type 0 where
   pub kept : Kept h work n
   pub count : getD work (keptAt n) 0 ≡ t .nodes
   pub same : table.tableOf (keptTable h work n) work ≡ table.tableOf t work
 
--- what an action leaves of a row of the table of a name: nothing, or what the table of another name starts with
+-- what an action leaves of a row of the table of an id: nothing, or what the table of another id starts with
 pub record StepFact (p : Theory) (h : Context) (work : List ℕ) (n root a next : ℕ) : Type 0 where
   pub kept : Kept h work n
   pub none : next ≡ 0 → (s : State) → Plays p (table.stateOf (keptTable h work n) work root) a s → ⊥
@@ -94,10 +94,10 @@ keyAt work a =
       base = getD work (a + 4) 0 + 256 * getD work (a + 5) 0;
     }
 
--- entries, each empty or true: the name of the table in slot i, a step at a, a fact at a with its name behind it
+-- entries, each empty or true: the id of the table in slot i, a step at a, a fact at a with its id behind it
 abbrev pub SlotEntry : (h : Context) (work : List ℕ) (i : ℕ) → Type 0
 SlotEntry h work i =
-    0 < getD work (memoryAt + i) 0 → Named h work (slotTable h work (slotRoom * i)) (getD work (memoryAt + i) 0)
+    0 < getD work (memoryAt + i) 0 → HasId h work (slotTable h work (slotRoom * i)) (getD work (memoryAt + i) 0)
 
 abbrev pub StepEntry : (p : Theory) (h : Context) (work : List ℕ) (a : ℕ) → Type 0
 StepEntry p h work a =
@@ -146,24 +146,24 @@ pub record Only (was now : List ℕ) : Type 0 where
   pub low : table.Below was now memoryAt
   pub high : table.Above was now workRoom
 
--- r is a name of the table, or 0, and what is known stays true
+-- r is an id of the table, or 0, and what is known stays true
 pub record Stored (h : Context) (t : Table) (was now : List ℕ) (r : ℕ) : Type 0 where
   pub small : r < 256
-  pub named : 0 < r → Named h now t r
+  pub named : 0 < r → HasId h now t r
   pub only : Only was now
   pub memory : (p : Theory) (foresight limit : ℕ) → limit ≤ memoryAt → Memory p foresight h limit was
       → Memory p foresight h limit now
 
 -- the same of a table in a slot, where what is known is true
-pub record Naming (h : Context) (t : Table) (was now : List ℕ) (r : ℕ) : Type 0 where
+pub record Interning (h : Context) (t : Table) (was now : List ℕ) (r : ℕ) : Type 0 where
   pub small : r < 256
   pub only : Only was now
   pub told : (p : Theory) (foresight limit : ℕ) → limit ≤ memoryAt → InSlot was t limit → Memory p foresight h limit was
-      → Memory p foresight h limit now × (0 < r → Named h now t r)
+      → Memory p foresight h limit now × (0 < r → HasId h now t r)
 
--- a name is one, and each number of the key fits a byte or two
-pub record Storable (name : ℕ) (k : Key) : Type 0 where
-  pub some : 0 < name
+-- an id is one, and each number of the key fits a byte or two
+pub record Storable (id : ℕ) (k : Key) : Type 0 where
+  pub some : 0 < id
   pub who : k .who < 256
   pub nesting : k .nesting < 256
   pub number : k .number < 256
@@ -190,26 +190,26 @@ pub record Remembered (h : Context) (t : Table) (mark : ℕ) (k : Key) (was now 
       → Memory p foresight h limit now
 
 -- an entry of a step
-pub record StepRead (work : List ℕ) (a name root action : ℕ) : Type 0 where
-  pub some : 0 < name
-  pub read : getD work a 0 ≡ name
+pub record StepRead (work : List ℕ) (a id root action : ℕ) : Type 0 where
+  pub some : 0 < id
+  pub read : getD work a 0 ≡ id
   pub row : getD work (a + 1) 0 ≡ root
   pub acted : getD work (a + 2) 0 ≡ action
 
 -- which is put down
-pub record StepPut (was now : List ℕ) (a name root action next : ℕ) : Type 0 where
-  pub read : getD now a 0 ≡ name
+pub record StepPut (was now : List ℕ) (a id root action next : ℕ) : Type 0 where
+  pub read : getD now a 0 ≡ id
   pub row : getD now (a + 1) 0 ≡ root
   pub acted : getD now (a + 2) 0 ≡ action
   pub leaves : getD now (a + 3) 0 ≡ next
   pub low : table.Below was now a
   pub high : table.Above was now (a + 4)
 
--- true where what it says is, of every name of the table
+-- true where what it says is, of every id of the table
 pub record Noted (h : Context) (t : Table) (root action next : ℕ) (was now : List ℕ) : Type 0 where
   pub only : Only was now
   pub memory : (p : Theory) (foresight limit : ℕ) → limit ≤ memoryAt → InSlot was t limit
-      → Memory p foresight h limit was → ((n : ℕ) → Named h was t n → StepFact p h was n root action next)
+      → Memory p foresight h limit was → ((n : ℕ) → HasId h was t n → StepFact p h was n root action next)
       → Memory p foresight h limit now
 
 -- a slot, before the scratch of a step
@@ -220,7 +220,7 @@ pub record Slot (h : Context) (work : List ℕ) (slot : ℕ) : Type 0 where
   pub is : slot ≡ slotRoom * number
   pub room : workRoom ≤ length work
 
--- the table of a name stands in it, as after a step that plays
+-- the table of an id stands in it, as after a step that plays
 pub record Again (h : Context) (next slot : ℕ) (was now : List ℕ) (r : ℕ) : Type 0 where
   pub refused : r ≢ 0 → next ≡ 0
   pub played : r ≡ 0

@@ -48,14 +48,14 @@ use Rattle.pack.proofs.judge.utility.Reads as utility-reads
 use Rattle.pack.proofs.number.wide.Reads as wide-reads
 use Rattle.pack.proofs.write.consenter.Reads as consenter-reads
 use Rattle.pack.proofs.write.consenters.Reads as consenters-reads
-use Rattle.planner.proofs.explain.mark.Reads as mark-reads
-use Rattle.planner.proofs.look.next_promising.Reads as next-promising-reads
-use Rattle.planner.proofs.memory.table_in.Reads as table-in-reads
-use Rattle.planner.proofs.fact.deed_key.Reads as deed-key-reads
-use Rattle.planner.proofs.fact.goal_key.Reads as goal-key-reads
-use Rattle.planner.proofs.fact.recall.Reads as recall-reads
-use Rattle.planner.proofs.fact.remember.Reads as remember-reads
-use Rattle.planner.proofs.known.known_step.Reads as known-step-reads
+use Rattle.planner.proofs.explain.mark_of.Reads as mark-of-reads
+use Rattle.planner.proofs.prune.next_promising.Reads as next-promising-reads
+use Rattle.planner.proofs.intern.table_in.Reads as table-in-reads
+use Rattle.planner.proofs.entry.deed_key.Reads as deed-key-reads
+use Rattle.planner.proofs.entry.goal_key.Reads as goal-key-reads
+use Rattle.planner.proofs.entry.recall.Reads as recall-reads
+use Rattle.planner.proofs.entry.remember.Reads as remember-reads
+use Rattle.planner.proofs.steps.known_step.Reads as known-step-reads
 use Rattle.planner.proofs.explain.+allowed+explained+explains+extends+extends_by+fine+via.{
   statement,
 }
@@ -131,13 +131,13 @@ abbrev via-below : ℕ → In 3 via-kinds.ps
 via-below t = and 3 via-kinds.ps (falls 3 via-kinds.ps _<_ μ-via t) via.Pre
 
 abbrev explained-calls : ℕ → explained-lts.Claims
-explained-calls t = (deed-key-reads.Asked, deed-key-reads.Learnt, recall-reads.Asked, recall-reads.Learnt, explains-below t, explains.Post, mark-reads.Asked, mark-reads.Learnt, remember-reads.Asked, remember-reads.Learnt)
+explained-calls t = (deed-key-reads.Asked, deed-key-reads.Learnt, recall-reads.Asked, recall-reads.Learnt, explains-below t, explains.Post, mark-of-reads.Asked, mark-of-reads.Learnt, remember-reads.Asked, remember-reads.Learnt)
 
 abbrev explains-calls : ℕ → explains-lts.Claims
 explains-calls t = (wide-reads.Asked, wide-reads.Learnt, known-step-reads.Asked, known-step-reads.Learnt, table-in-reads.Asked, table-in-reads.Learnt, utility-reads.Asked, utility-reads.Learnt, extends-below t, extends.Post)
 
 abbrev extends-calls : ℕ → extends-lts.Claims
-extends-calls t = (table-in-reads.Asked, table-in-reads.Learnt, utility-reads.Asked, utility-reads.Learnt, goal-key-reads.Asked, goal-key-reads.Learnt, recall-reads.Asked, recall-reads.Learnt, extends-by-below t, extends-by.Post, mark-reads.Asked, mark-reads.Learnt, remember-reads.Asked, remember-reads.Learnt)
+extends-calls t = (table-in-reads.Asked, table-in-reads.Learnt, utility-reads.Asked, utility-reads.Learnt, goal-key-reads.Asked, goal-key-reads.Learnt, recall-reads.Asked, recall-reads.Learnt, extends-by-below t, extends-by.Post, mark-of-reads.Asked, mark-of-reads.Learnt, remember-reads.Asked, remember-reads.Learnt)
 
 abbrev allowed-calls : ℕ → allowed-lts.Claims
 allowed-calls t = (consenters-reads.Asked, consenters-reads.Learnt, consenter-reads.Asked, consenter-reads.Learnt, fine-below t, fine.Post)
@@ -343,11 +343,11 @@ explained-explains-requires t c κs =
     let r = at-recall .recall in
     (omega (arith, m), ((th, (T, (slot-same (a .slot) y (λ q l. r .ensures .only .low q (omega (arith, l, P .5))) (r .kept .0), (r .ensures .told th (a .p .foresight .0) (a .slot + 961) (omega (arith, P .5)) (y .slotted) mem) .0))), P .1, P .2, P .3, P .4, P .5, omega (arith, at-if1 .if1 .left)))
 
-explained-mark-requires : (t : ℕ) → explained-lts.Need-mark-requires (explained-calls t) (explained-at t) explained.Post
-explained-mark-requires t c κs = search needs
+explained-mark-of-requires : (t : ℕ) → explained-lts.Need-mark-of-requires (explained-calls t) (explained-at t) explained.Post
+explained-mark-of-requires t c κs = search needs
 
 explained-add-remember : (t : ℕ) → explained-lts.Need-add-remember (explained-calls t) (explained-at t) explained.Post
-explained-add-remember t c = omega (arith, c .mark .ensures)
+explained-add-remember t c = omega (arith, c .mark-of .ensures)
 
 explained-remember-requires : (t : ℕ) → explained-lts.Need-remember-requires (explained-calls t) (explained-at t) explained.Post
 explained-remember-requires t c κs =
@@ -373,8 +373,8 @@ explained-same-length-3 t c =
 explained-returns-4 : (t : ℕ) → explained-lts.Need-returns-4 (explained-calls t) (explained-at t) explained.Post
 explained-returns-4 t c =
     let at-remember = c .before .before in
-    let at-mark = at-remember .before in
-    let at-explains = at-mark .before .before .before .before in
+    let at-mark-of = at-remember .before in
+    let at-explains = at-mark-of .before .before .before .before in
     let at-recall = at-explains .before .before .before .before .before .before in
     let key = at-recall .before .before .deed-key .ensures in
     let start = at-recall .before .before .before .before .before .before .before .before in
@@ -391,7 +391,7 @@ explained-returns-4 t c =
       complete = told .complete;
       low = λ q l. rem .only .low q (omega (arith, l, P .5)) ∙ told .low q l ∙ r .ensures .only .low q (omega (arith, l, P .5));
       high = λ q l. rem .only .high q l ∙ told .high q l ∙ r .ensures .only .high q l;
-      memory = rem .memory th (a .p .foresight .0) (a .slot + 961) (omega (arith, P .5)) (z .slotted) (told .memory) (note z key (verdict th (a .p .foresight .0) (deedKey (a .d)) (meaning (a .p .characters) T 0) (told .sound) (told .complete) (at-mark .mark .ensures)));
+      memory = rem .memory th (a .p .foresight .0) (a .slot + 961) (omega (arith, P .5)) (z .slotted) (told .memory) (note z key (verdict th (a .p .foresight .0) (deedKey (a .d)) (meaning (a .p .characters) T 0) (told .sound) (told .complete) (at-mark-of .mark-of .ensures)));
     }
 
 explains-add-wide : (t : ℕ) → explains-lts.Need-add-wide (explains-calls t) (explains-at t) explains.Post
@@ -710,8 +710,8 @@ extends-extends-by-requires t c κs =
     let r = at-recall .recall in
     (omega (arith, m, at-if2 .if2 .left), ((th, (T, (slot-same (a .slot) y (λ q l. r .ensures .only .low q (omega (arith, l, P .4))) (r .kept .0), r .ensures .told th (a .p .foresight .0) (a .slot + 961) (omega (arith, P .4)) (y .slotted) mem .0))), P .1, P .2, P .3, omega (arith, P .4, at-if2 .if2 .left)))
 
-extends-mark-requires : (t : ℕ) → extends-lts.Need-mark-requires (extends-calls t) (extends-at t) extends.Post
-extends-mark-requires t c κs = search needs
+extends-mark-of-requires : (t : ℕ) → extends-lts.Need-mark-of-requires (extends-calls t) (extends-at t) extends.Post
+extends-mark-of-requires t c κs = search needs
 
 extends-remember-requires : (t : ℕ) → extends-lts.Need-remember-requires (extends-calls t) (extends-at t) extends.Post
 extends-remember-requires t c κs =
@@ -737,8 +737,8 @@ extends-same-length-5 t c =
 extends-returns-5 : (t : ℕ) → extends-lts.Need-returns-5 (extends-calls t) (extends-at t) extends.Post
 extends-returns-5 t c =
     let at-remember = c .before .before in
-    let at-mark = at-remember .before in
-    let at-extends-by = at-mark .before .before .before .before in
+    let at-mark-of = at-remember .before in
+    let at-extends-by = at-mark-of .before .before .before .before in
     let at-recall = at-extends-by .before .before .before .before .before .before .before .before in
     let key = at-recall .before .before .goal-key .ensures in
     let at-if2 = at-recall .before .before .before in
@@ -763,7 +763,7 @@ extends-returns-5 t c =
       complete = whole .complete;
       low = λ q l. rem .only .low q (omega (arith, l, P .4)) ∙ told .low q l ∙ r .ensures .only .low q (omega (arith, l, P .4));
       high = λ q l. rem .only .high q l ∙ told .high q l ∙ r .ensures .only .high q l;
-      memory = rem .memory th (a .p .foresight .0) (a .slot + 961) (omega (arith, P .4)) (z′ .slotted) (told .memory) (note z′ key (noted th (a .p .foresight .0) (a .g .nesting .0) (a .g .who) (a .g .base) (a .g .left) s some here told (at-mark .mark .ensures)));
+      memory = rem .memory th (a .p .foresight .0) (a .slot + 961) (omega (arith, P .4)) (z′ .slotted) (told .memory) (note z′ key (noted th (a .p .foresight .0) (a .g .nesting .0) (a .g .who) (a .g .base) (a .g .left) s some here told (at-mark-of .mark-of .ensures)));
     }
 
 abbrev extends-by-Inv-loop : extends-by-lts.InvT-loop
@@ -1045,7 +1045,7 @@ pub +allowed+explained+explains+extends+extends-by+fine+via-spec : {M : Type 1} 
     (explained-same-length-2 t)
     (explained-returns-3 t)
     (explained-explains-requires t)
-    (explained-mark-requires t)
+    (explained-mark-of-requires t)
     (explained-add-remember t)
     (explained-remember-requires t)
     (explained-same-length-3 t)
@@ -1094,7 +1094,7 @@ pub +allowed+explained+explains+extends+extends-by+fine+via-spec : {M : Type 1} 
     (extends-returns-4 t)
     (extends-sub-left t)
     (extends-extends-by-requires t)
-    (extends-mark-requires t)
+    (extends-mark-of-requires t)
     (extends-remember-requires t)
     (extends-same-length-5 t)
     (extends-returns-5 t))

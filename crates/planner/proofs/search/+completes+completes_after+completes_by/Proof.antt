@@ -32,13 +32,13 @@ use Rattle.planner.proofs.search.completes_by.Reads as completes-by
 use Rattle.planner.proofs.search.completes_by.Kinds as completes-by-kinds
 use Rattle.planner.proofs.search.+completes+completes_after+completes_by.Lts-completes_by as completes-by-lts
 use Rattle.planner.proofs.explain.allowed.Reads as allowed-reads
-use Rattle.planner.proofs.look.next_promising.Reads as next-promising-reads
-use Rattle.planner.proofs.fact.goal_key.Reads as goal-key-reads
-use Rattle.planner.proofs.fact.recall.Reads as recall-reads
-use Rattle.planner.proofs.fact.remember.Reads as remember-reads
+use Rattle.planner.proofs.prune.next_promising.Reads as next-promising-reads
+use Rattle.planner.proofs.entry.goal_key.Reads as goal-key-reads
+use Rattle.planner.proofs.entry.recall.Reads as recall-reads
+use Rattle.planner.proofs.entry.remember.Reads as remember-reads
 use Rattle.planner.proofs.search.ends.Reads as ends-reads
 use Rattle.planner.proofs.search.repeats.Reads as repeats-reads
-use Rattle.planner.proofs.known.known_step.Reads as known-step-reads
+use Rattle.planner.proofs.steps.known_step.Reads as known-step-reads
 use Rattle.planner.proofs.search.+completes+completes_after+completes_by.{statement}
 use Rattle.planner.proofs.search.+completes+completes_after+completes_by.Tie.{close}
 

@@ -62,8 +62,8 @@ worth c {th} {T} x =
     let l = at-lay-start .lay-start in
     author-utility (seek-slot x (l .ensures T (seek-laying x)) (l .kept .1 .1 .1 .1 .0)) 0 (utility-in (a .pack .now) (getD (a .places .now) 320 0) (l .last .1 .1 .1 .1 .0) 0 (c .utility .result) (at-table-in .table-in .ensures) (c .utility .ensures))
 
-shortest-requires : tie.Need-shortest-requires
-shortest-requires c κs =
+deepen-requires : tie.Need-deepen-requires
+deepen-requires c κs =
     let at-utility = c .before .before in
     let at-lay-start = at-utility .before .before .before .before .before .before .before in
     let start = at-lay-start .before .before .before .before .before .before in
@@ -74,21 +74,21 @@ shortest-requires c κs =
 
 clear-requires : tie.Need-clear-requires
 clear-requires c κs =
-    let at-shortest = c .before .before .before .before .before in
-    let at-table-in = at-shortest .before .before .before .before .before .before in
+    let at-deepen = c .before .before .before .before .before in
+    let at-table-in = at-deepen .before .before .before .before .before .before in
     let at-lay-start = at-table-in .before .before .before .before in
     let start = at-lay-start .before .before .before .before .before .before in
     let (th, (T, x)) = start .pre in
-    omega (arith, x .room, at-shortest .shortest .kept .1 .1 .1 .0, at-lay-start .lay-start .kept)
+    omega (arith, x .room, at-deepen .deepen .kept .1 .1 .1 .0, at-lay-start .lay-start .kept)
 
 returns : tie.Need-returns
 returns c =
     let at-clear = c .before .before .before .before in
-    let at-shortest = at-clear .before .before .before .before .before .before in
-    let at-utility = at-shortest .before .before .before in
+    let at-deepen = at-clear .before .before .before .before .before .before in
+    let at-utility = at-deepen .before .before .before in
     let at-lay-start = at-utility .before .before .before .before .before .before .before in
     let l = at-lay-start .lay-start .ensures in
-    let e = at-shortest .shortest in
+    let e = at-deepen .deepen in
     let z = at-clear .clear in
     λ th T x.
     let y = l T (seek-laying x) in
@@ -99,11 +99,11 @@ returns c =
 returns-2 : tie.Need-returns-2
 returns-2 c =
     let at-clear = c .before .before .before .before in
-    let at-shortest = at-clear .before .before .before .before .before .before in
-    let at-utility = at-shortest .before .before .before in
+    let at-deepen = at-clear .before .before .before .before .before .before in
+    let at-utility = at-deepen .before .before .before in
     let at-lay-start = at-utility .before .before .before .before .before .before .before in
     let l = at-lay-start .lay-start .ensures in
-    let e = at-shortest .shortest in
+    let e = at-deepen .deepen in
     let z = at-clear .clear in
     λ th T x.
     let y = l T (seek-laying x) in
@@ -114,4 +114,4 @@ returns-2 c =
 pub search-nodes-spec : {M : Type 1} → statement M
 search-nodes-spec =
     tie.close
-    (tie.spec lay-start-requires table-in-requires shared-slice-read-utility cast-utility utility-requires shortest-requires clear-requires (λ c. search needs) (λ c. search needs) returns (λ c. search needs) (λ c. search needs) returns-2)
+    (tie.spec lay-start-requires table-in-requires shared-slice-read-utility cast-utility utility-requires deepen-requires clear-requires (λ c. search needs) (λ c. search needs) returns (λ c. search needs) (λ c. search needs) returns-2)

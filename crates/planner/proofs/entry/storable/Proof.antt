@@ -1,0 +1,17 @@
+-- What fits an entry. Assumes nothing.
+use native.Mathlib.Omega.{arith}
+use borrow.Author.Needs.{needs}
+use borrow.Author.Tests.{ltb-true}
+use Rattle.planner.proofs.Remembering.{unset}
+use Rattle.planner.proofs.entry.storable.Statement.{statement}
+use Rattle.planner.proofs.entry.storable.Tie as tie
+
+returns-5 : tie.Need-returns-5
+returns-5 c =
+    let at-if3 = c .before .before .before in
+    let at-if2 = at-if3 .before .before in
+    let at-if1 = at-if2 .before .before in
+    λ e. record { some = omega (arith, at-if1 .if1 .left); who = omega (arith, at-if2 .if2 .left); nesting = omega (arith, at-if3 .if3 .left); number = omega (arith, c .before .if4 .left); base = ltb-true _ _ e }
+
+pub storable-spec : {M : Type 1} → statement M
+storable-spec = tie.close (tie.spec (λ c. unset) (λ c. unset) (λ c. unset) (λ c. unset) returns-5)

@@ -1,0 +1,28 @@
+-- The id that is known by the slot, or a new one. Assumes nothing.
+use Prim.Native.Nat.{_+_, _/_}
+use native.Mathlib.Omega.{arith}
+use Rattle.planner.proofs.Remembering.{naming-known}
+use borrow.Author.Needs.{needs}
+use Rattle.planner.proofs.intern.id_of.Statement.{statement}
+use Rattle.planner.proofs.intern.id_of.Tie as tie
+
+pub id-of-spec : {M : Type 1} → statement M
+id-of-spec =
+    tie.close
+    (tie.spec
+    (λ c. omega (arith, c .before .pre .before))
+    (λ c. omega (arith, c .before .pre .before))
+    (λ c.
+    let start = c .before .before in
+    omega (arith, start .pre .before, start .pre .room))
+    (λ c κs. search needs)
+    (λ c.
+    let at-wide = c .before in
+    let at-slice-known2 = at-wide .before in
+    let start = at-slice-known2 .before .before in
+    naming-known (start .args .p) (start .pre) (omega (arith, at-wide .wide .ensures, at-slice-known2 .slice-known2 .given (43470 + (start .args .slot + 1) / 961))) (at-wide .wide .ensures))
+    (λ c κs. search needs)
+    (λ c. search needs)
+    (λ c.
+    let at-intern-slot = c .before .before in
+    at-intern-slot .intern-slot .ensures))

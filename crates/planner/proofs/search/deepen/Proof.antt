@@ -1,0 +1,114 @@
+-- Length after length, the shortest first. Assumes nothing.
+use Prim.Native.Nat.{ℕ, _+_, _-_, _<_, _≤_}
+use mathlib.Core.Path.{_≡_, refl, ap, _∙_, subst}
+use mathlib.Core.List.{List}
+use native.Mathlib.Nat.{mul-le-mul-left, mul-le-mul-right}
+use native.Mathlib.Omega.{arith}
+use lib.ListN.{length}
+use borrow.Author.Needs.{needs}
+use Rattle.pack.specs.Syntax.{Node, Theory}
+use Rattle.pack.specs.State.{meaning}
+use Rattle.pack.specs.Contracts.Table.{Below, Above}
+use Rattle.chart.specs.Call.{workRoom}
+use Rattle.chart.specs.Chart.{Written}
+use Rattle.planner.specs.Ending.{authorUtility}
+use Rattle.planner.specs.Inner.Lists.{slotTable, Ends}
+use Rattle.planner.specs.Inner.Memory.{Memory}
+use Rattle.planner.specs.Inner.Explain.{Stage}
+use Rattle.planner.specs.Inner.Search.{Shortest}
+use Rattle.planner.proofs.Telling.{slot-same}
+use Rattle.planner.proofs.Completing.{trail-outset}
+use Rattle.planner.proofs.Seeking.{shorter, shortest-found, shortest-none}
+use Rattle.planner.proofs.search.deepen.Statement.{statement}
+use Rattle.planner.proofs.search.deepen.Tie as tie
+
+abbrev Inv-loop : tie.InvT-loop
+Inv-loop pack places p work₀ list₀ g n₀ work list n =
+    (0 < n) × (length work ≡ length work₀) × (list ≡ list₀) × Below work₀ work 961 × Above work₀ work workRoom
+    × ((th : Theory) (T : List Node) → Stage th T pack places p work₀ (slotTable p work₀ 0) 961 → Memory th (p .foresight .0) p 961 work₀ → Written (p .characters) T → authorUtility th (meaning (p .characters) T 0) ≤ g .base → Memory th (p .foresight .0) p 961 work × ((l : List ℕ) (v : ℕ) → 0 < length l → length l < n → ¬ Ends th (p .foresight .0) (g .nesting .0) (g .base) (meaning (p .characters) T 0) l v))
+
+abbrev μ-loop : tie.MeasureT-loop
+μ-loop pack places p work₀ list₀ g n₀ work list n = g .left + 1 - n
+
+loop-holds : tie.Need-loop-holds Inv-loop μ-loop
+loop-holds c = (omega arith, refl, refl, λ q l. refl, λ q l. refl, λ th T y mem wr le. (mem, λ l v h k. absurd (omega (arith, h, k))))
+
+completes-requires : tie.Need-completes-requires Inv-loop μ-loop
+completes-requires c κs =
+    let at-if1 = c .before .before .before in
+    let at-loop = at-if1 .before .before in
+    let start = at-loop .before .before .before .before .before in
+    let P = start .pre in
+    let a = start .args in
+    let (th, (T, (y, mem, wr, le))) = P .0 in
+    let (some, long, same, low, high, rest) = at-loop .loop .inv in
+    let few = at-if1 .if1 .taken in
+    ((th, (T, (slot-same 0 y low long, rest th T y mem wr le .0, trail-outset (a .p .foresight .0) (a .g .nesting .0) (a .g .base) y low long wr le (rest th T y mem wr le .1)))), P .1, P .2, omega (arith, few, P .4, mul-le-mul-left (a .p .foresight .0) (P .3), mul-le-mul-right 3 (P .2)), omega (arith, few, P .4, P .5, ap length same))
+
+returns : tie.Need-returns Inv-loop μ-loop
+returns c =
+    let at-completes = c .before .before .before .before .before in
+    let at-if1 = at-completes .before .before .before .before in
+    let at-loop = at-if1 .before .before in
+    let start = at-loop .before .before .before .before .before in
+    let a = start .args in
+    let d = at-completes .completes in
+    let (some, long, same, low, high, rest) = at-loop .loop .inv in
+    λ th T y mem wr le. subst (λ (was : List ℕ). Shortest (Ends th (a .p .foresight .0) (a .g .nesting .0) (a .g .base) (meaning (a .p .characters) T 0)) (a .g .left) was (d .last .1 .1 .1 .1 .0) (a .work .now) (d .last .1 .1 .1 .0) (record { count = at-loop .loop .n; after = d .result })) same
+    (shortest-found low high some (omega (arith, at-if1 .if1 .taken)) (rest th T y mem wr le .1) (omega (arith, c .if2 .taken)) (d .ensures th T (slot-same 0 y low long) (rest th T y mem wr le .0) (trail-outset (a .p .foresight .0) (a .g .nesting .0) (a .g .base) y low long wr le (rest th T y mem wr le .1))))
+
+loop-again : tie.Need-loop-again Inv-loop μ-loop
+loop-again c =
+    let at-completes = c .before .before .before .before .before in
+    let at-loop = at-completes .before .before .before .before .before .before in
+    let start = at-loop .before .before .before .before .before in
+    let a = start .args in
+    let d = at-completes .completes in
+    let (some, long, same, low, high, rest) = at-loop .loop .inv in
+    let (th, (T, (y, mem, wr, le))) = start .pre .0 in
+    let zero : d .result ≡ 0 = omega (arith, c .if2 .left) in
+    let b = d .ensures th T (slot-same 0 y low long) (rest th T y mem wr le .0) (trail-outset (a .p .foresight .0) (a .g .nesting .0) (a .g .base) y low long wr le (rest th T y mem wr le .1)) in (
+      omega arith,
+      d .kept .1 .1 .1 .0 ∙ long,
+      b .none zero .0 ∙ same,
+      λ q l. b .low q l ∙ low q l,
+      λ q l. b .high q l ∙ high q l,
+      λ th T y mem wr le. let b = d .ensures th T (slot-same 0 y low long) (rest th T y mem wr le .0) (trail-outset (a .p .foresight .0) (a .g .nesting .0) (a .g .base) y low long wr le (rest th T y mem wr le .1)) in (b .memory, shorter (rest th T y mem wr le .1) (b .none zero .1)),
+    )
+
+returns-2 : tie.Need-returns-2 Inv-loop μ-loop
+returns-2 c =
+    let at-loop = c .before .before in
+    let (some, long, same, low, high, rest) = at-loop .loop .inv in
+    λ th T y mem wr le. shortest-none low high (omega (arith, c .if1 .left)) same (rest th T y mem wr le .1)
+
+same-length : tie.Need-same-length Inv-loop μ-loop
+same-length c =
+    let at-completes = c .before .before .before .before .before in
+    let at-loop = at-completes .before .before .before .before .before .before in
+    at-completes .completes .kept .1 .1 .1 .0 ∙ at-loop .loop .inv .1
+
+same-length-2 : tie.Need-same-length-2 Inv-loop μ-loop
+same-length-2 c =
+    let at-completes = c .before .before .before .before .before in
+    let at-loop = at-completes .before .before .before .before .before .before in
+    at-completes .completes .kept .1 .1 .1 .1 .0 ∙ ap length (at-loop .loop .inv .2)
+
+add-n : tie.Need-add-n Inv-loop μ-loop
+add-n c =
+    let at-if1 = c .before .before .before .before .before .before .before .before .before in
+    let start = at-if1 .before .before .before .before .before .before .before in
+    omega (arith, at-if1 .if1 .taken, start .pre .4)
+
+same-length-3 : tie.Need-same-length-3 Inv-loop μ-loop
+same-length-3 c =
+    let at-loop = c .before .before in
+    at-loop .loop .inv .1
+
+same-length-4 : tie.Need-same-length-4 Inv-loop μ-loop
+same-length-4 c =
+    let at-loop = c .before .before in
+    ap length (at-loop .loop .inv .2)
+
+pub deepen-spec : {M : Type 1} → statement M
+deepen-spec = tie.close (tie.spec Inv-loop μ-loop loop-holds completes-requires same-length same-length-2 returns add-n (λ c. search needs) loop-again same-length-3 same-length-4 returns-2)

@@ -1,0 +1,31 @@
+-- An entry's id, row and action. Assumes nothing.
+use native.Mathlib.Omega.{arith}
+use borrow.Author.Tests.{eqb-true}
+use Rattle.planner.proofs.Remembering.{unset}
+use borrow.Author.Needs.{needs}
+use Rattle.planner.proofs.steps.step_is.Statement.{statement}
+use Rattle.planner.proofs.steps.step_is.Tie as tie
+
+pub step-is-spec : {M : Type 1} → statement M
+step-is-spec =
+    tie.close
+    (tie.spec
+    (λ c. unset)
+    (λ c. search needs)
+    (λ c κs. search needs)
+    (λ c. unset)
+    (λ c. search needs)
+    (λ c. search needs)
+    (λ c κs. search needs)
+    (λ c. unset)
+    (λ c. search needs)
+    (λ c. search needs)
+    (λ c κs. search needs)
+    (λ c.
+    let at-if3 = c .before .before in
+    let at-wide2 = at-if3 .before in
+    let at-if2 = at-wide2 .before .before in
+    let at-wide = at-if2 .before in
+    let at-if1 = at-wide .before .before in
+    let start = at-if1 .before .before in
+    λ e. record { some = omega (arith, at-if1 .if1 .left); read = omega (arith, at-wide .wide .ensures, at-if2 .if2 .left); row = omega (arith, at-wide2 .wide2 .ensures, at-if3 .if3 .left); acted = omega (arith, c .wide3 .ensures, eqb-true (c .wide3 .result) (start .args .action) e) }))

@@ -1,0 +1,140 @@
+// A transposition table, behind a step's scratch. Tables of states are interned in it: each is kept once, under a
+// number that is its id, by which what is known of steps and of lists is found.
+//
+// An id is the number of the table's first block of 12 bytes. A table is held byte for byte against the one that its
+// hash leads to, so nothing proved depends on the hash. Where there is no room, all is forgotten. A state is handed on
+// as the slot that its table stands in.
+use crate::limits::Context;
+use crate::regions::BEFORE_TABLES;
+use crate::regions::HASHED;
+use crate::regions::IDS;
+use crate::regions::KEPT;
+use crate::regions::TABLES;
+use crate::regions::TAKEN;
+use chart::bytes::clear;
+use chart::bytes::copy_part;
+use chart::values::first_other;
+use pack::number::wide;
+use pack::table::Table;
+use transition::regions::SLOT;
+ghost use mathlib.Core.Path.{_≡_};
+ghost use mathlib.Core.Bool.{true};
+ghost use Prim.Native.Nat.{_+_, _*_, _<_, _≤_};
+ghost use lib.ListN.{length};
+ghost use Rattle.planner.specs.Inner.Lists.{slotTable};
+ghost use Rattle.planner.specs.Inner.Memory.{Before, HasId, Stored, Interning};
+
+// The table in a slot.
+pub fn table_in(work: &[u8], p: Context, slot: usize) -> Table
+    requires { ⌜ (slot < length (now work)) × (p .fluents + p .characters ≤ 30) ⌝ }
+    ensures { λ r. ⌜ r ≡ slotTable p (now (work .entry)) slot ⌝ }
+{
+    Table {
+        rows: slot + 1,
+        nodes: wide(work[slot]),
+        fluents: p.fluents,
+        characters: p.characters,
+        width: p.fluents + p.characters,
+    }
+}
+
+// A number below 128 made of n bytes. Nothing depends on which.
+pub fn hash(work: &[u8], from: usize, n: usize) -> usize
+    requires { ⌜ from + n ≤ length (now work) ⌝ }
+    ensures { λ r. ⌜ r < 128 ⌝ }
+{
+    let mut h = 0;
+    let mut i = 0;
+    while i < n {
+        h = (h * 5 + wide(work[from + i])) % 4294967296;
+        i += 1;
+    }
+    h % 127
+}
+
+// Whether a table is the one that is kept under an id.
+pub fn has_id(work: &[u8], p: Context, t: Table, id: usize) -> bool
+    requires { ⌜ Before p (now work) t × (id < 256) ⌝ }
+    ensures { λ r. ⌜ (r ≡ true → HasId p (now (work .entry)) t id) ⌝ }
+{
+    if id == 0 {
+        return false;
+    }
+    let n = t.nodes * t.width;
+    if 12 * wide(work[TAKEN]) + 11 < 12 * id + n {
+        return false;
+    }
+    let at = KEPT + 12 * id;
+    if wide(work[at]) != t.nodes {
+        return false;
+    }
+    n <= first_other(work, t.rows, at + 1, n)
+}
+
+// Keeps a table where there is room: its id, or 0.
+pub fn store(work: &mut [u8], p: Context, t: Table) -> usize
+    requires { ⌜ Before p (now work) t ⌝ }
+    ensures { λ r. ⌜ Stored p t (now (work .entry)) (now (work .exit)) r ⌝ }
+{
+    let n = t.nodes * t.width;
+    let taken = wide(work[TAKEN]);
+    if 3059 < 12 * taken + n {
+        return 0;
+    }
+    let at = TABLES + 12 * taken;
+    work[at] = t.nodes as u8;
+    copy_part(work, t.rows, at + 1, n);
+    work[TAKEN] = (taken + n / 12 + 1) as u8;
+    taken + 1
+}
+
+// Keeps a table; where there is no room, all else is forgotten first.
+pub fn keep(work: &mut [u8], p: Context, t: Table) -> usize
+    requires { ⌜ Before p (now work) t ⌝ }
+    ensures { λ r. ⌜ Stored p t (now (work .entry)) (now (work .exit)) r ⌝ }
+{
+    let id = store(work, p, t);
+    if id != 0 {
+        return id;
+    }
+    clear(work, IDS, BEFORE_TABLES);
+    store(work, p, t)
+}
+
+// The id of a table, which is kept if it is not yet; or 0.
+pub fn intern(work: &mut [u8], p: Context, t: Table) -> usize
+    requires { ⌜ Before p (now work) t ⌝ }
+    ensures { λ r. ⌜ Stored p t (now (work .entry)) (now (work .exit)) r ⌝ }
+{
+    let at = HASHED + hash(work, t.rows, t.nodes * t.width);
+    let known = wide(work[at]);
+    if has_id(work, p, t, known) {
+        return known;
+    }
+    let id = keep(work, p, t);
+    work[at] = id as u8;
+    id
+}
+
+// As `intern`, of the table in a slot, whose id is known from then on.
+pub fn intern_slot(work: &mut [u8], p: Context, slot: usize) -> usize
+    requires { ⌜ Before p (now work) (slotTable p (now work) slot) ⌝ }
+    ensures { λ r. ⌜ Interning p (slotTable p (now (work .entry)) slot) (now (work .entry)) (now (work .exit)) r ⌝ }
+{
+    let t = table_in(work, p, slot);
+    let id = intern(work, p, t);
+    work[IDS + (slot + 1) / SLOT] = id as u8;
+    id
+}
+
+// The same where the slot's id is not known yet. It mostly is, so the way there is short.
+pub fn id_of(work: &mut [u8], p: Context, slot: usize) -> usize
+    requires { ⌜ Before p (now work) (slotTable p (now work) slot) ⌝ }
+    ensures { λ r. ⌜ Interning p (slotTable p (now (work .entry)) slot) (now (work .entry)) (now (work .exit)) r ⌝ }
+{
+    let known = wide(work[IDS + (slot + 1) / SLOT]);
+    if known != 0 {
+        return known;
+    }
+    intern_slot(work, p, slot)
+}

@@ -1,0 +1,246 @@
+// A look before an action is tried: no step is made for one whose condition fails, nor for a last one after which no
+// rule above some utility could hold. What effects may write, and what is believed, is left open.
+//
+// Pruning: a test about the state itself, on a fluent that neither the action nor any trigger writes there, keeps its
+// outcome through the step; any other is left open. Where no rule above the old utility could hold, nobody is asked
+// and no step is made. Only a "no" is promised anything.
+use crate::intern::table_in;
+use crate::limits::Context;
+use pack::effects::Wanted;
+use pack::effects::some_effect;
+use pack::judge::after_alternative;
+use pack::judge::after_condition;
+use pack::judge::holds;
+use pack::judge::passes;
+use pack::number::Number;
+use pack::number::read_number;
+use pack::number::wide;
+use pack::places::ACTION;
+use pack::places::EFFECTS;
+use pack::places::TRIGGER;
+use pack::places::TRIGGER_EFFECTS;
+use pack::places::UTILITIES;
+use pack::table::Table;
+use pack::test::after_test;
+use pack::test::chain_of;
+use pack::test::fluent_of;
+ghost use Prim.Native.Nat.{ℕ, _≤_};
+ghost use mathlib.Core.Path.{_≡_};
+ghost use mathlib.Core.Bool.{Bool, false};
+ghost use mathlib.Core.List.{List};
+ghost use Rattle.pack.specs.State.{State};
+ghost use Rattle.pack.specs.Grammar.{Dimensions, testAt, conditionAt, rulesAt};
+ghost use Rattle.pack.specs.Contracts.Contents.{Gives};
+ghost use Rattle.pack.specs.Contracts.Judge.{alternativeAt, Small, Readable};
+ghost use Rattle.transition.specs.Laws.Still as still;
+ghost use Rattle.planner.specs.Inner.Look.{Acted, Moved, Lookable, Looked, Tryable, Hopeless, Trying, Skipped};
+
+// Whether some effect of action x, or of a trigger, writes a fluent of the state itself.
+pub fn moves(pack: &[u8], places: &[u16], triggers: usize, x: usize, fluent: usize) -> bool
+    requires { ⌜ Acted (now pack) (now places) triggers x ⌝ }
+    ensures { λ r. ⌜ Moved (now (pack .entry)) (now (places .entry)) triggers x fluent r ⌝ }
+{
+    if some_effect(
+        pack,
+        places[ACTION * x + EFFECTS] as usize,
+        Wanted::Sets(fluent),
+    ) {
+        return true;
+    }
+    let mut i = 0;
+    while i < triggers {
+        if some_effect(
+            pack,
+            places[TRIGGER_EFFECTS + TRIGGER * i] as usize,
+            Wanted::Sets(fluent),
+        ) {
+            return true;
+        }
+        i += 1;
+    }
+    false
+}
+
+// Whether the test at a place could pass in row 0 after action x and any triggers.
+pub fn could_pass(
+    pack: &[u8],
+    places: &[u16],
+    triggers: usize,
+    x: usize,
+    at: usize,
+    work: &[u8],
+    t: Table,
+) -> bool
+    requires { ⌜ Lookable testAt (now pack) (now places) triggers x at (now work) t ⌝ }
+    ensures { λ r. ⌜ Looked testAt still.couldPass (now (pack .entry)) (now (places .entry)) triggers x at
+        (now (work .entry)) t r ⌝ }
+{
+    if chain_of(pack, at) != 0 {
+        return true;
+    }
+    if moves(pack, places, triggers, x, fluent_of(pack, at)) {
+        return true;
+    }
+    passes(pack, at, work, t, 0)
+}
+
+// Whether all tests of the alternative at a place could.
+pub fn could_all(
+    pack: &[u8],
+    places: &[u16],
+    triggers: usize,
+    x: usize,
+    at: usize,
+    work: &[u8],
+    t: Table,
+) -> bool
+    requires { ⌜ Lookable alternativeAt (now pack) (now places) triggers x at (now work) t ⌝ }
+    ensures { λ r. ⌜ Looked alternativeAt still.couldAll (now (pack .entry)) (now (places .entry)) triggers x at
+        (now (work .entry)) t r ⌝ }
+{
+    let mut n = at + 1;
+    let mut left = wide(pack[at]);
+    while 0 < left {
+        if !could_pass(pack, places, triggers, x, n, work, t) {
+            return false;
+        }
+        n = after_test(pack, n);
+        left = left - 1;
+    }
+    true
+}
+
+// Whether the condition at a place could hold.
+pub fn could_hold(
+    pack: &[u8],
+    places: &[u16],
+    triggers: usize,
+    x: usize,
+    at: usize,
+    work: &[u8],
+    t: Table,
+) -> bool
+    requires { ⌜ Lookable conditionAt (now pack) (now places) triggers x at (now work) t ⌝ }
+    ensures { λ r. ⌜ Looked conditionAt still.couldHold (now (pack .entry)) (now (places .entry)) triggers x at
+        (now (work .entry)) t r ⌝ }
+{
+    let mut n = at + 1;
+    let mut left = wide(pack[at]);
+    while 0 < left {
+        if could_all(pack, places, triggers, x, n, work, t) {
+            return true;
+        }
+        n = after_alternative(pack, n);
+        left = left - 1;
+    }
+    false
+}
+
+// Whether some rule above base, of those at a place, could.
+pub fn could_exceed(
+    pack: &[u8],
+    places: &[u16],
+    triggers: usize,
+    x: usize,
+    at: usize,
+    work: &[u8],
+    t: Table,
+    base: usize,
+) -> bool
+    requires { ⌜ Lookable rulesAt (now pack) (now places) triggers x at (now work) t ⌝ }
+    ensures { λ r. ⌜ Looked rulesAt (λ (moves : ℕ → Bool) (s : State). still.couldExceed moves s base)
+        (now (pack .entry)) (now (places .entry)) triggers x at (now (work .entry)) t r ⌝ }
+{
+    let mut n = at + 1;
+    let mut left = wide(pack[at]);
+    while 0 < left {
+        let could = could_hold(pack, places, triggers, x, n, work, t);
+        if !could {
+            if left < 2 {
+                return false;
+            }
+        }
+        match read_number(pack, after_condition(pack, n)) {
+            Number::Refused(_, _) => {
+                return true;
+            }
+            Number::Is(value, next) => {
+                if base < value {
+                    if could {
+                        return true;
+                    }
+                }
+                n = next;
+                left = left - 1;
+            }
+        }
+    }
+    false
+}
+
+// For whose utility actions are tried, 0 for the author and c + 1 for character c; how many more may follow; and above
+// which utility they are to lead.
+pub struct Hope {
+    pub whose: usize,
+    pub left: usize,
+    pub base: usize,
+}
+
+// Whether action x is worth a try in row 0: its condition holds, and where it is the last one it could leave a utility
+// above base.
+pub fn promising(
+    pack: &[u8],
+    places: &[u16],
+    p: Context,
+    work: &[u8],
+    t: Table,
+    x: usize,
+    h: Hope,
+) -> bool
+    requires { ⌜ Tryable (now pack) (now places) (p .triggers) x (now work) t (h .whose) ⌝ }
+    ensures { λ r. ⌜ (r ≡ false
+        → Hopeless (now (pack .entry)) (now (places .entry)) (p .triggers) x (now (work .entry)) t (h .whose) (h .left) (h .base)) ⌝ }
+{
+    let may = holds(pack, places[ACTION * x] as usize, work, t, 0);
+    if !may {
+        return false;
+    }
+    if 0 < h.left {
+        return true;
+    }
+    could_exceed(
+        pack,
+        places,
+        p.triggers,
+        x,
+        places[UTILITIES + h.whose] as usize,
+        work,
+        t,
+        h.base,
+    )
+}
+
+// The first action from x on that is worth a try in the state in a slot, or how many actions there are.
+pub fn next_promising(
+    pack: &[u8],
+    places: &[u16],
+    p: Context,
+    work: &[u8],
+    slot: usize,
+    x: usize,
+    h: Hope,
+) -> usize
+    requires { ⌜ Trying (now pack) (now places) p (now work) slot (h .whose) × (x ≤ p .actions) ⌝ }
+    ensures { λ r. ⌜ Skipped (now (pack .entry)) (now (places .entry)) p
+        (now (work .entry)) slot (h .whose) (h .left) (h .base) x r ⌝ }
+{
+    let t = table_in(work, p, slot);
+    let mut y = x;
+    while y < p.actions {
+        if promising(pack, places, p, work, t, y, h) {
+            return y;
+        }
+        y += 1;
+    }
+    y
+}

@@ -1,0 +1,130 @@
+// Steps that are known: what an action leaves of a row of a kept table is made once, and then copied.
+use crate::intern::id_of;
+use crate::intern::intern_slot;
+use crate::intern::table_in;
+use crate::limits::Context;
+use crate::regions::IDS;
+use crate::regions::KEPT;
+use crate::regions::STEPS;
+use chart::bytes::copy_part;
+use pack::number::wide;
+use pack::refusal::CONDITION;
+use pack::table::Table;
+use transition::regions::SLOT;
+use transition::step::step_slot;
+ghost use mathlib.Core.Path.{_≡_};
+ghost use mathlib.Core.Bool.{true};
+ghost use Prim.Native.Nat.{_+_, _*_, _<_, _≤_};
+ghost use lib.ListN.{length, getD};
+ghost use Rattle.planner.specs.Inner.Lists.{slotTable};
+ghost use Rattle.planner.specs.Inner.Memory.{Before, Kept, Place, StepRead, StepPut};
+ghost use Rattle.planner.specs.Inner.Memory.{Noted, Slot, Again, LeftNoted};
+ghost use Rattle.planner.specs.Inner.Explain.{Steppable, Advances};
+ghost use Rattle.transition.specs.Contracts.Stage.{slotRoom};
+
+// The place of the entry for an action in a row of the table of an id.
+pub fn step_at(id: usize, root: usize, action: usize) -> usize
+    requires { ⌜ (id < 256) × (root < 256) × (action < 256) ⌝ }
+    ensures { λ r. ⌜ Place 128 43648 4 r ⌝ }
+{
+    STEPS + 4 * ((id * 11 + root * 5 + action) % 128)
+}
+
+// Whether an entry is that one.
+pub fn step_is(work: &[u8], at: usize, id: usize, root: usize, action: usize) -> bool
+    requires { ⌜ at + 4 ≤ length (now work) ⌝ }
+    ensures { λ r. ⌜ (r ≡ true → StepRead (now (work .entry)) at id root action) ⌝ }
+{
+    if id == 0 {
+        return false;
+    }
+    if wide(work[at]) != id {
+        return false;
+    }
+    if wide(work[at + 1]) != root {
+        return false;
+    }
+    wide(work[at + 2]) == action
+}
+
+// Puts down the id of what the action leaves, or 0 where it does not play.
+pub fn store_step(work: &mut [u8], at: usize, id: usize, root: usize, action: usize, next: usize)
+    requires { ⌜ (at + 4 ≤ length (now work)) × (id < 256) × (root < 256) × (action < 256) × (next < 256) ⌝ }
+    ensures { λ _. ⌜ StepPut (now (work .entry)) (now (work .exit)) at id root action next ⌝ }
+{
+    work[at] = id as u8;
+    work[at + 1] = root as u8;
+    work[at + 2] = action as u8;
+    work[at + 3] = next as u8;
+}
+
+// The same for a table in a slot that has an id.
+pub fn note(work: &mut [u8], p: Context, t: Table, root: usize, action: usize, next: usize)
+    requires { ⌜ Before p (now work) t × (root < 256) × (action < 256) × (next < 256) ⌝ }
+    ensures { λ _. ⌜ Noted p t root action next (now (work .entry)) (now (work .exit)) ⌝ }
+{
+    let id = wide(work[IDS + t.rows / SLOT]);
+    if id != 0 {
+        let at = step_at(id, root, action);
+        store_step(work, at, id, root, action, next);
+    }
+}
+
+// Copies the table of an id into a slot, or does nothing where it is 0; a refusal's number or 0, as a step.
+pub fn again(work: &mut [u8], p: Context, next: usize, slot: usize) -> u8
+    requires { ⌜ Slot p (now work) slot × (next < 256) × (0 < next → Kept p (now work) next) ⌝ }
+    ensures { λ r. ⌜ Again p next slot (now (work .entry)) (now (work .exit)) r ⌝ }
+{
+    if next == 0 {
+        return CONDITION;
+    }
+    let from = KEPT + 12 * next;
+    let nodes = wide(work[from]);
+    copy_part(work, from, slot, 1 + nodes * (p.fluents + p.characters));
+    work[IDS + slot / SLOT] = next as u8;
+    0
+}
+
+// Names what a step has left in a slot, and puts the step down.
+pub fn note_left(work: &mut [u8], p: Context, t: Table, root: usize, action: usize, slot: usize)
+    requires { ⌜ Before p (now work) t × (root < 256) × (action < 256) × Slot p (now work) slot
+        × (getD (now work) slot 0 ≤ 32) ⌝ }
+    ensures { λ _. ⌜ LeftNoted p t root action slot (now (work .entry)) (now (work .exit)) ⌝ }
+{
+    work[IDS + slot / SLOT] = 0;
+    let next = intern_slot(work, p, slot);
+    if next != 0 {
+        note(work, p, t, root, action, next);
+    }
+}
+
+// As `step_slot`, of what a row of the table in a slot means, into the next slot.
+pub fn known_step(
+    pack: &[u8],
+    places: &[u16],
+    p: Context,
+    action: usize,
+    work: &mut [u8],
+    slot: usize,
+    root: usize,
+) -> u8
+    requires { ⌜ Steppable (now pack) (now places) p action (now work) (slotTable p (now work) slot) root
+        (slot + slotRoom) ⌝ }
+    ensures { λ r. ⌜ Advances (now (pack .entry)) (now (places .entry)) p action slot root (now (work .entry))
+        (now (work .exit)) r ⌝ }
+{
+    let t = table_in(work, p, slot);
+    let id = id_of(work, p, slot);
+    let at = step_at(id, root, action);
+    if step_is(work, at, id, root, action) {
+        let next = wide(work[at + 3]);
+        return again(work, p, next, slot + SLOT);
+    }
+    let number = step_slot(pack, places, p.triggers, action, work, t, root, slot + SLOT);
+    if number == 0 {
+        note_left(work, p, t, root, action, slot + SLOT);
+    } else {
+        note(work, p, t, root, action, 0);
+    }
+    number
+}
