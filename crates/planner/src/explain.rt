@@ -116,7 +116,8 @@ pub fn extends(
         × (g .who < p .characters) × (0 < p .foresight .0) × (p .foresight .0 ≤ 6)
         × Free slot (1 + g .left + p .foresight .0 * g .nesting .0) ⌝ }
     ensures { λ r. ⌜ Answers (now (pack .entry)) (now (places .entry)) p slot (now (work .entry))
-        (now (work .exit)) r (λ th s. Above th (p .foresight .0) (g .nesting .0) (g .who) (g .base) (suc (g .left)) s) ⌝ }
+        (now (work .exit)) r
+        (λ th s. Above th (p .foresight .0) (g .nesting .0) (g .who) (g .base) (suc (g .left)) s) ⌝ }
 {
     let t = table_in(work, p, slot);
     let worth = utility(
@@ -173,7 +174,8 @@ pub fn extends_by(
         × (g .who < p .characters) × (0 < p .foresight .0) × (p .foresight .0 ≤ 6)
         × Free slot (2 + g .left + p .foresight .0 * g .nesting .0) ⌝ }
     ensures { λ r. ⌜ Answers (now (pack .entry)) (now (places .entry)) p slot (now (work .entry))
-        (now (work .exit)) r (λ th s. AboveBySome th (p .foresight .0) (g .nesting .0) (g .who) (g .base) (suc (g .left)) s) ⌝ }
+        (now (work .exit)) r
+        (λ th s. AboveBySome th (p .foresight .0) (g .nesting .0) (g .who) (g .base) (suc (g .left)) s) ⌝ }
 {
     let whose = g.who + 1;
     let hope = Hope {
@@ -206,7 +208,8 @@ pub fn via(
         × (g .who < p .characters) × (x < p .actions) × (0 < p .foresight .0) × (p .foresight .0 ≤ 6)
         × Free slot (2 + g .left + p .foresight .0 * g .nesting .0) ⌝ }
     ensures { λ r. ⌜ Answers (now (pack .entry)) (now (places .entry)) p slot (now (work .entry))
-        (now (work .exit)) r (λ th s. AboveBy th (p .foresight .0) (g .nesting .0) (g .who) (g .base) (suc (g .left)) x s) ⌝ }
+        (now (work .exit)) r
+        (λ th s. AboveBy th (p .foresight .0) (g .nesting .0) (g .who) (g .base) (suc (g .left)) x s) ⌝ }
 {
     let nesting = g.nesting;
     let deed = Deed {
@@ -268,7 +271,8 @@ pub fn fine(
         × (c < p .characters) × (d .action < p .actions) × (0 < p .foresight .0) × (p .foresight .0 ≤ 6)
         × Free slot (1 + p .foresight .0 * d .nesting .0) ⌝ }
     ensures { λ r. ⌜ Answers (now (pack .entry)) (now (places .entry)) p slot (now (work .entry))
-        (now (work .exit)) r (λ th s. Other (d .who) c → Explained th (p .foresight .0) (d .nesting .0) c (d .action) s) ⌝ }
+        (now (work .exit)) r
+        (λ th s. Other (d .who) c → Explained th (p .foresight .0) (d .nesting .0) c (d .action) s) ⌝ }
 {
     if c == d.who {
         return true;

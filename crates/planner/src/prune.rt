@@ -199,7 +199,8 @@ pub fn promising(
 ) -> bool
     requires { ⌜ Tryable (now pack) (now places) (p .triggers) x (now work) t (h .whose) ⌝ }
     ensures { λ r. ⌜ (r ≡ false
-        → Hopeless (now (pack .entry)) (now (places .entry)) (p .triggers) x (now (work .entry)) t (h .whose) (h .left) (h .base)) ⌝ }
+        → Hopeless (now (pack .entry)) (now (places .entry)) (p .triggers) x (now (work .entry)) t (h .whose)
+        (h .left) (h .base)) ⌝ }
 {
     let may = holds(pack, places[ACTION * x] as usize, work, t, 0);
     if !may {

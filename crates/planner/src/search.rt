@@ -288,9 +288,10 @@ pub fn search_nodes(
     list: &mut [u8],
     work: &mut [u8],
 ) -> Found
-    requires { ⌜ Seekable (now pack) (now places) p first nodes (s .0) (p .foresight .0) (e .0) (now list) (now work) ⌝ }
-    ensures { λ r. ⌜ SearchPutFrom (now (pack .entry)) (now (places .entry)) p first nodes (s .0) (p .foresight .0) (e .0)
-        (now (list .entry)) (now (list .exit)) (now (work .entry)) (now (work .exit)) r ⌝ }
+    requires { ⌜ Seekable (now pack) (now places) p first nodes (s .0) (p .foresight .0) (e .0) (now list)
+        (now work) ⌝ }
+    ensures { λ r. ⌜ SearchPutFrom (now (pack .entry)) (now (places .entry)) p first nodes (s .0) (p .foresight .0)
+        (e .0) (now (list .entry)) (now (list .exit)) (now (work .entry)) (now (work .exit)) r ⌝ }
 {
     lay_start(pack, first, nodes, p, work);
     let t = table_in(work, p, 0);

@@ -80,11 +80,12 @@ pub record Advanced (p : Theory) (foresight : ℕ) (h : Context) (z : State) (a 
   pub further : r ≡ 0 → Memory p foresight h (slot + slotRoom) now
 
 -- a step of what row `root` of the table in a slot means, into the slot behind it
-abbrev pub Advances : (pack places : List ℕ) (h : Context) (a : ℕ) (slot root : ℕ) (work work′ : List ℕ) (r : ℕ) → Type 0
+abbrev pub Advances : (pack places : List ℕ) (h : Context) (a slot root : ℕ) (work work′ : List ℕ) (r : ℕ) → Type 0
 Advances pack places h a slot root work work′ r =
     (th : Theory) (T : List Node) → Stage th T pack places h work (slotTable h work slot) (slot + slotRoom)
     → Memory th (h .foresight .0) h (slot + slotRoom) work
-    → Advanced th (h .foresight .0) h (meaning (h .characters) T root) a (slotTable h work slot) work work′ (slot + slotRoom) r
+    → Advanced th (h .foresight .0) h (meaning (h .characters) T root) a (slotTable h work slot) work work′
+    (slot + slotRoom) r
 
 -- an accepted pack and chart, and numbers of something there
 pub record Judging (th : Theory) (T : List Node) (pack places : List ℕ) (h : Context) (chart : List ℕ)

@@ -85,8 +85,8 @@ Finds e base pack places h n left was now work work′ r Good =
     → Stage th T pack places h work (slotTable h work (n * slotRoom)) (n * slotRoom + slotRoom)
     → Memory th (h .foresight .0) h (n * slotRoom + slotRoom) work
     → Trail th (h .foresight .0) e base h work n left (meaning (h .characters) T 0)
-    → Best (Memory th (h .foresight .0) h (n * slotRoom + slotRoom)) (Good th (meaning (h .characters) T 0)) left was now
-    n (n * slotRoom + slotRoom) work work′ r
+    → Best (Memory th (h .foresight .0) h (n * slotRoom + slotRoom)) (Good th (meaning (h .characters) T 0)) left
+    was now n (n * slotRoom + slotRoom) work work′ r
 
 -- the author's utility in the state in a slot where it is above base, or 0
 abbrev pub EndsHere : (base : ℕ) (pack places : List ℕ) (h : Context) (slot : ℕ) (work : List ℕ) (r : ℕ) → Type 0
@@ -158,7 +158,8 @@ pub record Seeking (th : Theory) (T : List Node) (pack places : List ℕ) (h : C
   pub list-room : listRoom ≤ length list
   pub room : workRoom ≤ length work
 
-abbrev pub Seekable : (pack places : List ℕ) (h : Context) (first nodes story foresight nesting : ℕ) (list work : List ℕ)
+abbrev pub Seekable : (pack places : List ℕ) (h : Context) (first nodes story foresight nesting : ℕ)
+    (list work : List ℕ)
     → Type 0
 Seekable pack places h first nodes story foresight nesting list work =
     (th : Theory) × ((T : List Node) × Seeking th T pack places h first nodes story foresight nesting list work)
