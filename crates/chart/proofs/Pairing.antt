@@ -307,9 +307,9 @@ module _ {was : List ℕ} {n w f c t m q : ℕ} (l : Paired was n w f c t m q) {
       hy = omega (arith, fy .0, l .few)
 
       -- an entry for the next pair
-      pub follows-meet : ((x < 64) × (y < 64) × (done < 65536) × (d < 256) × (m + 4096 ≤ q) × (q ≤ length now)) × (markAt now m x y ≡ 0 → q + met * 5 + 5 ≤ length now)
+      pub follows-meet : ((x < 64) × (y < 64) × (done < 65536) × (d < 256) × (q ≤ length now)) × (markAt now m x y ≡ 0 → q + met * 5 + 5 ≤ length now)
       follows-meet =
-          ((hx, hy, omega (arith, entries-most (l .few) (o .pairs), o .there), omega (arith, l .narrow), l .marks, omega (arith, l .room, o .long)), λ z. omega (arith, entries-few (l .few) (o .pairs) x y hx hy z, l .room, o .long))
+          ((hx, hy, omega (arith, entries-most (l .few) (o .pairs), o .there), omega (arith, l .narrow), omega (arith, l .marks, l .room, o .long)), λ z. omega (arith, entries-few (l .few) (o .pairs) x y hx hy z, l .room, o .long))
 
       -- one character more is followed
       pub follows-more : {now′ : List ℕ} {k : ℕ} → length now′ ≡ length now → PairMet now now′ m q met x y done d k → Follows was now′ n w f c t m q done count a b k (d + 1)

@@ -7,7 +7,9 @@ use crate::call::WORK_ROOM;
 use crate::call::both_at_most;
 use crate::call::check_lent;
 use crate::call::check_under;
+use crate::out::Shift;
 use crate::out::put_rows;
+use crate::pairs::MET;
 use crate::pairs::meet_first;
 use crate::pairs::other_value;
 use crate::pairs::seek;
@@ -15,6 +17,7 @@ use crate::pairs::write_chain;
 use pack::contents::read_contents;
 use pack::node::check_chart;
 use pack::number::Number;
+use pack::table::Table;
 ghost use Prim.Native.Nat.{_≤_};
 ghost use lib.ListN.{length};
 ghost use Rattle.chart.specs.Call.{chainRoom};
@@ -28,14 +31,25 @@ pub fn join(first: &[u8], n: usize, second: &[u8], m: usize, f: usize, c: usize,
         (now (work .exit)) ⌝ }
 {
     let w = f + c;
-    put_rows(first, 1, n, w, f, c, work, 1, 0, 1);
-    put_rows(second, 1, m, w, f, c, work, 1 + n * w, n as u8, 1)
+    let one = Table {
+        rows: 1,
+        nodes: n,
+        fluents: f,
+        characters: c,
+        width: w,
+    };
+    put_rows(first, one, work, 1, Shift { more: 0, less: 1 });
+    let other = Table {
+        rows: 1,
+        nodes: m,
+        fluents: f,
+        characters: c,
+        width: w,
+    };
+    let more = n as u8;
+    let behind = Shift { more, less: 1 };
+    put_rows(second, other, work, 1 + n * w, behind)
 }
-
-// The marks of the pairs of rows that were met, and the pairs in the order in which they were.
-const MARKS: usize = 2048;
-
-const MET: usize = 6144;
 
 // Compares rows 0 and n of the n + m rows from 1 on; the chain to where they differ is written.
 pub fn match_rows(
@@ -50,14 +64,22 @@ pub fn match_rows(
     ensures { λ r. ⌜ RowsMatched (now (work .entry)) (now (work .exit)) n m f c (now (chain .entry))
         (now (chain .exit)) r ⌝ }
 {
-    let w = f + c;
-    meet_first(work, MARKS, MET, 0, n);
-    let k = seek(work, n + m, w, f, c, 1, MARKS, MET);
+    let nodes = n + m;
+    let width = f + c;
+    let t = Table {
+        rows: 1,
+        nodes,
+        fluents: f,
+        characters: c,
+        width,
+    };
+    meet_first(work, 0, n);
+    let k = seek(work, t);
     if 4096 <= k {
         return Matched::Same;
     }
-    let length = write_chain(work, MET, k, chain);
-    let fluent = other_value(work, w, f, 1, MET + k * 5);
+    let length = write_chain(work, k, chain);
+    let fluent = other_value(work, t, MET + k * 5);
     Matched::Differ(length, fluent)
 }
 

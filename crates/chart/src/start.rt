@@ -88,16 +88,16 @@ pub fn put_start(
         (now (work .exit)) r) ⌝ }
 {
     copy_table(pack, first, nodes, work, 0, fluents, characters);
-    let rows = merge_table(work, nodes, fluents + characters, fluents, characters);
-    let length = write_chart(
-        work,
-        rows,
-        fluents + characters,
+    let width = fluents + characters;
+    let rows = merge_table(work, nodes, width, fluents, characters);
+    let t = Table {
+        rows: MERGED,
+        nodes: rows,
         fluents,
         characters,
-        MERGED,
-        chart,
-    );
+        width,
+    };
+    let length = write_chart(work, t, chart);
     clear(work, 0, WORK_ROOM);
     length
 }

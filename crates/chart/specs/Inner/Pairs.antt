@@ -12,6 +12,13 @@ use Rattle.pack.specs.Contracts.Table.{cells, rowsAt, Below, Above}
 use Rattle.chart.specs.Earliest.{Earliest}
 use Rattle.chart.specs.Laws.Breadth.{Met}
 
+-- where the marks of pairs stand, and the pairs in the order met
+abbrev pub marksAt : ℕ
+marksAt = 2048
+
+abbrev pub metAt : ℕ
+metAt = 6144
+
 -- the rows of entry e; the entries stand from q on
 abbrev pub leftAt : List ℕ → ℕ → ℕ → ℕ
 leftAt bytes q e = getD bytes (q + e * 5) 0

@@ -17,7 +17,7 @@ put-rows-requires-2 c κs =
     let at-put-rows = c .before .before .before in
     let start = at-put-rows .before .before .before .before .before in
     let p = start .pre in
-    ((omega arith, omega arith, join-inside p .1, omega (arith, join-room p, p .room, at-put-rows .put-rows .kept .1 .1 .1 .1 .1 .1 .0)), join-shifts-other p)
+    ((omega arith, omega arith, join-inside p .1, omega (arith, join-room p, p .room, at-put-rows .put-rows .kept .1 .1 .0)), join-shifts-other p)
 
 -- the numbers of the second call are small
 room : (c : tie.After-put-rows-arg2) →
@@ -28,11 +28,11 @@ room c =
     let start = c .before .before .before .before .before .before .before .before in
     join-room (start .pre) .0
 
-few : (c : tie.After-put-rows-arg2) →
-    let start = c .before .before .before .before .before .before .before .before in
+few : (c : tie.After-slice-known2) →
+    let start = c .before .before .before .before .before .before .before in
     start .args .n ≤ 32
 few c =
-    let start = c .before .before .before .before .before .before .before .before in
+    let start = c .before .before .before .before .before .before .before in
     start .pre .read .few
 
 returns : tie.Need-returns
@@ -43,4 +43,4 @@ returns c =
     joined (start .pre) (at-put-rows .put-rows .ensures) (at-put-rows2 .put-rows2 .ensures)
 
 pub join-spec : {M : Type 1} → statement M
-join-spec = tie.close (tie.spec (λ c. search needs) put-rows-requires (λ c. omega (arith, room c)) (λ c. omega (arith, room c)) (λ c. omega (arith, few c)) put-rows-requires-2 (λ c. search needs) returns)
+join-spec = tie.close (tie.spec (λ c. search needs) put-rows-requires (λ c. omega (arith, few c)) (λ c. omega (arith, room c)) (λ c. omega (arith, room c)) put-rows-requires-2 (λ c. search needs) returns)

@@ -10,7 +10,7 @@ meet-first-requires : tie.Need-meet-first-requires
 meet-first-requires c κs =
     let start = c .before .before .before in
     let p = start .pre in
-    (omega arith, omega (arith, p .few), omega arith, omega (arith, p .room))
+    (omega arith, omega (arith, p .few), omega (arith, p .room))
 
 seek-requires : tie.Need-seek-requires
 seek-requires c κs =
@@ -57,12 +57,12 @@ returns-2 c =
     let b = at-meet-first .meet-first in
     let x = at-seek .seek in
     let y = at-write-chain .write-chain in
-    matched-differ (start .pre) (b .ensures) (x .ensures) (omega (arith, at-if1 .if1 .left)) (x .kept .0 ∙ b .kept .0) (y .ensures .0) (y .ensures .1) (c .other-value .ensures) (y .kept .1 .1 .1 .0)
+    matched-differ (start .pre) (b .ensures) (x .ensures) (omega (arith, at-if1 .if1 .left)) (x .kept .0 ∙ b .kept .0) (y .ensures .0) (y .ensures .1) (c .other-value .ensures) (y .kept .1 .1 .0)
 
 pub match-rows-spec : {M : Type 1} → statement M
 match-rows-spec =
     tie.close
-    (tie.spec (λ c. search needs) meet-first-requires (λ c. search needs) seek-requires (λ c. search needs) returns write-chain-requires
+    (tie.spec (λ c. search needs) (λ c. search needs) meet-first-requires seek-requires (λ c. search needs) returns write-chain-requires
     (λ c.
     let at-if1 = c .before .before .before .before .before .before in
     omega (arith, at-if1 .if1 .left))

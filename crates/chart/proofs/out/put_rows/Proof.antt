@@ -11,10 +11,10 @@ use Rattle.chart.proofs.out.put_rows.Statement.{statement}
 use Rattle.chart.proofs.out.put_rows.Tie as tie
 
 abbrev Inv-loop : tie.InvT-loop
-Inv-loop src from n w f c out₀ to more less i₀ out i = (i ≤ n) × (length out ≡ length out₀) × RowsPut src out₀ out w f c from to more less i
+Inv-loop src t out₀ to s n i₀ out i = (i ≤ n) × (length out ≡ length out₀) × RowsPut src out₀ out (t .width) (t .fluents) (t .characters) (t .rows) to (s .more) (s .less) i
 
 abbrev μ-loop : tie.MeasureT-loop
-μ-loop src from n w f c out₀ to more less i₀ out i = n - i
+μ-loop src t out₀ to s n i₀ out i = n - i
 
 loop-holds : tie.Need-loop-holds Inv-loop μ-loop
 loop-holds c = (search needs, refl, rows-start _ _ _ _ _ _ _ _ _)
@@ -24,15 +24,15 @@ place : (c : tie.In-loop Inv-loop μ-loop) →
     let at-loop = c .before in
     let start = at-loop .before .before .before in
     let a = start .args in
-    (a .from + at-loop .loop .i * a .w + a .w ≤ length (a .src .now)) × (a .to + at-loop .loop .i * a .w + a .w ≤ length (a .out .now))
+    (a .t .rows + at-loop .loop .i * a .t .width + a .t .width ≤ length (a .src .now)) × (a .to + at-loop .loop .i * a .t .width + a .t .width ≤ length (a .out .now))
 place c =
     let start = c .before .before .before .before in
-    let r = row-in (start .args .n) (start .args .w) (c .before .loop .i) (c .loop-test .taken) in
+    let r = row-in (start .args .t .nodes) (start .args .t .width) (c .before .loop .i) (c .loop-test .taken) in
     (omega (arith, r, start .pre .0), omega (arith, r, start .pre .0))
 
 put-beside-requires : tie.Need-put-beside-requires Inv-loop μ-loop
 put-beside-requires c κs =
-    let turn = c .before in
+    let turn = c .before .before .before .before in
     let at-loop = turn .before in
     let start = at-loop .before .before .before in
     let p = start .pre in
@@ -42,7 +42,7 @@ put-beside-requires c κs =
 loop-again : tie.Need-loop-again Inv-loop μ-loop
 loop-again c =
     let at-put-beside = c .before .before in
-    let at-loop = at-put-beside .before .before .before in
+    let at-loop = at-put-beside .before .before .before .before .before .before in
     let start = at-loop .before .before .before in
     let p = start .pre .0 in
     let (h, e, g) = at-loop .loop .inv in
@@ -57,5 +57,6 @@ same-length c = c .before .loop .inv .1
 pub put-rows-spec : {M : Type 1} → statement M
 put-rows-spec =
     tie.close
-    (tie.spec Inv-loop μ-loop loop-holds (λ c. omega (arith, place c)) (λ c. omega (arith, place c)) (λ c. omega (arith, place (c .before))) (λ c. omega (arith, place (c .before)))
+    (tie.spec Inv-loop μ-loop loop-holds (λ c. omega (arith, place (c .before))) (λ c. omega (arith, place (c .before .before)))
+    (λ c. omega (arith, place (c .before .before .before .before))) (λ c. omega (arith, place (c .before .before .before .before)))
     put-beside-requires (λ c. search needs) (λ c. search needs) loop-again same-length returns)

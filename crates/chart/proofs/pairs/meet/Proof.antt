@@ -14,7 +14,7 @@ returns c = pair-again (c .if1 .taken)
 room : (c : tie.Else1) →
     let start = c .before .before in
     let a = start .args in
-    a .q + a .count * 5 + 5 ≤ length (a .work .now)
+    6144 + a .count * 5 + 5 ≤ length (a .work .now)
 room c =
     let start = c .before .before in
     start .pre .1 (c .if1 .left)
@@ -24,13 +24,13 @@ same-length c =
     let start = c .before .before in
     let a = start .args in
     let p = start .pre .0 in
-    stored-long (a .work .now) (a .m) (a .q) (a .count) (a .x) (a .y) (a .from) (a .d) (p .0) (p .1) (p .4) (room c)
+    stored-long (a .work .now) 2048 6144 (a .count) (a .x) (a .y) (a .from) (a .d) (p .0) (p .1) (omega arith) (room c)
 
 returns-2 : tie.Need-returns-2
 returns-2 c =
     let start = c .before .before in
     let p = start .pre .0 in
-    pair-new _ _ _ _ _ _ _ _ (p .0) (p .1) (p .4) (room c) (c .if1 .left)
+    pair-new _ _ _ _ _ _ _ _ (p .0) (p .1) (omega arith) (room c) (c .if1 .left)
 
 pub meet-spec : {M : Type 1} → statement M
 meet-spec =
@@ -40,29 +40,29 @@ meet-spec =
     let start = c .before .before in
     let a = start .args in
     let p = start .pre .0 in
-    puts (a .work .now) (a .m) (a .q) (a .count) (a .x) (a .y) (a .from) (a .d) (p .0) (p .1) (p .4) (room c) .0)
+    puts (a .work .now) 2048 6144 (a .count) (a .x) (a .y) (a .from) (a .d) (p .0) (p .1) (omega arith) (room c) .0)
     (λ c. search needs) (λ c. omega (arith, room c))
     (λ c.
     let start = c .before .before in
     let a = start .args in
     let p = start .pre .0 in
-    puts (a .work .now) (a .m) (a .q) (a .count) (a .x) (a .y) (a .from) (a .d) (p .0) (p .1) (p .4) (room c) .1)
+    puts (a .work .now) 2048 6144 (a .count) (a .x) (a .y) (a .from) (a .d) (p .0) (p .1) (omega arith) (room c) .1)
     (λ c. search needs) (λ c. omega (arith, room c))
     (λ c.
     let start = c .before .before in
     let a = start .args in
     let p = start .pre .0 in
-    puts (a .work .now) (a .m) (a .q) (a .count) (a .x) (a .y) (a .from) (a .d) (p .0) (p .1) (p .4) (room c) .2)
+    puts (a .work .now) 2048 6144 (a .count) (a .x) (a .y) (a .from) (a .d) (p .0) (p .1) (omega arith) (room c) .2)
     (λ c. search needs) (λ c. omega (arith, room c))
     (λ c.
     let start = c .before .before in
     let a = start .args in
     let p = start .pre .0 in
-    puts (a .work .now) (a .m) (a .q) (a .count) (a .x) (a .y) (a .from) (a .d) (p .0) (p .1) (p .4) (room c) .3)
+    puts (a .work .now) 2048 6144 (a .count) (a .x) (a .y) (a .from) (a .d) (p .0) (p .1) (omega arith) (room c) .3)
     (λ c. search needs) (λ c. omega (arith, room c))
     (λ c.
     let start = c .before .before in
     let a = start .args in
     let p = start .pre .0 in
-    puts (a .work .now) (a .m) (a .q) (a .count) (a .x) (a .y) (a .from) (a .d) (p .0) (p .1) (p .4) (room c) .4)
+    puts (a .work .now) 2048 6144 (a .count) (a .x) (a .y) (a .from) (a .d) (p .0) (p .1) (omega arith) (room c) .4)
     (λ c. omega (arith, room c)) same-length returns-2)

@@ -11,7 +11,7 @@ meet-requires c κs =
     let start = at-clear .before .before .before in
     let p = start .pre in
     let long = at-clear .clear .kept .0 in
-    ((p .0, p .1, omega arith, omega arith, p .2, omega (arith, p .3, long)), λ z. omega (arith, p .3, long))
+    ((p .0, p .1, omega arith, omega arith, omega (arith, p .2, long)), λ z. omega (arith, p .2, long))
 
 returns : tie.Need-returns
 returns c =
@@ -19,7 +19,7 @@ returns c =
     let at-clear = at-meet .before .before .before .before in
     let start = at-clear .before .before .before in
     let p = start .pre in
-    first-met (at-clear .clear .ensures) (p .0) (p .1) (p .2) (at-meet .meet .ensures)
+    first-met (at-clear .clear .ensures) (p .0) (p .1) (omega arith) (at-meet .meet .ensures)
 
 pub meet-first-spec : {M : Type 1} → statement M
 meet-first-spec = tie.close (tie.spec

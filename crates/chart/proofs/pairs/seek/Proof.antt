@@ -9,10 +9,10 @@ use Rattle.chart.proofs.pairs.seek.Statement.{statement}
 use Rattle.chart.proofs.pairs.seek.Tie as tie
 
 abbrev Inv-loop : tie.InvT-loop
-Inv-loop work₀ n w f c t m q count₀ done₀ work count done = (length work ≡ length work₀) × Seeking work₀ work n w f c t m q count done
+Inv-loop work₀ t count₀ done₀ work count done = (length work ≡ length work₀) × Seeking work₀ work (t .nodes) (t .width) (t .fluents) (t .characters) (t .rows) 2048 6144 count done
 
 abbrev μ-loop : tie.MeasureT-loop
-μ-loop work₀ n w f c t m q count₀ done₀ work count done = 4096 - done
+μ-loop work₀ t count₀ done₀ work count done = 4096 - done
 
 loop-holds : tie.Need-loop-holds Inv-loop μ-loop
 loop-holds c = (refl, seeking-start (c .before .pre .1))
@@ -26,15 +26,15 @@ few c =
 
 returns : tie.Need-returns Inv-loop μ-loop
 returns c =
-    let turn = c .before .before .before in
+    let turn = c .before .before .before .before in
     let at-loop = turn .before in
     let start = at-loop .before .before in
     let p = start .pre .0 in
-    seeking-other (p .0) (p .1) (at-loop .loop .inv .1) (turn .loop-test .taken) (c .before .other-value .ensures) (c .if1 .taken)
+    seeking-other (p .0) (p .1) (at-loop .loop .inv .1) (turn .loop-test .taken) (c .before .before .other-value .ensures) (c .if1 .taken)
 
 meet-beliefs-requires : tie.Need-meet-beliefs-requires Inv-loop μ-loop
 meet-beliefs-requires c κs =
-    let turn = c .before .before .before .before in
+    let turn = c .before .before .before .before .before in
     let at-loop = turn .before in
     let start = at-loop .before .before in
     let p = start .pre .0 in
@@ -45,7 +45,7 @@ loop-again : tie.Need-loop-again Inv-loop μ-loop
 loop-again c =
     let at-meet-beliefs = c .before .before in
     let at-if1 = at-meet-beliefs .before .before in
-    let at-other-value = at-if1 .before in
+    let at-other-value = at-if1 .before .before in
     let turn = at-other-value .before .before in
     let at-loop = turn .before in
     let start = at-loop .before .before in
@@ -75,9 +75,9 @@ seek-spec =
     seeking-place (p .0) (p .1) g (c .before .loop-test .taken) long)
     (λ c. search needs) returns meet-beliefs-requires
     (λ c.
-    let turn = c .before .before .before .before .before .before .before in
+    let turn = c .before .before .before .before .before .before .before .before in
     omega (arith, few turn))
     (λ c.
-    let turn = c .before .before .before .before .before .before .before in
+    let turn = c .before .before .before .before .before .before .before .before in
     omega (arith, few turn))
     loop-again (λ c. search needs) returns-2)

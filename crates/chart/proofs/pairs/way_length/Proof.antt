@@ -9,10 +9,10 @@ use Rattle.chart.proofs.pairs.way_length.Statement.{statement}
 use Rattle.chart.proofs.pairs.way_length.Tie as tie
 
 abbrev Inv-loop : tie.InvT-loop
-Inv-loop work q e at₀ k₀ at k = (at + k ≤ e) × ((x : Ways work q e) → length (x .way e) ≡ k + length (x .way at))
+Inv-loop work e at₀ k₀ at k = (at + k ≤ e) × ((x : Ways work 6144 e) → length (x .way e) ≡ k + length (x .way at))
 
 abbrev μ-loop : tie.MeasureT-loop
-μ-loop work q e at₀ k₀ at k = at
+μ-loop work e at₀ k₀ at k = at
 
 loop-holds : tie.Need-loop-holds Inv-loop μ-loop
 loop-holds c = (omega arith, λ x. omega arith)
@@ -21,7 +21,7 @@ loop-holds c = (omega arith, λ x. omega arith)
 step : (c : tie.After-met-from Inv-loop μ-loop) →
     let at-loop = c .before .before in
     let start = at-loop .before .before in
-    (x : Ways (start .args .work .now) (start .args .q) (start .args .e)) → (c .met-from .result < at-loop .loop .at) × (length (x .way (at-loop .loop .at)) ≡ suc (length (x .way (c .met-from .result))))
+    (x : Ways (start .args .work .now) 6144 (start .args .e)) → (c .met-from .result < at-loop .loop .at) × (length (x .way (at-loop .loop .at)) ≡ suc (length (x .way (c .met-from .result))))
 step c x =
     let at-loop = c .before .before in
     way-step x _ _ (omega (arith, c .before .loop-test .taken)) (omega (arith, at-loop .loop .inv .0)) (c .met-from .ensures)

@@ -10,10 +10,10 @@ use Rattle.chart.proofs.pairs.write_way.Statement.{statement}
 use Rattle.chart.proofs.pairs.write_way.Tie as tie
 
 abbrev Inv-loop : tie.InvT-loop
-Inv-loop work q e k chain₀ at₀ i₀ chain at i = (length chain ≡ length chain₀) × Tracing work chain₀ chain q e k at i
+Inv-loop work e k chain₀ at₀ i₀ chain at i = (length chain ≡ length chain₀) × Tracing work chain₀ chain 6144 e k at i
 
 abbrev μ-loop : tie.MeasureT-loop
-μ-loop work q e k chain₀ at₀ i₀ chain at i = at
+μ-loop work e k chain₀ at₀ i₀ chain at i = at
 
 loop-holds : tie.Need-loop-holds Inv-loop μ-loop
 loop-holds c = (refl, tracing-start)
@@ -34,7 +34,7 @@ loop-again c =
     let (long, g) = at-loop .loop .inv in
     let a = start .args in
     let l = at-loop .loop in
-    (length-set (l .chain) (l .i - 1) (charAt (a .work .now) (a .q) (l .at)) ∙ long, tracing-more g (p .0) (p .1 .0 (p .0)) (omega (arith, turn .loop-test .taken)) (omega (arith, p .1 .1, long)) _ (c .met-from .ensures))
+    (length-set (l .chain) (l .i - 1) (charAt (a .work .now) 6144 (l .at)) ∙ long, tracing-more g (p .0) (p .1 .0 (p .0)) (omega (arith, turn .loop-test .taken)) (omega (arith, p .1 .1, long)) _ (c .met-from .ensures))
 
 returns : tie.Need-returns Inv-loop μ-loop
 returns c = tracing-end (c .before .loop .inv .1) (c .loop-test .left)

@@ -37,9 +37,9 @@ returns c =
     let m = at-merge-table .merge-table in
     let o = at-write-chart .write-chart in
     let z = at-clear .clear in
-    λ x. start-put x l (m .ensures) (m .kept .0) (o .ensures) (o .kept .1 .1 .1 .1 .1 .1 .0) (z .ensures) (z .kept .0 ∙ m .kept .0 ∙ l .long)
+    λ x. start-put x l (m .ensures) (m .kept .0) (o .ensures) (o .kept .1 .1 .0) (z .ensures) (z .kept .0 ∙ m .kept .0 ∙ l .long)
 
 pub put-start-spec : {M : Type 1} → statement M
 put-start-spec =
     tie.close
-    (tie.spec copy-table-requires (λ c. search needs) merge-table-requires (λ c. search needs) write-chart-requires (λ c κs. search needs) (λ c. search needs) (λ c. search needs) returns)
+    (tie.spec copy-table-requires (λ c. search needs) merge-table-requires write-chart-requires (λ c κs. search needs) (λ c. search needs) (λ c. search needs) returns)
