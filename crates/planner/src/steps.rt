@@ -11,6 +11,7 @@ use pack::number::wide;
 use pack::refusal::CONDITION;
 use pack::table::Table;
 use transition::regions::SLOT;
+use transition::step::Move;
 use transition::step::step_slot;
 ghost use mathlib.Core.Path.{_≡_};
 ghost use mathlib.Core.Bool.{true};
@@ -120,7 +121,11 @@ pub fn known_step(
         let next = wide(work[at + 3]);
         return again(work, p, next, slot + SLOT);
     }
-    let number = step_slot(pack, places, p.triggers, action, work, t, root, slot + SLOT);
+    let m = Move {
+        action,
+        triggers: p.triggers,
+    };
+    let number = step_slot(pack, places, m, work, t, root, slot + SLOT);
     if number == 0 {
         note_left(work, p, t, root, action, slot + SLOT);
     } else {

@@ -11,6 +11,8 @@
 use crate::cause::takes;
 use crate::cause::tells;
 use crate::cause::write_told;
+use crate::regions::MADE;
+use crate::regions::NUMBERS;
 use chart::bytes::clear;
 use chart::bytes::copy_part;
 use chart::numbering::more;
@@ -27,6 +29,7 @@ ghost use lib.ListN.{length};
 ghost use Rattle.chart.specs.Contracts.Numbers.{Numbering, keyAt};
 ghost use Rattle.transition.specs.Laws.Changed.{acted, old, There};
 ghost use Rattle.transition.specs.Contracts.Cause.{Tabled};
+ghost use Rattle.transition.specs.Contracts.Stage.{scratchAt, madeAt};
 ghost use Rattle.transition.specs.Inner.Change.{Scene, Stands, Scened, InScene, Seen, believed};
 ghost use Rattle.transition.specs.Inner.Change.{rowAfter, memberOf, Sourced, SlotIs, SlotsPut};
 ghost use Rattle.transition.specs.Inner.Change.{RowRoom, Puts, Laid, RowMade, ChangeMade};
@@ -174,7 +177,7 @@ pub fn made_of(pack: &[u8], places: &[u16], h: Change, work: &[u8], t: Table, sl
     }
 }
 
-// Writes row m, having taken part or as it was.
+// Writes the row that another is made of, having taken part or as it was.
 pub fn put_row(
     pack: &[u8],
     places: &[u16],
@@ -182,19 +185,18 @@ pub fn put_row(
     h: Change,
     work: &mut [u8],
     t: Table,
-    m: usize,
-    took: bool,
+    s: Source,
     to: usize,
 )
-    requires { ⌜ Scened (now pack) (now places) (now effects) h (now work) t × (m < t .nodes)
-        × (took ≡ false → h .old < 7) × RowRoom (now work) t to ⌝ }
+    requires { ⌜ Scened (now pack) (now places) (now effects) h (now work) t × (s .row < t .nodes)
+        × (s .took ≡ false → h .old < 7) × RowRoom (now work) t to ⌝ }
     ensures { λ _. ⌜ InScene (now (pack .entry)) (now (places .entry)) (now (effects .entry)) h (now (work .entry)) t
-        (λ s. Puts s h t (rowAfter m took) (now (work .entry)) (now (work .exit)) to) ⌝ }
+        (λ z. Puts z h t (rowAfter (s .row) (s .took)) (now (work .entry)) (now (work .exit)) to) ⌝ }
 {
-    if took {
-        put_acted(pack, places, effects, h, work, t, m, to)
+    if s.took {
+        put_acted(pack, places, effects, h, work, t, s.row, to)
     } else {
-        put_old(h, work, t, m, to)
+        put_old(h, work, t, s.row, to)
     }
 }
 
@@ -215,14 +217,14 @@ pub fn put_member(
         (λ s. Puts s h t (memberOf h (t .nodes) slot) (now (work .entry)) (now (work .exit)) to) ⌝ }
 {
     let from = made_of(pack, places, h, work, t, slot);
-    put_row(pack, places, effects, h, work, t, from.row, from.took, to);
+    put_row(pack, places, effects, h, work, t, from, to);
     if from.told {
         let at = effects[slot / 7] as usize;
         write_told(pack, at, slot % 7 + 1, work, to, t.fluents)
     }
 }
 
-// Fills row i from u on: what slot number i was given to. The numbers stand from b on.
+// Fills row i of those that are made: what slot number i was given to.
 pub fn change_row(
     pack: &[u8],
     places: &[u16],
@@ -230,22 +232,21 @@ pub fn change_row(
     h: Change,
     work: &mut [u8],
     t: Table,
-    b: usize,
-    u: usize,
     i: usize,
     count: usize,
 ) -> usize
-    requires { ⌜ Scened (now pack) (now places) (now effects) h (now work) t × Laid (now work) t b u ⌝ }
-    requires { ⌜ Numbering (now work) b (t .nodes * 7 + 1) count × (i < count)
-        × There (t .characters) (memberOf h (t .nodes) (keyAt (now work) b (t .nodes * 7 + 1) i)) ⌝ }
+    requires { ⌜ Scened (now pack) (now places) (now effects) h (now work) t × Laid (now work) t scratchAt madeAt ⌝ }
+    requires { ⌜ Numbering (now work) scratchAt (t .nodes * 7 + 1) count × (i < count)
+        × There (t .characters) (memberOf h (t .nodes) (keyAt (now work) scratchAt (t .nodes * 7 + 1) i)) ⌝ }
     ensures { λ r. ⌜ InScene (now (pack .entry)) (now (places .entry)) (now (effects .entry)) h (now (work .entry)) t
-        (λ s. RowMade s h t (now (work .entry)) (now (work .exit)) b u i count r) ⌝ }
+        (λ s. RowMade s h t (now (work .entry)) (now (work .exit)) scratchAt madeAt i
+        count r) ⌝ }
 {
     let size = t.nodes * 7 + 1;
-    let slot = wide(work[b + size + i]);
-    let to = u + i * t.width;
+    let slot = wide(work[NUMBERS + size + i]);
+    let to = MADE + i * t.width;
     put_member(pack, places, effects, h, work, t, slot, to);
-    name_beliefs(work, b, size, to + t.fluents, t.characters, count)
+    name_beliefs(work, NUMBERS, size, to + t.fluents, t.characters, count)
 }
 
 // The slot of the root having taken part: as of any row, or the last where rows have none for that.
@@ -260,7 +261,7 @@ pub fn first_slot(h: Change, nodes: usize) -> usize
     }
 }
 
-// Makes the table of what happens, from u on; how many rows that is.
+// Makes the table of what happens; how many rows that is.
 pub fn change_table(
     pack: &[u8],
     places: &[u16],
@@ -268,21 +269,19 @@ pub fn change_table(
     h: Change,
     work: &mut [u8],
     t: Table,
-    b: usize,
-    u: usize,
 ) -> usize
-    requires { ⌜ Scened (now pack) (now places) (now effects) h (now work) t × Laid (now work) t b u ⌝ }
+    requires { ⌜ Scened (now pack) (now places) (now effects) h (now work) t × Laid (now work) t scratchAt madeAt ⌝ }
     ensures { λ r. ⌜ InScene (now (pack .entry)) (now (places .entry)) (now (effects .entry)) h (now (work .entry)) t
-        (λ s. ChangeMade s h t (now (work .entry)) (now (work .exit)) b u r) ⌝ }
+        (λ s. ChangeMade s h t (now (work .entry)) (now (work .exit)) scratchAt madeAt r) ⌝ }
 {
     let size = t.nodes * 7 + 1;
-    clear(work, b, size);
+    clear(work, NUMBERS, size);
     let first = first_slot(h, t.nodes);
-    let root = number_of(work, b, size, 0, first);
+    let root = number_of(work, NUMBERS, size, 0, first);
     let mut count = more(0, root);
     let mut i = 0;
     while i < count {
-        count = change_row(pack, places, effects, h, work, t, b, u, i, count);
+        count = change_row(pack, places, effects, h, work, t, i, count);
         i += 1;
     }
     count

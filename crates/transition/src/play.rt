@@ -1,6 +1,7 @@
 // Step: the checks, and an action played in a chart.
 use crate::regions::SECOND_ROWS;
 use crate::regions::SLOT;
+use crate::step::Move;
 use crate::step::step_slot;
 use chart::Charted;
 use chart::bytes::sweep;
@@ -19,48 +20,52 @@ use pack::table::Table;
 ghost use Rattle.transition.specs.Promises.{Stepped};
 ghost use Rattle.transition.specs.Inner.Steppable.{Steppable, StepPut};
 
-// Plays an action in a chart of so many nodes and writes the chart of what it leaves. The work buffer is cleared.
+// How many nodes a chart has, of how many fluents and characters.
+pub struct Size {
+    pub nodes: usize,
+    pub fluents: usize,
+    pub characters: usize,
+}
+
+// Plays an action in a chart and writes the chart of what it leaves. The work buffer is cleared.
 pub fn play(
     pack: &[u8],
     places: &[u16],
-    triggers: usize,
-    action: usize,
+    m: Move,
     chart: &[u8],
-    nodes: usize,
-    fluents: usize,
-    characters: usize,
+    n: Size,
     out: &mut [u8],
     work: &mut [u8],
 ) -> Charted
-    requires { ⌜ Steppable (now pack) (now places) triggers action (now chart) nodes fluents characters (now out)
-        (now work) ⌝ }
-    ensures { λ r. ⌜ StepPut (now (pack .entry)) (now (places .entry)) triggers action
-        (now (chart .entry)) nodes fluents characters (now (out .entry)) (now (work .entry)) (now (out .exit))
-        (now (work .exit)) r ⌝ }
+    requires { ⌜ Steppable (now pack) (now places) (m .triggers) (m .action) (now chart) (n .nodes) (n .fluents)
+        (n .characters) (now out) (now work) ⌝ }
+    ensures { λ r. ⌜ StepPut (now (pack .entry)) (now (places .entry)) (m .triggers) (m .action)
+        (now (chart .entry)) (n .nodes) (n .fluents) (n .characters) (now (out .entry)) (now (work .entry))
+        (now (out .exit)) (now (work .exit)) r ⌝ }
 {
-    copy_table(chart, 1, nodes, work, 0, fluents, characters);
+    copy_table(chart, 1, n.nodes, work, 0, n.fluents, n.characters);
+    let width = n.fluents + n.characters;
     let t = Table {
         rows: 1,
-        nodes,
-        fluents,
-        characters,
-        width: fluents + characters,
+        nodes: n.nodes,
+        fluents: n.fluents,
+        characters: n.characters,
+        width,
     };
-    let number = step_slot(pack, places, triggers, action, work, t, 0, SLOT);
+    let number = step_slot(pack, places, m, work, t, 0, SLOT);
     if number != 0 {
         sweep(work, 0, WORK_ROOM);
         return Charted::Refused(number, 0);
     }
     let rows = wide(work[SLOT]);
-    let length = write_chart(
-        work,
-        rows,
-        fluents + characters,
-        fluents,
-        characters,
-        SECOND_ROWS,
-        out,
-    );
+    let left = Table {
+        rows: SECOND_ROWS,
+        nodes: rows,
+        fluents: n.fluents,
+        characters: n.characters,
+        width,
+    };
+    let length = write_chart(work, left, out);
     sweep(work, 0, WORK_ROOM);
     Charted::Chart(length)
 }
@@ -79,17 +84,17 @@ pub fn step(pack: &[u8], chart: &[u8], action: usize, out: &mut [u8], work: &mut
     let enough = both_at_most(CHART_ROOM, out.len(), WORK_ROOM, work.len());
     match check_lent(nodes, enough, action < p.actions) {
         Number::Refused(k, at) => Charted::Refused(k, at),
-        Number::Is(n, _) => play(
-            pack,
-            &places,
-            p.triggers,
-            action,
-            chart,
-            n,
-            p.fluents,
-            p.characters,
-            out,
-            work,
-        ),
+        Number::Is(nodes, _) => {
+            let m = Move {
+                action,
+                triggers: p.triggers,
+            };
+            let n = Size {
+                nodes,
+                fluents: p.fluents,
+                characters: p.characters,
+            };
+            play(pack, &places, m, chart, n, out, work)
+        }
     }
 }

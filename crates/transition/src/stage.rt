@@ -7,7 +7,6 @@ use crate::regions::FIRSTS;
 use crate::regions::LEVEL;
 use crate::regions::MADE;
 use crate::regions::MERGED;
-use crate::regions::NUMBERS;
 use chart::bytes::copy_part;
 use chart::merge::write_merged;
 use chart::partition::partition;
@@ -45,7 +44,7 @@ pub fn stage(
     ensures { λ r. ⌜ InScene (now (pack .entry)) (now (places .entry)) (now (effects .entry)) h (now (work .entry)) t
         (λ s. Staged s (h .root) t (now (work .entry)) (now (work .exit)) slot r) ⌝ }
 {
-    let rows = change_table(pack, places, effects, h, work, t, NUMBERS, MADE);
+    let rows = change_table(pack, places, effects, h, work, t);
     if rows == 1 {
         put_down(work, MADE, 1, t.width, slot);
         return 1;

@@ -21,6 +21,10 @@ slotRoom = 961
 abbrev pub scratchAt : ℕ
 scratchAt = 28832
 
+-- in it, the numbers of what happens stand first, and then the rows that are made of it
+abbrev pub madeAt : ℕ
+madeAt = 29284
+
 -- a table and a slot lie below the scratch
 pub record StageRoom (work : List ℕ) (t : Table) (slot : ℕ) : Type 0 where
   pub source : t .rows + t .nodes * t .width ≤ scratchAt

@@ -75,7 +75,7 @@ note-left-requires c κs =
     let y = table-stage (at-table-in .table-in .ensures) x in
     let y′ = stage-same y (λ q l. n .ensures .only .low q (omega (arith, l, free))) (n .kept .0) in
     let z = s .ensures th T _ (stage-setting y′ free) there (subst (λ (t : Table). a .root < t .nodes) (sym (at-table-in .table-in .ensures)) row) in
-    let y″ = stage-same y′ (z .only .low) (s .kept .1 .1 .1 .1 .0) in
+    let y″ = stage-same y′ (z .only .low) (s .kept .1 .1 .1 .0) in
     (stage-before y″ (omega (arith, free)), omega (arith, row, x .tabled .few), omega (arith, there, x .theorized .found .mostActions), stage-slot y″ free, z .plays (c .before .if2 .taken) .2 .few)
 
 note-requires : tie.Need-note-requires
@@ -91,7 +91,7 @@ note-requires c κs =
     let y = table-stage (at-table-in .table-in .ensures) x in
     let y′ = stage-same y (λ q l. n .ensures .only .low q (omega (arith, l, free))) (n .kept .0) in
     let z = s .ensures th T _ (stage-setting y′ free) there (subst (λ (t : Table). a .root < t .nodes) (sym (at-table-in .table-in .ensures)) row) in
-    let y″ = stage-same y′ (z .only .low) (s .kept .1 .1 .1 .1 .0) in
+    let y″ = stage-same y′ (z .only .low) (s .kept .1 .1 .1 .0) in
     (stage-before y″ (omega (arith, free)), omega (arith, row, x .tabled .few), omega (arith, there, x .theorized .found .mostActions), omega arith)
 
 returns-2 : tie.Need-returns-2
@@ -110,7 +110,7 @@ returns-2 c =
     let y = table-stage (at-table-in .table-in .ensures) x in
     let y′ = stage-same y (λ q l. n .ensures .only .low q (omega (arith, l, free))) (n .kept .0) in
     subst (λ (t : Table). Advanced th (a .p .foresight .0) (a .p) (meaning (t .characters) T (a .root)) (a .action) t (a .work .now) (at-note-left .note-left .last .0) (a .slot + 961) (s .result)) (at-table-in .table-in .ensures)
-    (step-left y free (a .root) (named at-id-of) (s .ensures th T _ (stage-setting y′ free) there (subst (λ (t : Table). a .root < t .nodes) (sym (at-table-in .table-in .ensures)) row)) m (s .kept .1 .1 .1 .1 .0 ∙ n .kept .0) (at-if2 .if2 .taken) (at-note-left .note-left .ensures))
+    (step-left y free (a .root) (named at-id-of) (s .ensures th T _ (stage-setting y′ free) there (subst (λ (t : Table). a .root < t .nodes) (sym (at-table-in .table-in .ensures)) row)) m (s .kept .1 .1 .1 .0 ∙ n .kept .0) (at-if2 .if2 .taken) (at-note-left .note-left .ensures))
 
 returns-3 : tie.Need-returns-3
 returns-3 c =
@@ -128,7 +128,7 @@ returns-3 c =
     let y = table-stage (at-table-in .table-in .ensures) x in
     let y′ = stage-same y (λ q l. n .ensures .only .low q (omega (arith, l, free))) (n .kept .0) in
     subst (λ (t : Table). Advanced th (a .p .foresight .0) (a .p) (meaning (t .characters) T (a .root)) (a .action) t (a .work .now) (at-note .note .last .0) (a .slot + 961) (s .result)) (at-table-in .table-in .ensures)
-    (step-refused y free (a .root) (named at-id-of) (s .ensures th T _ (stage-setting y′ free) there (subst (λ (t : Table). a .root < t .nodes) (sym (at-table-in .table-in .ensures)) row)) m (s .kept .1 .1 .1 .1 .0 ∙ n .kept .0) (at-if2 .if2 .left) (at-note .note .ensures))
+    (step-refused y free (a .root) (named at-id-of) (s .ensures th T _ (stage-setting y′ free) there (subst (λ (t : Table). a .root < t .nodes) (sym (at-table-in .table-in .ensures)) row)) m (s .kept .1 .1 .1 .0 ∙ n .kept .0) (at-if2 .if2 .left) (at-note .note .ensures))
 
 pub known-step-spec : {M : Type 1} → statement M
 known-step-spec =

@@ -23,10 +23,10 @@ put-row-spec =
     let at-put-acted = c .before .before in
     let at-if1 = at-put-acted .before .before in
     let start = at-if1 .before .before .before .before .before in
-    λ s x. put-is s _ _ (sym (ap (rowAfter (start .args .m)) (at-if1 .if1 .taken))) (at-put-acted .put-acted .ensures s x))
+    λ s x. put-is s _ _ (sym (ap (rowAfter (start .args .s .row)) (at-if1 .if1 .taken))) (at-put-acted .put-acted .ensures s x))
     (λ c. search needs)
     (λ c.
     let at-put-old = c .before .before in
     let at-if1 = at-put-old .before .before in
     let start = at-if1 .before .before .before .before .before in
-    λ s x. put-is s _ _ (sym (ap (rowAfter (start .args .m)) (at-if1 .if1 .left))) (at-put-old .put-old .ensures s (x .tabled))))
+    λ s x. put-is s _ _ (sym (ap (rowAfter (start .args .s .row)) (at-if1 .if1 .left))) (at-put-old .put-old .ensures s (x .tabled))))

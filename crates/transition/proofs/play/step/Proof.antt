@@ -21,8 +21,8 @@ slice-aggregate-check-under c =
 
 play-requires : tie.Need-play-requires
 play-requires c κs =
-    let at-n = c .before .before .before .before in
-    let at-check-lent = at-n .before .before in
+    let at-nodes = c .before .before .before .before in
+    let at-check-lent = at-nodes .before .before in
     let at-both-at-most = at-check-lent .before .before in
     let at-check-under = at-both-at-most .before in
     let at-read-pack = at-check-under .before .before .before .before in
@@ -33,7 +33,7 @@ play-requires c κs =
     let u = at-check-under .check-under in
     let l = at-check-lent .check-lent in
     step-able (a .chart .now) (a .action) (a .out .now) (a .work .now) (at-read-pack .read-pack .ensures) (u .result) (u .ensures) (at-both-at-most .both-at-most .result) (at-both-at-most .both-at-most .ensures) _ refl (l .result) (l .ensures)
-    (λ i. omega (arith, at-shared-slice-known .shared-slice-known .given i)) (λ i. omega (arith, at-shared-slice-known2 .shared-slice-known2 .given i)) (omega (arith, at-read-pack .read-pack .kept)) _ _ (at-n .n .given .1)
+    (λ i. omega (arith, at-shared-slice-known .shared-slice-known .given i)) (λ i. omega (arith, at-shared-slice-known2 .shared-slice-known2 .given i)) (omega (arith, at-read-pack .read-pack .kept)) _ _ (at-nodes .nodes .given .1)
 
 returns : tie.Need-returns
 returns c =
@@ -50,8 +50,8 @@ returns c =
 returns-2 : tie.Need-returns-2
 returns-2 c =
     let at-play = c .before .before .before .before in
-    let at-n = at-play .before .before .before .before .before in
-    let at-check-lent = at-n .before .before in
+    let at-nodes = at-play .before .before .before .before .before in
+    let at-check-lent = at-nodes .before .before in
     let at-both-at-most = at-check-lent .before .before in
     let at-check-under = at-both-at-most .before in
     let at-read-pack = at-check-under .before .before .before .before in
@@ -62,7 +62,7 @@ returns-2 c =
     let u = at-check-under .check-under in
     let l = at-check-lent .check-lent in
     step-done (a .chart .now) (a .action) (a .out .now) (a .work .now) (at-read-pack .read-pack .ensures) (u .result) (u .ensures) (at-both-at-most .both-at-most .result) (at-both-at-most .both-at-most .ensures) _ refl (l .result) (l .ensures)
-    (λ i. omega (arith, at-shared-slice-known .shared-slice-known .given i)) (λ i. omega (arith, at-shared-slice-known2 .shared-slice-known2 .given i)) (omega (arith, at-read-pack .read-pack .kept)) _ _ (at-n .n .given .1) _ _ _ (at-play .play .ensures)
+    (λ i. omega (arith, at-shared-slice-known .shared-slice-known .given i)) (λ i. omega (arith, at-shared-slice-known2 .shared-slice-known2 .given i)) (omega (arith, at-read-pack .read-pack .kept)) _ _ (at-nodes .nodes .given .1) _ _ _ (at-play .play .ensures)
 
 pub step-spec : {M : Type 1} → statement M
 step-spec =

@@ -15,7 +15,7 @@ settle-requires c κs =
     let at-act = at-if2 .before .before .before in
     let at-if1 = at-act .before .before in
     let at-holds = at-if1 .before in
-    let start = at-holds .before .before .before .before .before .before in
+    let start = at-holds .before .before .before .before .before .before .before in
     let (p, (T, (n, (x, l, i)))) = start .pre in
     let h = at-holds .holds in
     let y = at-act .act .ensures p T n _ x l i in
@@ -42,22 +42,22 @@ step-slot-spec =
     tie.close
     (tie.spec
     (λ c.
-    let start = c .before .before .before in
-    let (p, (T, (n, (x, l, i)))) = start .pre in
-    omega (arith, act-places x l))
-    (λ c.
-    let start = c .before .before .before in
-    let (p, (T, (n, (x, l, i)))) = start .pre in
-    omega (arith, act-places x l))
-    (λ c.
     let start = c .before .before .before .before in
     let (p, (T, (n, (x, l, i)))) = start .pre in
     omega (arith, act-places x l))
     (λ c.
     let start = c .before .before .before .before in
-    omega (arith, c .shared-slice-known3 .given (9 * start .args .action)))
-    (λ c κs.
+    let (p, (T, (n, (x, l, i)))) = start .pre in
+    omega (arith, act-places x l))
+    (λ c.
     let start = c .before .before .before .before .before in
+    let (p, (T, (n, (x, l, i)))) = start .pre in
+    omega (arith, act-places x l))
+    (λ c.
+    let start = c .before .before .before .before .before in
+    omega (arith, c .shared-slice-known3 .given (9 * start .args .m .action)))
+    (λ c κs.
+    let start = c .before .before .before .before .before .before in
     let (p, (T, (n, (x, l, i)))) = start .pre in
     play-judged x l _ i)
     (λ c. search needs)
@@ -65,7 +65,7 @@ step-slot-spec =
     let at-holds = c .before in
     λ p T n x l i. play-forbidden x l _ i (at-holds .holds .ensures) (not-true (at-holds .holds .result) (c .if1 .taken)))
     (λ c κs.
-    let start = c .before .before .before .before .before .before .before .before in
+    let start = c .before .before .before .before .before .before .before .before .before in
     let (p, (T, (n, (x, l, i)))) = start .pre in
     (p, (T, (n, (_, (x, l, i))))))
     (λ c. search needs)
@@ -76,7 +76,7 @@ step-slot-spec =
     λ p T n x l i. play-many x l _ i (at-holds .holds .ensures) (not-false (at-holds .holds .result) (at-if1 .if1 .left)) (at-act .act .ensures p T n _ x l i) (at-act .act .kept .1 .1 .1 .0) (c .if2 .taken))
     (λ c.
     let at-holds = c .before .before .before .before .before .before in
-    let start = at-holds .before .before .before .before .before .before in
+    let start = at-holds .before .before .before .before .before .before .before in
     let (p, (T, (n, (x, l, i)))) = start .pre in
     omega (arith, x .room .slot-room))
     settle-requires
