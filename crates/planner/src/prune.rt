@@ -24,6 +24,7 @@ use pack::table::Table;
 use pack::test::after_test;
 use pack::test::chain_of;
 use pack::test::fluent_of;
+use transition::step::Move;
 ghost use Prim.Native.Nat.{ℕ, _≤_};
 ghost use mathlib.Core.Path.{_≡_};
 ghost use mathlib.Core.Bool.{Bool, false};
@@ -35,20 +36,20 @@ ghost use Rattle.pack.specs.Contracts.Judge.{alternativeAt, Small, Readable};
 ghost use Rattle.transition.specs.Laws.Still as still;
 ghost use Rattle.planner.specs.Inner.Look.{Acted, Moved, Lookable, Looked, Tryable, Hopeless, Trying, Skipped};
 
-// Whether some effect of action x, or of a trigger, writes a fluent of the state itself.
-pub fn moves(pack: &[u8], places: &[u16], triggers: usize, x: usize, fluent: usize) -> bool
-    requires { ⌜ Acted (now pack) (now places) triggers x ⌝ }
-    ensures { λ r. ⌜ Moved (now (pack .entry)) (now (places .entry)) triggers x fluent r ⌝ }
+// Whether some effect of a move, its action's or a trigger's, writes a fluent of the state itself.
+pub fn moves(pack: &[u8], places: &[u16], m: Move, fluent: usize) -> bool
+    requires { ⌜ Acted (now pack) (now places) (m .triggers) (m .action) ⌝ }
+    ensures { λ r. ⌜ Moved (now (pack .entry)) (now (places .entry)) (m .triggers) (m .action) fluent r ⌝ }
 {
     if some_effect(
         pack,
-        places[ACTION * x + EFFECTS] as usize,
+        places[ACTION * m.action + EFFECTS] as usize,
         Wanted::Sets(fluent),
     ) {
         return true;
     }
     let mut i = 0;
-    while i < triggers {
+    while i < m.triggers {
         if some_effect(
             pack,
             places[TRIGGER_EFFECTS + TRIGGER * i] as usize,
@@ -61,47 +62,31 @@ pub fn moves(pack: &[u8], places: &[u16], triggers: usize, x: usize, fluent: usi
     false
 }
 
-// Whether the test at a place could pass in row 0 after action x and any triggers.
-pub fn could_pass(
-    pack: &[u8],
-    places: &[u16],
-    triggers: usize,
-    x: usize,
-    at: usize,
-    work: &[u8],
-    t: Table,
-) -> bool
-    requires { ⌜ Lookable testAt (now pack) (now places) triggers x at (now work) t ⌝ }
-    ensures { λ r. ⌜ Looked testAt still.couldPass (now (pack .entry)) (now (places .entry)) triggers x at
+// Whether the test at a place could pass in row 0 after a move.
+pub fn could_pass(pack: &[u8], places: &[u16], m: Move, at: usize, work: &[u8], t: Table) -> bool
+    requires { ⌜ Lookable testAt (now pack) (now places) (m .triggers) (m .action) at (now work) t ⌝ }
+    ensures { λ r. ⌜ Looked testAt still.couldPass (now (pack .entry)) (now (places .entry)) (m .triggers) (m .action) at
         (now (work .entry)) t r ⌝ }
 {
     if chain_of(pack, at) != 0 {
         return true;
     }
-    if moves(pack, places, triggers, x, fluent_of(pack, at)) {
+    if moves(pack, places, m, fluent_of(pack, at)) {
         return true;
     }
     passes(pack, at, work, t, 0)
 }
 
 // Whether all tests of the alternative at a place could.
-pub fn could_all(
-    pack: &[u8],
-    places: &[u16],
-    triggers: usize,
-    x: usize,
-    at: usize,
-    work: &[u8],
-    t: Table,
-) -> bool
-    requires { ⌜ Lookable alternativeAt (now pack) (now places) triggers x at (now work) t ⌝ }
-    ensures { λ r. ⌜ Looked alternativeAt still.couldAll (now (pack .entry)) (now (places .entry)) triggers x at
+pub fn could_all(pack: &[u8], places: &[u16], m: Move, at: usize, work: &[u8], t: Table) -> bool
+    requires { ⌜ Lookable alternativeAt (now pack) (now places) (m .triggers) (m .action) at (now work) t ⌝ }
+    ensures { λ r. ⌜ Looked alternativeAt still.couldAll (now (pack .entry)) (now (places .entry)) (m .triggers) (m .action) at
         (now (work .entry)) t r ⌝ }
 {
     let mut n = at + 1;
     let mut left = wide(pack[at]);
     while 0 < left {
-        if !could_pass(pack, places, triggers, x, n, work, t) {
+        if !could_pass(pack, places, m, n, work, t) {
             return false;
         }
         n = after_test(pack, n);
@@ -111,23 +96,15 @@ pub fn could_all(
 }
 
 // Whether the condition at a place could hold.
-pub fn could_hold(
-    pack: &[u8],
-    places: &[u16],
-    triggers: usize,
-    x: usize,
-    at: usize,
-    work: &[u8],
-    t: Table,
-) -> bool
-    requires { ⌜ Lookable conditionAt (now pack) (now places) triggers x at (now work) t ⌝ }
-    ensures { λ r. ⌜ Looked conditionAt still.couldHold (now (pack .entry)) (now (places .entry)) triggers x at
+pub fn could_hold(pack: &[u8], places: &[u16], m: Move, at: usize, work: &[u8], t: Table) -> bool
+    requires { ⌜ Lookable conditionAt (now pack) (now places) (m .triggers) (m .action) at (now work) t ⌝ }
+    ensures { λ r. ⌜ Looked conditionAt still.couldHold (now (pack .entry)) (now (places .entry)) (m .triggers) (m .action) at
         (now (work .entry)) t r ⌝ }
 {
     let mut n = at + 1;
     let mut left = wide(pack[at]);
     while 0 < left {
-        if could_all(pack, places, triggers, x, n, work, t) {
+        if could_all(pack, places, m, n, work, t) {
             return true;
         }
         n = after_alternative(pack, n);
@@ -140,21 +117,20 @@ pub fn could_hold(
 pub fn could_exceed(
     pack: &[u8],
     places: &[u16],
-    triggers: usize,
-    x: usize,
+    m: Move,
     at: usize,
     work: &[u8],
     t: Table,
     base: usize,
 ) -> bool
-    requires { ⌜ Lookable rulesAt (now pack) (now places) triggers x at (now work) t ⌝ }
+    requires { ⌜ Lookable rulesAt (now pack) (now places) (m .triggers) (m .action) at (now work) t ⌝ }
     ensures { λ r. ⌜ Looked rulesAt (λ (moves : ℕ → Bool) (s : State). still.couldExceed moves s base)
-        (now (pack .entry)) (now (places .entry)) triggers x at (now (work .entry)) t r ⌝ }
+        (now (pack .entry)) (now (places .entry)) (m .triggers) (m .action) at (now (work .entry)) t r ⌝ }
 {
     let mut n = at + 1;
     let mut left = wide(pack[at]);
     while 0 < left {
-        let could = could_hold(pack, places, triggers, x, n, work, t);
+        let could = could_hold(pack, places, m, n, work, t);
         if !could {
             if left < 2 {
                 return false;
@@ -209,16 +185,12 @@ pub fn promising(
     if 0 < h.left {
         return true;
     }
-    could_exceed(
-        pack,
-        places,
-        p.triggers,
-        x,
-        places[UTILITIES + h.whose] as usize,
-        work,
-        t,
-        h.base,
-    )
+    let m = Move {
+        action: x,
+        triggers: p.triggers,
+    };
+    let rules = places[UTILITIES + h.whose] as usize;
+    could_exceed(pack, places, m, rules, work, t, h.base)
 }
 
 // The first action from x on that is worth a try in the state in a slot, or how many actions there are.

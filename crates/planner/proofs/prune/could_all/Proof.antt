@@ -8,10 +8,10 @@ use Rattle.planner.proofs.prune.could_all.Statement.{statement}
 use Rattle.planner.proofs.prune.could_all.Tie as tie
 
 abbrev Inv-loop : tie.InvT-loop
-Inv-loop pack places triggers x at work t n₀ left₀ n left = Rest (testRun pack places triggers x work t) pack at n left
+Inv-loop pack places m at work t n₀ left₀ n left = Rest (testRun pack places (m .triggers) (m .action) work t) pack at n left
 
 abbrev μ-loop : tie.MeasureT-loop
-μ-loop pack places triggers x at work t n₀ left₀ n left = left
+μ-loop pack places m at work t n₀ left₀ n left = left
 
 pub could-all-spec : {M : Type 1} → statement M
 could-all-spec =

@@ -12,10 +12,10 @@ use Rattle.planner.proofs.prune.could_exceed.Statement.{statement}
 use Rattle.planner.proofs.prune.could_exceed.Tie as tie
 
 abbrev Inv-loop : tie.InvT-loop
-Inv-loop pack places triggers x at work t base n₀ left₀ n left = Rest (ruleRun pack places triggers x work t base) pack at n left
+Inv-loop pack places m at work t base n₀ left₀ n left = Rest (ruleRun pack places (m .triggers) (m .action) work t base) pack at n left
 
 abbrev μ-loop : tie.MeasureT-loop
-μ-loop pack places triggers x at work t base n₀ left₀ n left = left
+μ-loop pack places m at work t base n₀ left₀ n left = left
 
 -- the last rule could not hold
 returns : tie.Need-returns Inv-loop μ-loop

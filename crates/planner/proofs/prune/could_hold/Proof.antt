@@ -7,10 +7,10 @@ use Rattle.planner.proofs.prune.could_hold.Statement.{statement}
 use Rattle.planner.proofs.prune.could_hold.Tie as tie
 
 abbrev Inv-loop : tie.InvT-loop
-Inv-loop pack places triggers x at work t n₀ left₀ n left = Rest (alternativeRun pack places triggers x work t) pack at n left
+Inv-loop pack places m at work t n₀ left₀ n left = Rest (alternativeRun pack places (m .triggers) (m .action) work t) pack at n left
 
 abbrev μ-loop : tie.MeasureT-loop
-μ-loop pack places triggers x at work t n₀ left₀ n left = left
+μ-loop pack places m at work t n₀ left₀ n left = left
 
 pub could-hold-spec : {M : Type 1} → statement M
 could-hold-spec =
