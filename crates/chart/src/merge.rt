@@ -23,7 +23,7 @@ pub fn map_part(work: &mut [u8], from: usize, to: usize, k: usize, n: usize, c: 
 }
 
 // Writes the row from `from` on, its beliefs by class, from `to` on.
-pub fn put_row(work: &mut [u8], from: usize, to: usize, k: usize, n: usize, f: usize, c: usize)
+pub fn put_mapped(work: &mut [u8], from: usize, to: usize, k: usize, n: usize, f: usize, c: usize)
     requires { ⌜ (from + f + c ≤ k) × (k + n ≤ to) × (to + f + c ≤ length (now work)) ⌝ }
     requires { ⌜ ((d : ℕ) → d < c → getD (now work) (from + f + d) 0 < n) ⌝ }
     ensures { λ _. ⌜ RowPut (now (work .entry)) (now (work .exit)) from to k f c ⌝ }
@@ -42,7 +42,7 @@ pub fn write_class(work: &mut [u8], t: Table, k: usize, u: usize, i: usize, coun
     if wide(work[k + i]) < count {
         return count;
     }
-    put_row(
+    put_mapped(
         work,
         t.rows + i * t.width,
         u + count * t.width,

@@ -1,6 +1,6 @@
-// The first level of the partition: rows of equal values get one class, found by a mark of the values.
+// The first level of the partition: rows of equal values get one class, found by a hash of the values.
 //
-// A row is held against the classes of its mark only. There are 131 marks, since 2 is a primitive root of that prime,
+// A row is held against the classes of its hash only. There are 131 hashes, since 2 is a primitive root of that prime,
 // so that no value is lost; nothing is proved of how they spread.
 use pack::number::wide;
 use pack::table::Table;
@@ -8,7 +8,7 @@ ghost use mathlib.Core.Path.{_≡_};
 ghost use Prim.Native.Nat.{_+_, _<_, _≤_};
 ghost use lib.ListN.{length, getD};
 ghost use Rattle.chart.specs.Contracts.Level.{Agrees, Placed, SameByte, SameValues, Levels};
-ghost use Rattle.chart.specs.Inner.Values.{markOf, Chain, Chained, Valuable, RowValued, Valued};
+ghost use Rattle.chart.specs.Inner.Values.{hashOf, Chain, Chained, Valuable, RowValued, Valued};
 ghost use Rattle.chart.specs.Contracts.OfTable.{ofTable, ofValues, inRegions, firstOf};
 
 // Where the classes stand in the work buffer: those of the level that is made, those so far, and the first row of each.
@@ -33,10 +33,10 @@ pub fn first_other(work: &[u8], a: usize, b: usize, f: usize) -> usize
     f
 }
 
-// The mark of the f bytes from a on, which is below 131: where all bytes are the same, so is the mark.
-pub fn mark(work: &[u8], a: usize, f: usize) -> usize
+// The hash of the f bytes from a on, which is below 131: where all bytes are the same, so is the hash.
+pub fn value_hash(work: &[u8], a: usize, f: usize) -> usize
     requires { ⌜ a + f ≤ length (now work) ⌝ }
-    ensures { λ r. ⌜ (r ≡ markOf (now (work .entry)) a f) × (r < 131) ⌝ }
+    ensures { λ r. ⌜ (r ≡ hashOf (now (work .entry)) a f) × (r < 131) ⌝ }
 {
     let mut sum: usize = 0;
     let mut q = 0;
@@ -47,7 +47,7 @@ pub fn mark(work: &[u8], a: usize, f: usize) -> usize
     sum % 131
 }
 
-// The class, of `count`, whose leading row has the values of row i, or `count`. Only those of row i's mark are looked
+// The class, of `count`, whose leading row has the values of row i, or `count`. Only those of row i's hash are looked
 // at, of which `last` is the last one's number plus 1, and from `g.level` on stands such a number for the one before
 // each.
 pub fn value_class(work: &[u8], t: Table, g: Regions, i: usize, count: usize, last: usize) -> usize
@@ -81,7 +81,7 @@ pub fn value_row(
     ensures { λ more. ⌜ inRegions (ofValues (RowValued (now (work .entry)) (now (work .exit)) (now (heads .exit))) t)
         g i count more ⌝ }
 {
-    let b = mark(work, t.rows + i * t.width, t.fluents);
+    let b = value_hash(work, t.rows + i * t.width, t.fluents);
     let last = heads[b];
     let q = value_class(work, t, g, i, count, wide(last));
     work[g.classes + i] = q as u8;

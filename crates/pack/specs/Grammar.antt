@@ -120,9 +120,13 @@ packAt s at =
     bind (nodesAt d s n) (λ nodes n.
     mapped (λ theory. record { theory = theory; nodes = nodes }) (theoryAt d s n)))
 
+-- a pack's limit
+abbrev pub longestPack : ℕ
+longestPack = 8192
+
 -- "a pack above 8,192 bytes (place 0, tested first)" is 3
 unfoldable pub packOf : List ℕ → Reply Pack
-packOf bytes = pick (ltb 8192 (length bytes)) (refuses 3 0) (whole packAt bytes)
+packOf bytes = pick (ltb longestPack (length bytes)) (refuses 3 0) (whole packAt bytes)
 
 -- "21 to 25, 27 | as 1 to 5 and 7, in a chart"
 abbrev pub inChart : {A : Type 0} → Reply A → Reply A

@@ -8,6 +8,7 @@ use lib.Dec.{ltb}
 use Rattle.pack.specs.Syntax.{Kind, is, isNot, atLeast, Test, Condition, Effect}
 use Rattle.pack.specs.Syntax.{Action, Trigger, Rule, Theory, Node, Pack}
 use Rattle.pack.specs.Reading.{pick}
+use Rattle.pack.specs.Grammar.{longestPack}
 
 -- "groups of seven bits, lowest first, the top bit set on all but the last"; "shortest form only"
 unfoldable pub numberBytes : ℕ → List ℕ
@@ -156,4 +157,4 @@ pub record PackFits (p : Pack) : Type 0 where
   pub triggers : Some 0 16 (TriggerFits (p .theory .characters) (p .theory .domains)) (p .theory .triggers)
   pub everyone : length (p .theory .utilities) ≡ suc (p .theory .characters)
   pub utilities : Each (Some 0 8 (RuleFits (p .theory .characters) (p .theory .domains))) (p .theory .utilities)
-  pub short : length (packBytes p) ≤ 8192
+  pub short : length (packBytes p) ≤ longestPack

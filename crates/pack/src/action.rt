@@ -12,7 +12,8 @@ use crate::refusal::LIMIT;
 ghost use Prim.Native.Nat.{_+_, _≤_};
 ghost use lib.ListN.{length};
 ghost use Rattle.pack.specs.Contracts.Answer.{dims};
-ghost use Rattle.pack.specs.Contracts.Places.{Within, Ready, ObservedRead, ActionRead, ActionsRead, ActionsAfter};
+ghost use Rattle.pack.specs.Contracts.Places.{placesRoom, Within, Ready};
+ghost use Rattle.pack.specs.Contracts.Places.{ObservedRead, ActionRead, ActionsRead, ActionsAfter};
 
 // The observation conditions, one for each character.
 pub fn read_observed(
@@ -88,7 +89,7 @@ pub fn read_actions(
     domains: &[u8],
     places: &mut [u16],
 ) -> Number
-    requires { ⌜ (characters ≤ 6) × (327 ≤ length (now places)) × Within (now s) at ⌝ }
+    requires { ⌜ (characters ≤ 6) × (placesRoom ≤ length (now places)) × Within (now s) at ⌝ }
     ensures { λ r. ⌜ ActionsRead (dims characters (now (domains .entry))) (now (s .entry)) at (now (places .exit)) r ⌝ }
 {
     match read_between(s, at, 0, 33, LIMIT) {

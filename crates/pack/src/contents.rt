@@ -17,7 +17,8 @@ ghost use Prim.Native.Nat.{_≤_};
 ghost use lib.ListN.{length};
 ghost use mathlib.Core.Path.{_≡_};
 ghost use Rattle.pack.specs.Contracts.Answer.{HeadRead};
-ghost use Rattle.pack.specs.Contracts.Places.{Ready};
+ghost use Rattle.pack.specs.Contracts.Places.{placesRoom, Ready};
+ghost use Rattle.pack.specs.Grammar.{longestPack};
 ghost use Rattle.pack.specs.Contracts.Contents.{countsOf, TheoryAfter, contentsOf, PartsRead};
 ghost use Rattle.pack.specs.Contracts.Contents.{PackRead, ContentsRead, Refusal};
 
@@ -112,7 +113,7 @@ pub fn together(h: Head, count: Number, c: Counts) -> Contents
 
 // The parts of a pack, one after the other, by one reader of its bytes.
 pub fn read_parts(s: &[u8], places: &mut [u16]) -> Contents
-    requires { ⌜ (327 ≤ length (now places)) × (length (now s) ≤ 8192) ⌝ }
+    requires { ⌜ (placesRoom ≤ length (now places)) × (length (now s) ≤ longestPack) ⌝ }
     ensures { λ r. ⌜ PartsRead (now (s .entry)) (now (places .exit)) r ⌝ }
 {
     let r = reader::new(s, 0);
@@ -126,12 +127,15 @@ pub fn read_parts(s: &[u8], places: &mut [u16]) -> Contents
     together(h, count, c)
 }
 
+// How many bytes a pack may have.
+const LONGEST: usize = 8192;
+
 // A pack: accepted, with what it holds and the places of its parts, or refused.
 pub fn read_pack(s: &[u8], places: &mut [u16]) -> Contents
-    requires { ⌜ 327 ≤ length (now places) ⌝ }
+    requires { ⌜ placesRoom ≤ length (now places) ⌝ }
     ensures { λ r. ⌜ PackRead (now (s .entry)) (now (places .exit)) r ⌝ }
 {
-    if 8192 < s.len() {
+    if LONGEST < s.len() {
         return refusal(LIMIT, 0);
     }
     let r = read_parts(s, places);

@@ -20,7 +20,7 @@ ghost use Rattle.pack.specs.Contracts.Table.{stateOf};
 ghost use Rattle.pack.specs.Contracts.Judge.{alternativeAt, Small, Over, Readable, Judged};
 
 // A test's kind: 0 is, 1 is not, 2 at least. An accepted pack has no other, and a test of another would never hold.
-pub fn compare(kind: u8, x: u8, value: u8) -> bool
+pub fn relates(kind: u8, x: u8, value: u8) -> bool
     ensures { λ r. ⌜ (kind < 3 → r ≡ compares (kindOf kind) x value) × (3 ≤ kind → r ≡ false) ⌝ }
 {
     match kind {
@@ -41,7 +41,7 @@ pub fn passes(s: &[u8], at: usize, buffer: &[u8], t: Table, node: usize) -> bool
     let there = follow(s, at + 1, count, buffer, t, node);
     let n = at + 1 + count;
     let row = t.rows + there * t.width;
-    compare(s[n], buffer[row + wide(s[n + 1])], s[n + 2])
+    relates(s[n], buffer[row + wide(s[n + 1])], s[n + 2])
 }
 
 // Whether all tests of an alternative hold.

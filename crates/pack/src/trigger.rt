@@ -12,7 +12,7 @@ use crate::refusal::LIMIT;
 ghost use Prim.Native.Nat.{_+_, _≤_};
 ghost use lib.ListN.{length};
 ghost use Rattle.pack.specs.Contracts.Answer.{dims};
-ghost use Rattle.pack.specs.Contracts.Places.{Within, Ready, TriggerRead, TriggersRead, TriggersAfter};
+ghost use Rattle.pack.specs.Contracts.Places.{placesRoom, Within, Ready, TriggerRead, TriggersRead, TriggersAfter};
 
 // A trigger: a condition and effects. Its places are marked from base on.
 pub fn read_trigger(
@@ -45,7 +45,7 @@ pub fn read_triggers(
     domains: &[u8],
     places: &mut [u16],
 ) -> Number
-    requires { ⌜ (characters ≤ 6) × (327 ≤ length (now places)) × Within (now s) at ⌝ }
+    requires { ⌜ (characters ≤ 6) × (placesRoom ≤ length (now places)) × Within (now s) at ⌝ }
     ensures { λ r. ⌜ TriggersRead (dims characters (now (domains .entry))) (now (s .entry)) at (now (places .entry))
         (now (places .exit)) r ⌝ }
 {

@@ -15,7 +15,7 @@ ghost use Rattle.pack.specs.Reading.{mapped};
 ghost use Rattle.pack.specs.Grammar.{ruleAt, rulesAt};
 ghost use Rattle.pack.specs.Contracts.Said.{shown, forget};
 ghost use Rattle.pack.specs.Contracts.Answer.{dims};
-ghost use Rattle.pack.specs.Contracts.Places.{Within, Ready, UtilitiesRead, UtilitiesAfter};
+ghost use Rattle.pack.specs.Contracts.Places.{placesRoom, Within, Ready, UtilitiesRead, UtilitiesAfter};
 
 // A condition and a number.
 pub fn check_rule(s: &[u8], at: usize, characters: usize, domains: &[u8]) -> Checked
@@ -63,7 +63,7 @@ pub fn read_utilities(
     domains: &[u8],
     places: &mut [u16],
 ) -> Checked
-    requires { ⌜ (characters ≤ 6) × (327 ≤ length (now places)) × Within (now s) at ⌝ }
+    requires { ⌜ (characters ≤ 6) × (placesRoom ≤ length (now places)) × Within (now s) at ⌝ }
     ensures { λ r. ⌜ UtilitiesRead (dims characters (now (domains .entry))) (now (s .entry)) at (now (places .entry))
         (now (places .exit)) r ⌝ }
 {

@@ -1,9 +1,9 @@
 -- The modules of `proofs/` that belong to no one function.
-pub mod Remembering
-pub mod Telling
-pub mod Looking
-pub mod Judging
-pub mod Laying
-pub mod Repeating
-pub mod Completing
-pub mod Seeking
+pub mod TrueMemory
+pub mod Explanations
+pub mod Pruning
+pub mod ExplainedCall
+pub mod StartSlot
+pub mod SameBytes
+pub mod EarliestList
+pub mod SearchCall

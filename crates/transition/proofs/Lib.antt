@@ -1,11 +1,11 @@
 -- The modules of `proofs/` that belong to no one function.
-pub mod Causing
-pub mod Rowing
-pub mod Firing
-pub mod Staging
-pub mod Acting
-pub mod Settling
-pub mod Rounding
-pub mod Playing
-pub mod Stepping
-pub mod Stepped
+pub mod Effects
+pub mod ChangePass
+pub mod FiringTriggers
+pub mod Stages
+pub mod PartOne
+pub mod Rounds
+pub mod SilentRounds
+pub mod PlayedInSlot
+pub mod StepOnCharts
+pub mod StepCall

@@ -10,7 +10,10 @@ ghost use mathlib.Core.Bool.{_||_};
 ghost use lib.ListN.{length};
 ghost use Rattle.transition.specs.Inner.Fire.{Firable, Fires, FiresAll};
 
-// The place of the effects of the lowest trigger that holds in row m, or 8192, which is behind every pack.
+// A place behind every pack, which may have so many bytes.
+pub const NOWHERE: u16 = 8192;
+
+// The place of the effects of the lowest trigger that holds in row m, or `NOWHERE`.
 pub fn firing(pack: &[u8], places: &[u16], triggers: usize, work: &[u8], t: Table, m: usize) -> u16
     requires { ⌜ Firable (now pack) (now places) triggers (now work) t × (m < t .nodes) ⌝ }
     ensures { λ r. ⌜ Fires (now (pack .entry)) (now (places .entry)) triggers (now (work .entry)) t m r ⌝ }
@@ -22,7 +25,7 @@ pub fn firing(pack: &[u8], places: &[u16], triggers: usize, work: &[u8], t: Tabl
         }
         i += 1;
     }
-    8192
+    NOWHERE
 }
 
 fn either(a: bool, b: bool) -> bool

@@ -1,5 +1,6 @@
 // Rounds of triggers, until none holds anywhere.
 use crate::change::Change;
+use crate::fire::NOWHERE;
 use crate::fire::fire_all;
 use crate::round::round;
 use pack::places::PLACES;
@@ -25,7 +26,7 @@ pub fn settle(
     if triggers == 0 {
         return 0;
     }
-    let mut effects = [8192u16; 32];
+    let mut effects = [NOWHERE; 32];
     let mut nodes = t.nodes;
     let mut rounds: usize = 0;
     loop {

@@ -14,12 +14,12 @@ sumOf bytes a zero = 0
 sumOf bytes a (suc f) = (sumOf bytes a f * 2 + getD bytes (a + f) 0) % 4294967296
 
 -- their mark
-abbrev pub markOf : List ℕ → ℕ → ℕ → ℕ
-markOf bytes a f = sumOf bytes a f % 131
+abbrev pub hashOf : List ℕ → ℕ → ℕ → ℕ
+hashOf bytes a f = sumOf bytes a f % 131
 
 -- the mark of the row that leads class q; the leading rows stand from r on
 abbrev pub leadMark : List ℕ → (w f t r : ℕ) → ℕ → ℕ
-leadMark bytes w f t r q = markOf bytes (t + getD bytes (r + q) 0 * w) f
+leadMark bytes w f t r q = hashOf bytes (t + getD bytes (r + q) 0 * w) f
 
 -- of the first m classes the last with the mark b has the number x - 1; none has it where x is 0
 pub record Last (mark : ℕ → ℕ) (m b x : ℕ) : Type 0 where
@@ -35,7 +35,7 @@ pub record Chain (bytes : List ℕ) (w f t a r i count last : ℕ) : Type 0 wher
   pub room : r + count ≤ length bytes
   pub above : a + count ≤ length bytes
   pub nexts : (q : ℕ) → q < count → Last (leadMark bytes w f t r) q (leadMark bytes w f t r q) (getD bytes (a + q) 0)
-  pub ends : Last (leadMark bytes w f t r) count (markOf bytes (t + i * w) f) last
+  pub ends : Last (leadMark bytes w f t r) count (hashOf bytes (t + i * w) f) last
 
 -- of `count` classes the last of each mark stands in `heads`, and from a on for each class the last before it of its
 -- mark

@@ -1,7 +1,7 @@
 -- Search's answer, and its text. Assumes nothing.
 use native.Mathlib.Omega.{arith}
 use borrow.Author.Needs.{needs}
-use Rattle.ending.proofs.Telling.{listed, shown}
+use Rattle.ending.proofs.AnswerText.{listed, shown}
 use Rattle.ending.proofs.ending.Statement.{statement}
 use Rattle.ending.proofs.ending.Tie as tie
 

@@ -2,7 +2,7 @@
 use mathlib.Core.Path.{sym}
 use lib.Seq.{length-take-le}
 use borrow.Author.Needs.{needs}
-use Rattle.export.proofs.Returning.{lent-within, compare-returned}
+use Rattle.export.proofs.Returned.{lent-within, compare-returned}
 use Rattle.export.proofs.pirwodd_compare.Statement.{statement}
 use Rattle.export.proofs.pirwodd_compare.Tie as tie
 

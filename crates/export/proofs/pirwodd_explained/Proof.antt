@@ -2,7 +2,7 @@
 use mathlib.Core.Path.{sym}
 use lib.Seq.{length-take-le}
 use borrow.Author.Needs.{needs}
-use Rattle.export.proofs.Returning.{lent-within, explained-returned}
+use Rattle.export.proofs.Returned.{lent-within, explained-returned}
 use Rattle.export.proofs.pirwodd_explained.Statement.{statement}
 use Rattle.export.proofs.pirwodd_explained.Tie as tie
 

@@ -5,7 +5,7 @@ use mathlib.Core.List.{[], _∷_}
 use lib.Seq.{length-take-le}
 use borrow.Author.Needs.{needs}
 use Rattle.export.specs.Report.{put}
-use Rattle.export.proofs.Returning.{lent-within, query-returned}
+use Rattle.export.proofs.Returned.{lent-within, query-returned}
 use Rattle.export.proofs.pirwodd_query.Statement.{statement}
 use Rattle.export.proofs.pirwodd_query.Tie as tie
 

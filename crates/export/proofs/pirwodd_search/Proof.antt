@@ -2,7 +2,7 @@
 use mathlib.Core.Path.{sym}
 use lib.Seq.{length-take-le}
 use borrow.Author.Needs.{needs}
-use Rattle.export.proofs.Returning.{lent-within, search-returned}
+use Rattle.export.proofs.Returned.{lent-within, search-returned}
 use Rattle.export.proofs.pirwodd_search.Statement.{statement}
 use Rattle.export.proofs.pirwodd_search.Tie as tie
 

@@ -2,7 +2,7 @@
 use mathlib.Core.Path.{sym, ap}
 use lib.ListN.{set}
 use borrow.Author.Needs.{needs}
-use Rattle.export.proofs.Returning.{set-beyond}
+use Rattle.export.proofs.Returned.{set-beyond}
 use Rattle.export.proofs.put_entry.Statement.{statement}
 use Rattle.export.proofs.put_entry.Tie as tie
 

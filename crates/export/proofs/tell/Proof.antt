@@ -1,7 +1,7 @@
 -- One entry put, and the number. Assumes nothing.
 use mathlib.Core.Path.{_∙_}
 use borrow.Author.Needs.{needs}
-use Rattle.export.proofs.Returning.{put-one}
+use Rattle.export.proofs.Returned.{put-one}
 use Rattle.export.proofs.tell.Statement.{statement}
 use Rattle.export.proofs.tell.Tie as tie
 

@@ -3,7 +3,7 @@ use mathlib.Core.Path.{sym}
 use borrow.Author.Needs.{needs}
 use Rattle.chart.specs.Promises.{chartSaid}
 use Rattle.export.specs.Exports.{one}
-use Rattle.export.proofs.Returning.{answer-told}
+use Rattle.export.proofs.Returned.{answer-told}
 use Rattle.export.proofs.tell_charted.Statement.{statement}
 use Rattle.export.proofs.tell_charted.Tie as tie
 

@@ -3,7 +3,7 @@ use mathlib.Core.Path.{sym}
 use borrow.Author.Needs.{needs}
 use Rattle.planner.specs.Promises.{searchSaid}
 use Rattle.export.specs.Exports.{planNumbers}
-use Rattle.export.proofs.Returning.{answer-told}
+use Rattle.export.proofs.Returned.{answer-told}
 use Rattle.export.proofs.tell_found.Statement.{statement}
 use Rattle.export.proofs.tell_found.Tie as tie
 

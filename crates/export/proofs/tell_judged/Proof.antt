@@ -6,7 +6,7 @@ use borrow.Author.Needs.{needs}
 use Rattle.planner.specs.Promises.{explainedSaid}
 use Rattle.export.specs.Report.{put}
 use Rattle.export.specs.Exports.{verdictNumbers}
-use Rattle.export.proofs.Returning.{answer-told}
+use Rattle.export.proofs.Returned.{answer-told}
 use Rattle.export.proofs.tell_judged.Statement.{statement}
 use Rattle.export.proofs.tell_judged.Tie as tie
 

@@ -4,7 +4,7 @@ use mathlib.Core.Path.{refl, ap, _∙_}
 use mathlib.Core.List.{List}
 use lib.ListN.{set}
 use borrow.Author.Needs.{needs}
-use Rattle.export.proofs.Returning.{put-three}
+use Rattle.export.proofs.Returned.{put-three}
 use Rattle.export.proofs.tell_three.Statement.{statement}
 use Rattle.export.proofs.tell_three.Tie as tie
 

@@ -5,7 +5,7 @@ use mathlib.Core.List.{List}
 use lib.ListN.{length, getD}
 use Rattle.pack.specs.Reading.{done, Reader, mapped, many}
 use Rattle.pack.specs.Number.{between, counted}
-use Rattle.pack.specs.Grammar.{Dimensions, conditionAt, effectsAt, consentersAt, actionAt, triggerAt, rulesAt}
+use Rattle.pack.specs.Grammar.{longestPack, Dimensions, conditionAt, effectsAt, consentersAt, actionAt, triggerAt, rulesAt}
 use Rattle.pack.specs.Contracts.Said.{said, shown, forget, whenPassed, whenIs, after}
 use Rattle.pack.specs.Contracts.Answer.{dimsOf}
 use Rattle.pack.specs.declared.number.Number.{Number}
@@ -14,15 +14,19 @@ use Rattle.pack.specs.declared.number.Checked.{Checked}
 use Rattle.pack.specs.declared.number.Checked.the-variants as checked
 use Rattle.pack.specs.declared.head.Head.{Head}
 
+-- room for the places of a pack's parts, of the largest
+abbrev pub placesRoom : ℕ
+placesRoom = 327
+
 -- a place in bytes that are few enough for a pack, so that the place fits 16 bits
 abbrev pub Within : List ℕ → ℕ → Type 0
-Within s at = (at ≤ length s) × (length s ≤ 8192)
+Within s at = (at ≤ length s) × (length s ≤ longestPack)
 
 -- what the readers of actions, triggers and utilities ask: a head within its limits, room for places, and a place in
 -- the bytes
 abbrev pub Ready : List ℕ → ℕ → Head → (places : List ℕ) → Type 0
 Ready s at h places =
-    (h .characters ≤ 6) × (h .fluents ≤ 24) × (length (h .sizes) ≡ 24) × (327 ≤ length places) × Within s at
+    (h .characters ≤ 6) × (h .fluents ≤ 24) × (length (h .sizes) ≡ 24) × (placesRoom ≤ length places) × Within s at
 
 -- what p reads from a place on ends at n
 abbrev pub Ends : {A : Type 0} → Reader A → List ℕ → ℕ → ℕ → Type 0

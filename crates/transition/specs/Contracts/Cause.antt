@@ -12,6 +12,7 @@ use Rattle.pack.specs.Condition.{holds, write}
 use Rattle.pack.specs.Grammar.{Dimensions, conditionAt, effectsAt}
 use Rattle.pack.specs.Contracts.Contents.{Gives}
 use Rattle.pack.specs.Contracts.Effects.{someOf}
+use Rattle.pack.specs.Contracts.Places.{placesRoom}
 use Rattle.pack.specs.Contracts.Judge.{Small, Over}
 use Rattle.pack.specs.Contracts.Table.{cells, tableOf, TableFits}
 use Rattle.pack.specs.Contracts.Write.{RowOnly}
@@ -52,13 +53,13 @@ pub record ToldWritten (pack : List ℕ) (at whom : ℕ) (was now : List ℕ) (r
 -- who takes part: everyone, or each character whose observation condition holds; these are found from place `observed`
 -- on
 pub record Observes (d : Dimensions) (pack places : List ℕ) (observed C : ℕ) (takes : State → ℕ → Bool) : Type 0 where
-  pub everyone : observed ≡ 327 → (z : State) (c : ℕ) → takes z c ≡ true
-  pub few : observed ≤ 327
-  pub inside : observed ≢ 327 → observed + C ≤ length places
-  pub condition : observed ≢ 327 → (c : ℕ) → c < C → Condition
-  pub stands : (h : observed ≢ 327) (c : ℕ) (l : c < C)
+  pub everyone : observed ≡ placesRoom → (z : State) (c : ℕ) → takes z c ≡ true
+  pub few : observed ≤ placesRoom
+  pub inside : observed ≢ placesRoom → observed + C ≤ length places
+  pub condition : observed ≢ placesRoom → (c : ℕ) → c < C → Condition
+  pub stands : (h : observed ≢ placesRoom) (c : ℕ) (l : c < C)
       → Gives (conditionAt d) pack (getD places (observed + c) 0) (condition h c l)
-  pub judged : (h : observed ≢ 327) (c : ℕ) (l : c < C) (z : State) → takes z c ≡ holds z (condition h c l)
+  pub judged : (h : observed ≢ placesRoom) (c : ℕ) (l : c < C) (z : State) → takes z c ≡ holds z (condition h c l)
 
 -- a table in a buffer, over the dimensions d
 pub record Tabled (d : Dimensions) (table : List Node) (work : List ℕ) (t : Table) : Type 0 where

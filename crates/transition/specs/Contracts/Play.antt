@@ -7,9 +7,11 @@ use Prim.Native.Nat.{ℕ, suc, _+_, _<_, _≤_}
 use lib.ListN.{length, getD}
 use Rattle.pack.specs.Syntax.{Effect, Node, Theory}
 use Rattle.pack.specs.State.{State, meaning}
+use Rattle.pack.specs.Grammar.{longestPack}
 use Rattle.pack.specs.Contracts.Answer.{dims}
 use Rattle.pack.specs.Contracts.Judge.{Small}
 use Rattle.pack.specs.Contracts.Contents.{TheoryFound}
+use Rattle.pack.specs.Contracts.Places.{placesRoom}
 use Rattle.pack.specs.Contracts.Table.{rowsAt}
 use Rattle.pack.specs.declared.table.Table.{Table}
 use Rattle.chart.specs.Chart.{Written, Starts}
@@ -21,8 +23,8 @@ use Rattle.transition.specs.Contracts.Stage.{StageRoom, SlotOnly, InSlot
 pub record Theorized (p : Theory) (pack places : List ℕ) (actions triggers : ℕ) : Type 0 where
   pub small : Small (dims (p .characters) (p .domains))
   pub found : TheoryFound (dims (p .characters) (p .domains)) pack places p actions triggers
-  pub short : length pack ≤ 8192
-  pub marked : 327 ≤ length places
+  pub short : length pack ≤ longestPack
+  pub marked : placesRoom ≤ length places
 
 -- a character that no effect is meant for, or 7 where there is none
 pub record Untold (es : List Effect) (C u : ℕ) : Type 0 where

@@ -7,8 +7,9 @@ use Prim.Native.Nat.{ℕ, _+_, _*_, _<_, _≤_}
 use lib.ListN.{length, getD}
 use Rattle.pack.specs.Syntax.{Trigger, Node}
 use Rattle.pack.specs.State.{State, meaning}
-use Rattle.pack.specs.Grammar.{Dimensions}
+use Rattle.pack.specs.Grammar.{longestPack, Dimensions}
 use Rattle.pack.specs.Contracts.Contents.{TriggerStands}
+use Rattle.pack.specs.Contracts.Places.{placesRoom}
 use Rattle.pack.specs.declared.table.Table.{Table}
 use Rattle.transition.specs.Happening.{firing, effectsOf}
 use Rattle.transition.specs.Contracts.Cause.{EffectsAt, Tabled}
@@ -17,8 +18,8 @@ use Rattle.transition.specs.Contracts.Cause.{EffectsAt, Tabled}
 pub record Triggered (d : Dimensions) (pack places : List ℕ) (ts : List Trigger) (count : ℕ) : Type 0 where
   pub long : length ts ≡ count
   pub few : count ≤ 16
-  pub marked : 327 ≤ length places
-  pub short : length pack ≤ 8192
+  pub marked : placesRoom ≤ length places
+  pub short : length pack ≤ longestPack
   pub stands : (i : ℕ) → i < count → (x : Trigger) → TriggerStands d pack places (288 + 2 * i) (getD ts i x)
 
 -- at r stand the effects of the trigger that fires in z; it is behind the pack's end where none does

@@ -7,6 +7,7 @@ use Prim.Native.Nat.{ℕ, suc, _+_, _*_, _<_, _≤_}
 use lib.ListN.{length, getD}
 use Rattle.pack.specs.Syntax.{Effect}
 use Rattle.pack.specs.Condition.{write}
+use Rattle.pack.specs.Contracts.Places.{placesRoom}
 use Rattle.pack.specs.Contracts.Table.{cells, tableOf}
 use Rattle.pack.specs.declared.table.Table.{Table}
 use Rattle.chart.specs.Call.{workRoom}
@@ -55,5 +56,5 @@ pub record SlotTable (work : List ℕ) (t : Table) (slot : ℕ) : Type 0 where
 
 -- everyone takes part in what happens in row 0
 pub record Everyone (h : Change) : Type 0 where
-  pub all : h .observed ≡ 327
+  pub all : h .observed ≡ placesRoom
   pub root : h .root ≡ 0

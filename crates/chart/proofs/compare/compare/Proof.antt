@@ -3,7 +3,7 @@ use mathlib.Core.Path.{sym}
 use native.Mathlib.Omega.{arith}
 use lib.Seq.{length-take-le}
 use borrow.Author.Needs.{needs}
-use Rattle.chart.proofs.Comparing.{compare-first, compare-refused, compare-ready, compare-done}
+use Rattle.chart.proofs.CompareCall.{compare-first, compare-refused, compare-ready, compare-done}
 use Rattle.chart.proofs.compare.compare.Statement.{statement}
 use Rattle.chart.proofs.compare.compare.Tie as tie
 

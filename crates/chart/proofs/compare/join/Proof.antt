@@ -2,7 +2,7 @@
 use Prim.Native.Nat.{_+_, _*_, _≤_}
 use native.Mathlib.Omega.{arith}
 use borrow.Author.Needs.{needs}
-use Rattle.chart.proofs.Joining.{join-room, join-inside, join-shifts, join-shifts-other, joined}
+use Rattle.chart.proofs.JoinedCharts.{join-room, join-inside, join-shifts, join-shifts-other, joined}
 use Rattle.chart.proofs.compare.join.Statement.{statement}
 use Rattle.chart.proofs.compare.join.Tie as tie
 

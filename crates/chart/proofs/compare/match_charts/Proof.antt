@@ -2,7 +2,7 @@
 use mathlib.Core.Path.{_∙_}
 use native.Mathlib.Omega.{arith}
 use borrow.Author.Needs.{needs}
-use Rattle.chart.proofs.Matching.{charts-matchable, charts-matched}
+use Rattle.chart.proofs.MatchedRows.{charts-matchable, charts-matched}
 use Rattle.chart.proofs.compare.match_charts.Statement.{statement}
 use Rattle.chart.proofs.compare.match_charts.Tie as tie
 

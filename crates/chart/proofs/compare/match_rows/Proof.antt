@@ -2,7 +2,7 @@
 use mathlib.Core.Path.{_∙_}
 use native.Mathlib.Omega.{arith}
 use borrow.Author.Needs.{needs}
-use Rattle.chart.proofs.Matching.{match-paired, match-sound, match-pairs, match-writable, match-inside, matched-same, matched-differ}
+use Rattle.chart.proofs.MatchedRows.{match-paired, match-sound, match-pairs, match-writable, match-inside, matched-same, matched-differ}
 use Rattle.chart.proofs.compare.match_rows.Statement.{statement}
 use Rattle.chart.proofs.compare.match_rows.Tie as tie
 

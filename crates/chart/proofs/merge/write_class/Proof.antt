@@ -37,8 +37,8 @@ fits c =
     let start = c .before .before .before .before in
     place start (first c)
 
-put-row-requires : tie.Need-put-row-requires
-put-row-requires c κs =
+put-mapped-requires : tie.Need-put-mapped-requires
+put-mapped-requires c κs =
     let new = c .before .before .before .before in
     let start = new .before .before .before .before in
     let (x, y) = fits new in
@@ -57,7 +57,7 @@ returns-2 c =
     let at-wide = new .before in
     record {
       again = λ h. absurd (omega (arith, at-wide .wide .ensures, new .if1 .left));
-      new = λ h. (refl, put .put-row .ensures);
+      new = λ h. (refl, put .put-mapped .ensures);
     }
 
 pub write-class-spec : {M : Type 1} → statement M
@@ -78,4 +78,4 @@ write-class-spec =
     (λ c.
     let at-if1 = c .before .before .before .before in
     omega (arith, fits at-if1))
-    put-row-requires (λ c. search needs) (λ c. search needs) returns-2)
+    put-mapped-requires (λ c. search needs) (λ c. search needs) returns-2)

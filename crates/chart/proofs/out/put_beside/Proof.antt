@@ -1,6 +1,6 @@
 -- The values as they are, then the beliefs shifted. Assumes nothing.
 use borrow.Author.Needs.{needs}
-use Rattle.chart.proofs.Outing.{put-row}
+use Rattle.chart.proofs.RowsOut.{put-row}
 use Rattle.chart.proofs.out.put_beside.Statement.{statement}
 use Rattle.chart.proofs.out.put_beside.Tie as tie
 

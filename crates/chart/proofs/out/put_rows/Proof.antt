@@ -6,7 +6,7 @@ use native.Mathlib.Omega.{arith}
 use borrow.Author.Needs.{needs}
 use Rattle.chart.specs.Contracts.Out.{RowsPut}
 use Rattle.chart.specs.Laws.Cells.{row-in}
-use Rattle.chart.proofs.Outing.{rows-start, rows-next, rows-all}
+use Rattle.chart.proofs.RowsOut.{rows-start, rows-next, rows-all}
 use Rattle.chart.proofs.out.put_rows.Statement.{statement}
 use Rattle.chart.proofs.out.put_rows.Tie as tie
 

@@ -5,7 +5,7 @@ use lib.ListN.{length, length-set}
 use native.Mathlib.Omega.{arith}
 use borrow.Author.Needs.{needs}
 use Rattle.chart.specs.Contracts.Out.{PartPut}
-use Rattle.chart.proofs.Outing.{put-none, put-same, put-all}
+use Rattle.chart.proofs.RowsOut.{put-none, put-same, put-all}
 use Rattle.chart.proofs.out.put_values.Statement.{statement}
 use Rattle.chart.proofs.out.put_values.Tie as tie
 

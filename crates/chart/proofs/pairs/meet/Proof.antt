@@ -3,7 +3,7 @@ use Prim.Native.Nat.{_+_, _*_, _≤_}
 use lib.ListN.{length}
 use native.Mathlib.Omega.{arith}
 use borrow.Author.Needs.{needs}
-use Rattle.chart.proofs.Pairing.{puts, stored-long, pair-again, pair-new}
+use Rattle.chart.proofs.MetPairs.{puts, stored-long, pair-again, pair-new}
 use Rattle.chart.proofs.pairs.meet.Statement.{statement}
 use Rattle.chart.proofs.pairs.meet.Tie as tie
 

@@ -2,7 +2,7 @@
 use Prim.Native.Nat.{_-_, _<_}
 use native.Mathlib.Omega.{arith}
 use Rattle.chart.specs.Laws.Cells.{row-in}
-use Rattle.chart.proofs.Pairing.{entries-most, Follows, follows-start, follows-left, follows-right, follows-meet, follows-more, follows-all}
+use Rattle.chart.proofs.MetPairs.{entries-most, Follows, follows-start, follows-left, follows-right, follows-meet, follows-more, follows-all}
 use Rattle.chart.proofs.pairs.meet_beliefs.Statement.{statement}
 use Rattle.chart.proofs.pairs.meet_beliefs.Tie as tie
 

@@ -1,7 +1,7 @@
 -- All marks are cleared, then one pair is met. Assumes nothing.
 use native.Mathlib.Omega.{arith}
 use borrow.Author.Needs.{needs}
-use Rattle.chart.proofs.Pairing.{first-met}
+use Rattle.chart.proofs.MetPairs.{first-met}
 use Rattle.chart.proofs.pairs.meet_first.Statement.{statement}
 use Rattle.chart.proofs.pairs.meet_first.Tie as tie
 

@@ -4,7 +4,7 @@ use Prim.Native.Nat.{_-_, _<_}
 use lib.ListN.{length}
 use native.Mathlib.Omega.{arith}
 use borrow.Author.Needs.{needs}
-use Rattle.chart.proofs.Seeking.{Seeking, seeking-start, seeking-few, seeking-place, seeking-paired, seeking-sound, seeking-pairs, seeking-other, seeking-more, seeking-none}
+use Rattle.chart.proofs.SoughtPair.{Seeking, seeking-start, seeking-few, seeking-place, seeking-paired, seeking-sound, seeking-pairs, seeking-other, seeking-more, seeking-none}
 use Rattle.chart.proofs.pairs.seek.Statement.{statement}
 use Rattle.chart.proofs.pairs.seek.Tie as tie
 

@@ -4,7 +4,7 @@ use Prim.Native.Nat.{ℕ, suc, _-_, _<_, _≤_, _+_}
 use lib.ListN.{length}
 use native.Mathlib.Omega.{arith}
 use Rattle.chart.specs.Inner.Pairs.{Ways}
-use Rattle.chart.proofs.Tracing.{way-step}
+use Rattle.chart.proofs.WayBack.{way-step}
 use Rattle.chart.proofs.pairs.way_length.Statement.{statement}
 use Rattle.chart.proofs.pairs.way_length.Tie as tie
 

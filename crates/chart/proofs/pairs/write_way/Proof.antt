@@ -5,7 +5,7 @@ use lib.ListN.{length, length-set}
 use native.Mathlib.Omega.{arith}
 use borrow.Author.Needs.{needs}
 use Rattle.chart.specs.Inner.Pairs.{charAt}
-use Rattle.chart.proofs.Tracing.{way-step, Tracing, tracing-start, tracing-some, tracing-more, tracing-end}
+use Rattle.chart.proofs.WayBack.{way-step, Tracing, tracing-start, tracing-some, tracing-more, tracing-end}
 use Rattle.chart.proofs.pairs.write_way.Statement.{statement}
 use Rattle.chart.proofs.pairs.write_way.Tie as tie
 

@@ -1,7 +1,7 @@
 -- Rows of different classes are not alike; of one class they are where the classes of their beliefs agree. Assumes nothing.
 use native.Mathlib.Omega.{arith}
 use borrow.Author.Needs.{needs}
-use Rattle.chart.proofs.Sorting.{decided-no, decides-as, agrees-decides}
+use Rattle.chart.proofs.Classes.{decided-no, decides-as, agrees-decides}
 use Rattle.chart.proofs.partition.alike.Statement.{statement}
 use Rattle.chart.proofs.partition.alike.Tie as tie
 

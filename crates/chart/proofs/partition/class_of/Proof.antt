@@ -3,8 +3,8 @@ use mathlib.Core.Path.{sym}
 use Prim.Native.Nat.{_-_}
 use native.Mathlib.Omega.{arith}
 use borrow.Author.Needs.{needs}
-use Rattle.chart.proofs.Sorting.{refuted}
-use Rattle.chart.proofs.Leveling.{NoneBelow, against-row, against-finer, against-values, none-since, class-found, class-none, none-more}
+use Rattle.chart.proofs.Classes.{refuted}
+use Rattle.chart.proofs.Levels.{NoneBelow, against-row, against-finer, against-values, none-since, class-found, class-none, none-more}
 use Rattle.chart.proofs.partition.class_of.Statement.{statement}
 use Rattle.chart.proofs.partition.class_of.Tie as tie
 

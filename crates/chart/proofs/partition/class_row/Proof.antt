@@ -1,6 +1,6 @@
 -- A row alike to a leading row gets its class; else it leads the next. Assumes nothing.
 use borrow.Author.Needs.{needs}
-use Rattle.chart.proofs.Leveling.{row-old, row-new}
+use Rattle.chart.proofs.Levels.{row-old, row-new}
 use Rattle.chart.proofs.partition.class_row.Statement.{statement}
 use Rattle.chart.proofs.partition.class_row.Tie as tie
 

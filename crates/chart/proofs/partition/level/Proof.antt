@@ -4,7 +4,7 @@ use Prim.Native.Nat.{_-_}
 use lib.ListN.{length}
 use native.Mathlib.Omega.{arith}
 use borrow.Author.Needs.{needs}
-use Rattle.chart.proofs.Leveling.{Leveling, leveling-none, leveling-against, leveling-row, leveling-end}
+use Rattle.chart.proofs.Levels.{Leveling, leveling-none, leveling-against, leveling-row, leveling-end}
 use Rattle.chart.proofs.partition.level.Statement.{statement}
 use Rattle.chart.proofs.partition.level.Tie as tie
 

@@ -6,7 +6,7 @@ use native.Mathlib.Omega.{arith}
 use Rattle.chart.specs.Chart.{Ordered}
 use Rattle.pack.specs.Contracts.Table.{rowsAt}
 use Rattle.chart.specs.Contracts.Level.{Levels}
-use Rattle.chart.proofs.Parting.{Parting, levels-same, valued-many, ordered-valued, parting-start, parted-since, parting-sound, parting-finer, parting-many, parting-done, parting-apart, parting-more}
+use Rattle.chart.proofs.PartitionLevels.{Parting, levels-same, valued-many, ordered-valued, parting-start, parted-since, parting-sound, parting-finer, parting-many, parting-done, parting-apart, parting-more}
 use Rattle.chart.proofs.partition.partition.Statement.{statement}
 use Rattle.chart.proofs.partition.partition.Tie as tie
 

@@ -5,7 +5,7 @@ use lib.ListN.{length}
 use native.Mathlib.Omega.{arith}
 use borrow.Author.Needs.{needs}
 use Rattle.chart.specs.Laws.Numbering.{numbering-none}
-use Rattle.chart.proofs.Copying.{Copying, copying-start, copying-row, copying-end, laid-same, sound-same}
+use Rattle.chart.proofs.CopyPass.{Copying, copying-start, copying-row, copying-end, laid-same, sound-same}
 use Rattle.chart.proofs.pass.copy_reachable.Statement.{statement}
 use Rattle.chart.proofs.pass.copy_reachable.Tie as tie
 

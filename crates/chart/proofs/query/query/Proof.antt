@@ -3,7 +3,7 @@ use mathlib.Core.Path.{sym}
 use native.Mathlib.Omega.{arith}
 use lib.Seq.{length-take-le}
 use borrow.Author.Needs.{needs}
-use Rattle.chart.proofs.Asking.{ask-refused, ask-look, ask-value}
+use Rattle.chart.proofs.QueryCall.{ask-refused, ask-look, ask-value}
 use Rattle.chart.proofs.query.query.Statement.{statement}
 use Rattle.chart.proofs.query.query.Tie as tie
 

@@ -2,7 +2,7 @@
 use mathlib.Core.Path.{_∙_}
 use native.Mathlib.Omega.{arith}
 use borrow.Author.Needs.{needs}
-use Rattle.chart.proofs.Starting.{merge-laid, merge-levels, merge-room, merge-target, merge-classed, merge-copied, merge-merged}
+use Rattle.chart.proofs.MergedStart.{merge-laid, merge-levels, merge-room, merge-target, merge-classed, merge-copied, merge-merged}
 use Rattle.chart.proofs.start.merge_table.Statement.{statement}
 use Rattle.chart.proofs.start.merge_table.Tie as tie
 

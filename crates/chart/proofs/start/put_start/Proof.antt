@@ -2,7 +2,7 @@
 use mathlib.Core.Path.{_∙_}
 use borrow.Author.Needs.{needs}
 use Rattle.chart.specs.Laws.LoadedNodes.{read-copies, read-merges}
-use Rattle.chart.proofs.Starting.{start-writes, start-put}
+use Rattle.chart.proofs.MergedStart.{start-writes, start-put}
 use Rattle.chart.proofs.start.put_start.Statement.{statement}
 use Rattle.chart.proofs.start.put_start.Tie as tie
 

@@ -1,7 +1,7 @@
 -- The checks, and then the chart. Assumes nothing.
 use native.Mathlib.Omega.{arith}
 use borrow.Author.Needs.{needs}
-use Rattle.chart.proofs.Beginning.{begin-refused, begin-ready, begin-done}
+use Rattle.chart.proofs.StartCall.{begin-refused, begin-ready, begin-done}
 use Rattle.chart.proofs.start.start.Statement.{statement}
 use Rattle.chart.proofs.start.start.Tie as tie
 

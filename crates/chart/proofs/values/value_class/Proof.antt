@@ -4,7 +4,7 @@ use Prim.Native.Nat.{suc, _+_, _*_, _-_, _<_, _≤_}
 use lib.ListN.{length}
 use native.Mathlib.Omega.{arith}
 use borrow.Author.Needs.{needs}
-use Rattle.chart.proofs.Valuing.{agrees-values, agrees-not, Looking, looking-start, looking-room, looking-lower, looking-found, looking-next, looking-none}
+use Rattle.chart.proofs.ValueClasses.{agrees-values, agrees-not, Looking, looking-start, looking-room, looking-lower, looking-found, looking-next, looking-none}
 use Rattle.chart.proofs.values.value_class.Statement.{statement}
 use Rattle.chart.proofs.values.value_class.Tie as tie
 

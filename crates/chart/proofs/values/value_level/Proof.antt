@@ -3,7 +3,7 @@ use mathlib.Core.Path.{_≡_, refl, sym, _∙_}
 use Prim.Native.Nat.{ℕ, _-_}
 use lib.ListN.{length, getD-replicate}
 use borrow.Author.Needs.{needs}
-use Rattle.chart.proofs.Valuing.{Valuing, valuing-none, valuing-next, valuing-row, valuing-end}
+use Rattle.chart.proofs.ValueClasses.{Valuing, valuing-none, valuing-next, valuing-row, valuing-end}
 use Rattle.chart.proofs.values.value_level.Statement.{statement}
 use Rattle.chart.proofs.values.value_level.Tie as tie
 

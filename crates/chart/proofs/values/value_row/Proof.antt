@@ -4,24 +4,24 @@ use native.Mathlib.Omega.{arith}
 use Prim.Native.Nat.{_+_, _<_}
 use lib.ListN.{length, length-set}
 use borrow.Author.Needs.{needs}
-use Rattle.chart.proofs.Valuing.{row-inside, chain-at, valued-old, valued-new}
+use Rattle.chart.proofs.ValueClasses.{row-inside, chain-at, valued-old, valued-new}
 use Rattle.chart.proofs.values.value_row.Statement.{statement}
 use Rattle.chart.proofs.values.value_row.Tie as tie
 
-mul-mark : tie.Need-mul-mark
-mul-mark c =
+mul-value-hash : tie.Need-mul-value-hash
+mul-value-hash c =
     let start = c .before .before .before .before in
     let v = start .pre .0 in
     omega (arith, row-inside v _ (v .row))
 
-add-mark : tie.Need-add-mark
-add-mark c =
+add-value-hash : tie.Need-add-value-hash
+add-value-hash c =
     let start = c .before .before .before .before .before in
     let v = start .pre .0 in
     omega (arith, row-inside v _ (v .row))
 
-mark-requires : tie.Need-mark-requires
-mark-requires c κs =
+value-hash-requires : tie.Need-value-hash-requires
+value-hash-requires c κs =
     let start = c .before .before .before .before .before in
     let v = start .pre .0 in
     row-inside v _ (v .row)
@@ -31,7 +31,7 @@ value-class-requires c κs =
     let marked = c .before .before .before in
     let start = marked .before .before .before .before .before .before in
     let (v, x) = start .pre in
-    let (e, h) = marked .mark .ensures in
+    let (e, h) = marked .value-hash .ensures in
     chain-at v x h e (sym (c .wide .ensures))
 
 returns : tie.Need-returns
@@ -66,13 +66,13 @@ returns-2 c =
     let marked = held .before .before .before .before in
     let start = marked .before .before .before .before .before .before in
     let (v, x) = start .pre in
-    let (e, h) = marked .mark .ensures in
+    let (e, h) = marked .value-hash .ensures in
     valued-new v x (held .value-class .ensures) (new .if1 .left) h e refl
 
 pub value-row-spec : {M : Type 1} → statement M
 value-row-spec =
     tie.close
-    (tie.spec mul-mark add-mark mark-requires (λ c. search needs) (λ c κs. search needs) value-class-requires
+    (tie.spec mul-value-hash add-value-hash value-hash-requires (λ c. search needs) (λ c κs. search needs) value-class-requires
     (λ c. search needs) (λ c. search needs) (λ c. search needs) (λ c. search needs) returns (λ c. search needs)
     (λ c. search needs) slice-write-work-2 (λ c. search needs) slice-write-work-3 (λ c. search needs) (λ c. search needs)
     (λ c. search needs) (λ c. search needs) (λ c. search needs) (λ c. search needs) returns-2)

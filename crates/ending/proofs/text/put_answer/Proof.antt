@@ -2,7 +2,7 @@
 use native.Mathlib.Omega.{arith}
 use borrow.Author.Needs.{needs}
 use Rattle.ending.proofs.Pieces.{put-append, put-length}
-use Rattle.ending.proofs.Telling.{listed-as, told-as, refused-as}
+use Rattle.ending.proofs.AnswerText.{listed-as, told-as, refused-as}
 use Rattle.ending.proofs.text.put_answer.Statement.{statement}
 use Rattle.ending.proofs.text.put_answer.Tie as tie
 

@@ -106,4 +106,4 @@ passes-spec =
     let chain = at-follow .before in
     let start = chain .before .before .before .before in
     let within = test-in (start .pre .dimensions) (start .args .t .characters) (start .args .t .fluents) (start .pre .over .small) (start .pre .over .characters) (start .pre .over .fluents) (start .args .s .now) (start .args .at) (start .pre .value) (start .pre .end) (start .pre .reads) (chain .wide .result) (chain .wide .ensures) in
-    λ d over x n e. c .compare .ensures .0 (within .known) ∙ ap (λ k. compares (kindOf (getD (start .args .s .now) (((start .args .at) + 1) + (chain .wide .result)) 0)) (getD (start .args .buffer .now) ((start .args .t .rows + at-follow .follow .result * start .args .t .width) + k) 0) (getD (start .args .s .now) ((((start .args .at) + 1) + (chain .wide .result)) + 2) 0)) (sym (at-wide2 .wide2 .ensures)) ∙ sym (passes-by (start .args .t) (start .args .buffer .now) (start .args .node) d over (start .args .s .now) (start .args .at) x n e (chain .wide .result) (at-follow .follow .result) (chain .wide .ensures) (at-follow .follow .ensures .0) (at-follow .follow .ensures .1))))
+    λ d over x n e. c .relates .ensures .0 (within .known) ∙ ap (λ k. compares (kindOf (getD (start .args .s .now) (((start .args .at) + 1) + (chain .wide .result)) 0)) (getD (start .args .buffer .now) ((start .args .t .rows + at-follow .follow .result * start .args .t .width) + k) 0) (getD (start .args .s .now) ((((start .args .at) + 1) + (chain .wide .result)) + 2) 0)) (sym (at-wide2 .wide2 .ensures)) ∙ sym (passes-by (start .args .t) (start .args .buffer .now) (start .args .node) d over (start .args .s .now) (start .args .at) x n e (chain .wide .result) (at-follow .follow .result) (chain .wide .ensures) (at-follow .follow .ensures .0) (at-follow .follow .ensures .1))))

@@ -3,7 +3,7 @@ use Prim.Native.Nat.{_+_, _*_}
 use native.Mathlib.Omega.{arith}
 use borrow.Author.Needs.{needs}
 use borrow.Author.Tests.{eqb-true}
-use Rattle.planner.proofs.Remembering.{unset, key-same}
+use Rattle.planner.proofs.TrueMemory.{unset, key-same}
 use Rattle.planner.proofs.entry.keyed.Statement.{statement}
 use Rattle.planner.proofs.entry.keyed.Tie as tie
 

@@ -3,7 +3,7 @@ use Prim.Native.Nat.{_+_, _%_}
 use native.Mathlib.Omega.{arith}
 use lib.ListN.{set, length-set}
 use borrow.Author.Needs.{needs}
-use Rattle.planner.proofs.Remembering.{key-put, long2, long4}
+use Rattle.planner.proofs.TrueMemory.{key-put, long2, long4}
 use Rattle.planner.proofs.entry.put_key.Statement.{statement}
 use Rattle.planner.proofs.entry.put_key.Tie as tie
 

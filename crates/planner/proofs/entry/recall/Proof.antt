@@ -1,7 +1,7 @@
 -- What an entry with the table's id and this key says. Assumes nothing.
 use native.Mathlib.Omega.{arith}
 use borrow.Author.Tests.{not-false}
-use Rattle.planner.proofs.Remembering.{recalled-none, recalled}
+use Rattle.planner.proofs.TrueMemory.{recalled-none, recalled}
 use borrow.Author.Needs.{needs}
 use Rattle.planner.proofs.entry.recall.Statement.{statement}
 use Rattle.planner.proofs.entry.recall.Tie as tie

@@ -3,7 +3,7 @@ use mathlib.Core.Path.{_∙_}
 use Prim.Native.Nat.{_+_}
 use native.Mathlib.Omega.{arith}
 use lib.ListN.{length-set}
-use Rattle.planner.proofs.Remembering.{remembered-none, remembered}
+use Rattle.planner.proofs.TrueMemory.{remembered-none, remembered}
 use borrow.Author.Needs.{needs}
 use Rattle.planner.proofs.entry.remember.Statement.{statement}
 use Rattle.planner.proofs.entry.remember.Tie as tie

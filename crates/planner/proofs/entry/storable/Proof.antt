@@ -2,7 +2,7 @@
 use native.Mathlib.Omega.{arith}
 use borrow.Author.Needs.{needs}
 use borrow.Author.Tests.{ltb-true}
-use Rattle.planner.proofs.Remembering.{unset}
+use Rattle.planner.proofs.TrueMemory.{unset}
 use Rattle.planner.proofs.entry.storable.Statement.{statement}
 use Rattle.planner.proofs.entry.storable.Tie as tie
 

@@ -18,9 +18,9 @@ use Rattle.planner.specs.Inner.Lists.{slotTable, AboveBy}
 use Rattle.planner.specs.Inner.Lists as inner
 use Rattle.planner.specs.Inner.Memory.{deedKey, Memory}
 use Rattle.planner.specs.Inner.Explain.{Stage, Free}
-use Rattle.planner.proofs.Remembering.{memory-fewer}
-use Rattle.planner.proofs.Looking.{below-far, stage-trying, stage-skipped}
-use Rattle.planner.proofs.Telling.{Content, told-none, told-by, told-no, told-yes, stage-rules, stage-utility, nextTable, next-plays, next-stage, reach-here, reach-no-more, by-hopeless, by-from, by-to, explained-from, explained-to, explained-zero, explained-plays, agreed-all, content-of, content-more, one-less, stage-row, stage-believed, consentersOf, consent-place, consent-readable, consent-count, consent-each, slot-same, stage-before, known, note, verdict, extended, noted, rules-in, utility-in}
+use Rattle.planner.proofs.TrueMemory.{memory-fewer}
+use Rattle.planner.proofs.Pruning.{below-far, stage-trying, stage-skipped}
+use Rattle.planner.proofs.Explanations.{Content, told-none, told-by, told-no, told-yes, stage-rules, stage-utility, nextTable, next-plays, next-stage, reach-here, reach-no-more, by-hopeless, by-from, by-to, explained-from, explained-to, explained-zero, explained-plays, agreed-all, content-of, content-more, one-less, stage-row, stage-believed, consentersOf, consent-place, consent-readable, consent-count, consent-each, slot-same, stage-before, known, note, verdict, extended, noted, rules-in, utility-in}
 use borrow.Fn.Kinds.{In}
 use borrow.Fn.PlainCycle.{Measures, is, falls, and}
 use Rattle.planner.proofs.explain.allowed.Reads as allowed

@@ -3,7 +3,7 @@ use Prim.Native.Nat.{_*_}
 use mathlib.Core.Path.{sym}
 use native.Mathlib.Omega.{arith}
 use borrow.Author.Tests.{leb-true}
-use Rattle.planner.proofs.Remembering.{unset, kept-as}
+use Rattle.planner.proofs.TrueMemory.{unset, kept-as}
 use borrow.Author.Needs.{needs}
 use Rattle.planner.proofs.intern.has_id.Statement.{statement}
 use Rattle.planner.proofs.intern.has_id.Tie as tie

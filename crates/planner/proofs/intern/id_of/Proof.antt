@@ -1,7 +1,7 @@
 -- The id that is known by the slot, or a new one. Assumes nothing.
 use Prim.Native.Nat.{_+_, _/_}
 use native.Mathlib.Omega.{arith}
-use Rattle.planner.proofs.Remembering.{naming-known}
+use Rattle.planner.proofs.TrueMemory.{naming-known}
 use borrow.Author.Needs.{needs}
 use Rattle.planner.proofs.intern.id_of.Statement.{statement}
 use Rattle.planner.proofs.intern.id_of.Tie as tie

@@ -1,7 +1,7 @@
 -- The id that a hash leads to, if it is the table's; else a new one. Assumes nothing.
 use Prim.Native.Nat.{_+_}
 use native.Mathlib.Omega.{arith}
-use Rattle.planner.proofs.Remembering.{before-now, stored-known, stored-hashed}
+use Rattle.planner.proofs.TrueMemory.{before-now, stored-known, stored-hashed}
 use borrow.Author.Needs.{needs}
 use Rattle.planner.proofs.intern.intern.Statement.{statement}
 use Rattle.planner.proofs.intern.intern.Tie as tie

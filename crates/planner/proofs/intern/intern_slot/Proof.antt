@@ -3,7 +3,7 @@ use mathlib.Core.Path.{sym, subst}
 use native.Mathlib.Omega.{arith}
 use Rattle.pack.specs.declared.table.Table.{Table}
 use Rattle.planner.specs.Inner.Memory.{Before, Stored}
-use Rattle.planner.proofs.Remembering.{naming-new}
+use Rattle.planner.proofs.TrueMemory.{naming-new}
 use borrow.Author.Needs.{needs}
 use Rattle.planner.proofs.intern.intern_slot.Statement.{statement}
 use Rattle.planner.proofs.intern.intern_slot.Tie as tie

@@ -1,5 +1,5 @@
 -- A table is kept, if need be in the place of all else. Assumes nothing.
-use Rattle.planner.proofs.Remembering.{stored-anew}
+use Rattle.planner.proofs.TrueMemory.{stored-anew}
 use borrow.Author.Needs.{needs}
 use Rattle.planner.proofs.intern.keep.Statement.{statement}
 use Rattle.planner.proofs.intern.keep.Tie as tie

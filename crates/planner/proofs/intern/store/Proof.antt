@@ -3,7 +3,7 @@ use Prim.Native.Nat.{_+_, _*_, _/_}
 use mathlib.Core.Path.{refl, _∙_}
 use native.Mathlib.Omega.{arith}
 use lib.ListN.{length-set}
-use Rattle.planner.proofs.Remembering.{table-size, stored-none, stored-new}
+use Rattle.planner.proofs.TrueMemory.{table-size, stored-none, stored-new}
 use borrow.Author.Needs.{needs}
 use Rattle.planner.proofs.intern.store.Statement.{statement}
 use Rattle.planner.proofs.intern.store.Tie as tie

@@ -3,7 +3,7 @@ use native.Mathlib.Omega.{arith}
 use borrow.Author.Needs.{needs}
 use borrow.Author.Tests.{not-true, not-false}
 use Rattle.pack.specs.Grammar.{testAt}
-use Rattle.planner.proofs.Looking.{Rest, run-start, run-stop, run-on, run-none, testRun, look-next, look-inside, test-there, test-end, all-by, all-none}
+use Rattle.planner.proofs.Pruning.{Rest, run-start, run-stop, run-on, run-none, testRun, look-next, look-inside, test-there, test-end, all-by, all-none}
 use Rattle.planner.proofs.prune.could_all.Statement.{statement}
 use Rattle.planner.proofs.prune.could_all.Tie as tie
 

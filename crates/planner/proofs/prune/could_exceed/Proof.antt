@@ -7,7 +7,7 @@ use borrow.Author.Tests.{not-true}
 use Rattle.pack.specs.Contracts.Said.{said}
 use Rattle.pack.specs.Grammar.{ruleAt}
 use Rattle.pack.specs.Laws.Reading.{never, same-value, same-place}
-use Rattle.planner.proofs.Looking.{Rest, run-start, run-stop, run-last, run-on, run-none, ruleRun, rules-parts, exceed-told, look-next, look-inside, look-readable, rule-look, rule-condition, rule-number, exceed-by, exceed-not, exceed-low, exceed-none}
+use Rattle.planner.proofs.Pruning.{Rest, run-start, run-stop, run-last, run-on, run-none, ruleRun, rules-parts, exceed-told, look-next, look-inside, look-readable, rule-look, rule-condition, rule-number, exceed-by, exceed-not, exceed-low, exceed-none}
 use Rattle.planner.proofs.prune.could_exceed.Statement.{statement}
 use Rattle.planner.proofs.prune.could_exceed.Tie as tie
 

@@ -2,7 +2,7 @@
 use native.Mathlib.Omega.{arith}
 use borrow.Author.Needs.{needs}
 use Rattle.pack.specs.Contracts.Judge.{alternativeAt}
-use Rattle.planner.proofs.Looking.{Rest, run-start, run-stop, run-on, run-none, alternativeRun, condition-parts, hold-told, look-next, look-inside, look-readable, alternative-end, some-by, some-none}
+use Rattle.planner.proofs.Pruning.{Rest, run-start, run-stop, run-on, run-none, alternativeRun, condition-parts, hold-told, look-next, look-inside, look-readable, alternative-end, some-by, some-none}
 use Rattle.planner.proofs.prune.could_hold.Statement.{statement}
 use Rattle.planner.proofs.prune.could_hold.Tie as tie
 

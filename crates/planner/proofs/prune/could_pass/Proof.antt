@@ -1,7 +1,7 @@
 -- A test is left open by its chain, or by what moves its fluent; else the state says. Assumes nothing.
 use native.Mathlib.Omega.{arith}
 use borrow.Author.Needs.{needs}
-use Rattle.planner.proofs.Looking.{test-there, pass-open, pass-moved, pass-still}
+use Rattle.planner.proofs.Pruning.{test-there, pass-open, pass-moved, pass-still}
 use Rattle.planner.proofs.prune.could_pass.Statement.{statement}
 use Rattle.planner.proofs.prune.could_pass.Tie as tie
 

@@ -2,7 +2,7 @@
 use Prim.Native.Nat.{_+_, _*_, _-_}
 use native.Mathlib.Omega.{arith}
 use borrow.Author.Needs.{needs}
-use Rattle.planner.proofs.Looking.{Unmoved, acted-few, own-readable, own-moves, own-still, next-readable, next-moves, next-still, all-still}
+use Rattle.planner.proofs.Pruning.{Unmoved, acted-few, own-readable, own-moves, own-still, next-readable, next-moves, next-still, all-still}
 use Rattle.planner.proofs.prune.moves.Statement.{statement}
 use Rattle.planner.proofs.prune.moves.Tie as tie
 

@@ -5,7 +5,7 @@ use native.Mathlib.Omega.{arith}
 use borrow.Author.Needs.{needs}
 use Rattle.pack.specs.declared.table.Table.{Table}
 use Rattle.planner.specs.Inner.Look.{Tryable, Hopeless, Skipped}
-use Rattle.planner.proofs.Looking.{skipped-none, skipped-more}
+use Rattle.planner.proofs.Pruning.{skipped-none, skipped-more}
 use Rattle.planner.proofs.prune.next_promising.Statement.{statement}
 use Rattle.planner.proofs.prune.next_promising.Tie as tie
 

@@ -3,7 +3,7 @@ use Prim.Native.Nat.{_+_, _*_}
 use native.Mathlib.Omega.{arith}
 use borrow.Author.Needs.{needs}
 use borrow.Author.Tests.{not-true}
-use Rattle.planner.proofs.Looking.{unequal, try-judged, try-forbidden, try-rules, try-hopeless}
+use Rattle.planner.proofs.Pruning.{unequal, try-judged, try-forbidden, try-rules, try-hopeless}
 use Rattle.planner.proofs.prune.promising.Statement.{statement}
 use Rattle.planner.proofs.prune.promising.Tie as tie
 

@@ -16,10 +16,10 @@ use Rattle.planner.specs.Inner.Lists.{slotTable, Ends, EndsBy}
 use Rattle.planner.specs.Inner.Memory.{Memory}
 use Rattle.planner.specs.Inner.Explain.{Stage, Free}
 use Rattle.planner.specs.Inner.Search.{Best, Trail}
-use Rattle.planner.proofs.Remembering.{memory-fewer}
-use Rattle.planner.proofs.Looking.{below-far, stage-trying, stage-skipped}
-use Rattle.planner.proofs.Telling.{nextTable, next-written, next-plays, next-stage, stage-extent, slot-same, stage-before, stage-state, known, note}
-use Rattle.planner.proofs.Completing.{best-none, best-from, best-noted, best-same, fact-of-none, trail-step, trail-same, trail-repeats, on-path, best-end, best-first, best-no, best-hopeless, best-by, best-by-none, agreed-from, agreed-to}
+use Rattle.planner.proofs.TrueMemory.{memory-fewer}
+use Rattle.planner.proofs.Pruning.{below-far, stage-trying, stage-skipped}
+use Rattle.planner.proofs.Explanations.{nextTable, next-written, next-plays, next-stage, stage-extent, slot-same, stage-before, stage-state, known, note}
+use Rattle.planner.proofs.EarliestList.{best-none, best-from, best-noted, best-same, fact-of-none, trail-step, trail-same, trail-repeats, on-path, best-end, best-first, best-no, best-hopeless, best-by, best-by-none, agreed-from, agreed-to}
 use borrow.Fn.Kinds.{In}
 use borrow.Fn.PlainCycle.{Measures, is, falls, and}
 use Rattle.planner.proofs.search.completes.Reads as completes

@@ -16,9 +16,9 @@ use Rattle.planner.specs.Inner.Lists.{slotTable, Ends}
 use Rattle.planner.specs.Inner.Memory.{Memory}
 use Rattle.planner.specs.Inner.Explain.{Stage}
 use Rattle.planner.specs.Inner.Search.{Shortest}
-use Rattle.planner.proofs.Telling.{slot-same}
-use Rattle.planner.proofs.Completing.{trail-outset}
-use Rattle.planner.proofs.Seeking.{shorter, shortest-found, shortest-none}
+use Rattle.planner.proofs.Explanations.{slot-same}
+use Rattle.planner.proofs.EarliestList.{trail-outset}
+use Rattle.planner.proofs.SearchCall.{shorter, shortest-found, shortest-none}
 use Rattle.planner.proofs.search.deepen.Statement.{statement}
 use Rattle.planner.proofs.search.deepen.Tie as tie
 

@@ -3,8 +3,8 @@ use mathlib.Core.Path.{refl}
 use native.Mathlib.Omega.{arith}
 use lib.ListN.{getD}
 use Rattle.transition.specs.Laws.ChangedRows.{small}
-use Rattle.planner.proofs.Telling.{rules-in, utility-in}
-use Rattle.planner.proofs.Completing.{author-rules, author-utility}
+use Rattle.planner.proofs.Explanations.{rules-in, utility-in}
+use Rattle.planner.proofs.EarliestList.{author-rules, author-utility}
 use Rattle.planner.proofs.search.ends.Statement.{statement}
 use Rattle.planner.proofs.search.ends.Tie as tie
 

@@ -3,7 +3,7 @@ use Prim.Native.Nat.{ℕ, _+_, _*_}
 use mathlib.Core.Path.{sym, ap}
 use native.Mathlib.Omega.{arith}
 use borrow.Author.Needs.{needs}
-use Rattle.planner.proofs.Remembering.{table-size}
+use Rattle.planner.proofs.TrueMemory.{table-size}
 use Rattle.planner.proofs.search.extent.Statement.{statement}
 use Rattle.planner.proofs.search.extent.Tie as tie
 

@@ -3,7 +3,7 @@ use mathlib.Core.Path.{_∙_}
 use native.Mathlib.Omega.{arith}
 use lib.ListN.{length-set}
 use Rattle.chart.specs.Laws.LoadedNodes.{read-slim, read-copies, read-merges}
-use Rattle.planner.proofs.Laying.{merged-size, lay-down, lay-done}
+use Rattle.planner.proofs.StartSlot.{merged-size, lay-down, lay-done}
 use Rattle.planner.proofs.search.lay_start.Statement.{statement}
 use Rattle.planner.proofs.search.lay_start.Tie as tie
 

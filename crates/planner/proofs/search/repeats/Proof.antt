@@ -12,8 +12,8 @@ use Rattle.chart.specs.Contracts.Level.{SameByte}
 use native.Mathlib.Omega.{arith}
 use borrow.Author.Needs.{needs}
 use Rattle.planner.specs.Inner.Lists.{slotTable}
-use Rattle.planner.proofs.Remembering.{unset, table-size, state-moved}
-use Rattle.planner.proofs.Repeating.{same-state-bytes}
+use Rattle.planner.proofs.TrueMemory.{unset, table-size, state-moved}
+use Rattle.planner.proofs.SameBytes.{same-state-bytes}
 use Rattle.planner.proofs.search.repeats.Statement.{statement}
 use Rattle.planner.proofs.search.repeats.Tie as tie
 

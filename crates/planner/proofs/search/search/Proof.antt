@@ -1,7 +1,7 @@
 -- The checks, and then the search. Assumes nothing.
 use native.Mathlib.Omega.{arith}
 use borrow.Author.Needs.{needs}
-use Rattle.planner.proofs.Seeking.{search-refused, search-able, search-done}
+use Rattle.planner.proofs.SearchCall.{search-refused, search-able, search-done}
 use Rattle.planner.proofs.search.search.Statement.{statement}
 use Rattle.planner.proofs.search.search.Tie as tie
 

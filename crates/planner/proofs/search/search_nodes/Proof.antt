@@ -7,10 +7,10 @@ use borrow.Author.Needs.{needs}
 use Rattle.pack.specs.Syntax.{Theory, Node}
 use Rattle.pack.specs.State.{meaning}
 use Rattle.planner.specs.Ending.{authorUtility}
-use Rattle.planner.proofs.Telling.{rules-in, utility-in}
+use Rattle.planner.proofs.Explanations.{rules-in, utility-in}
 use Rattle.planner.specs.Inner.Search.{Seeking}
-use Rattle.planner.proofs.Completing.{author-rules, author-utility}
-use Rattle.planner.proofs.Seeking.{seek-laying, seekTable, seek-slot, seek-memory, seek-base, seek-from, seek-same, seek-none, seek-found}
+use Rattle.planner.proofs.EarliestList.{author-rules, author-utility}
+use Rattle.planner.proofs.SearchCall.{seek-laying, seekTable, seek-slot, seek-memory, seek-base, seek-from, seek-same, seek-none, seek-found}
 use Rattle.planner.proofs.search.search_nodes.Statement.{statement}
 use Rattle.planner.proofs.search.search_nodes.Tie as tie
 

@@ -5,7 +5,7 @@ use mathlib.Core.List.{List}
 use native.Mathlib.Omega.{arith}
 use Rattle.chart.specs.Contracts.Put.{PartCopied}
 use Rattle.chart.specs.Laws.Cells.{rows-most}
-use Rattle.planner.proofs.Remembering.{copied-again, refused-again}
+use Rattle.planner.proofs.TrueMemory.{copied-again, refused-again}
 use borrow.Author.Needs.{needs}
 use Rattle.planner.proofs.steps.again.Statement.{statement}
 use Rattle.planner.proofs.steps.again.Tie as tie

@@ -7,7 +7,7 @@ use Rattle.pack.specs.declared.table.Table.{Table}
 use Rattle.transition.specs.Laws.ChangedRows.{small}
 use Rattle.planner.specs.Inner.Memory.{Interning}
 use Rattle.planner.specs.Inner.Explain.{Advanced}
-use Rattle.planner.proofs.Telling.{stage-before, stage-slot, stage-same, stage-setting, table-stage, known-fact, step-again, step-left, step-refused}
+use Rattle.planner.proofs.Explanations.{stage-before, stage-slot, stage-same, stage-setting, table-stage, known-fact, step-again, step-left, step-refused}
 use borrow.Author.Needs.{needs}
 use Rattle.planner.proofs.steps.known_step.Statement.{statement}
 use Rattle.planner.proofs.steps.known_step.Tie as tie

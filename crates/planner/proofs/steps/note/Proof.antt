@@ -1,7 +1,7 @@
 -- A step put down by the id of the table's slot. Assumes nothing.
 use Prim.Native.Nat.{_+_, _/_}
 use native.Mathlib.Omega.{arith}
-use Rattle.planner.proofs.Remembering.{noted-step}
+use Rattle.planner.proofs.TrueMemory.{noted-step}
 use borrow.Author.Needs.{needs}
 use Rattle.planner.proofs.steps.note.Statement.{statement}
 use Rattle.planner.proofs.steps.note.Tie as tie

@@ -3,7 +3,7 @@ use Prim.Native.Nat.{_+_, _/_}
 use mathlib.Core.Path.{_∙_}
 use native.Mathlib.Omega.{arith}
 use lib.ListN.{length-set}
-use Rattle.planner.proofs.Remembering.{before-now, left-before, left-noted, left-unnoted}
+use Rattle.planner.proofs.TrueMemory.{before-now, left-before, left-noted, left-unnoted}
 use borrow.Author.Needs.{needs}
 use Rattle.planner.proofs.steps.note_left.Statement.{statement}
 use Rattle.planner.proofs.steps.note_left.Tie as tie

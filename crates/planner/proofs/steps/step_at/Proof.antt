@@ -1,5 +1,5 @@
 -- The place of an entry. Assumes nothing.
-use Rattle.planner.proofs.Remembering.{placed}
+use Rattle.planner.proofs.TrueMemory.{placed}
 use native.Mathlib.Omega.{arith}
 use borrow.Author.Needs.{needs}
 use Rattle.planner.proofs.steps.step_at.Statement.{statement}

@@ -1,7 +1,7 @@
 -- An entry's id, row and action. Assumes nothing.
 use native.Mathlib.Omega.{arith}
 use borrow.Author.Tests.{eqb-true}
-use Rattle.planner.proofs.Remembering.{unset}
+use Rattle.planner.proofs.TrueMemory.{unset}
 use borrow.Author.Needs.{needs}
 use Rattle.planner.proofs.steps.step_is.Statement.{statement}
 use Rattle.planner.proofs.steps.step_is.Tie as tie

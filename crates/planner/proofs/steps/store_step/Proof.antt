@@ -2,7 +2,7 @@
 use Prim.Native.Nat.{_+_}
 use native.Mathlib.Omega.{arith}
 use lib.ListN.{set, length-set}
-use Rattle.planner.proofs.Remembering.{step-put}
+use Rattle.planner.proofs.TrueMemory.{step-put}
 use borrow.Author.Needs.{needs}
 use Rattle.planner.proofs.steps.store_step.Statement.{statement}
 use Rattle.planner.proofs.steps.store_step.Tie as tie

@@ -2,7 +2,7 @@
 use native.Mathlib.Omega.{arith}
 use borrow.Author.Needs.{needs}
 use Rattle.chart.specs.Laws.LoadedNodes.{read-copies}
-use Rattle.planner.proofs.Judging.{judge-ready, judge-memory, judge-high, judge-free, judge-verdict}
+use Rattle.planner.proofs.ExplainedCall.{judge-ready, judge-memory, judge-high, judge-free, judge-verdict}
 use Rattle.planner.proofs.verdict.verdict_in.Statement.{statement}
 use Rattle.planner.proofs.verdict.verdict_in.Tie as tie
 

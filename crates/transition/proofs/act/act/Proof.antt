@@ -2,7 +2,7 @@
 use native.Mathlib.Omega.{arith}
 use Prim.Native.Nat.{_+_, _*_}
 use borrow.Author.Needs.{needs}
-use Rattle.transition.proofs.Acting.{act-places, act-telling, scene, act-stands, acted-in}
+use Rattle.transition.proofs.PartOne.{act-places, act-telling, scene, act-stands, acted-in}
 use Rattle.transition.proofs.act.act.Statement.{statement}
 use Rattle.transition.proofs.act.act.Tie as tie
 

@@ -1,7 +1,7 @@
 -- Everyone, or those whose condition holds. Assumes nothing.
 use native.Mathlib.Omega.{arith}
 use Prim.Native.Nat.{_+_}
-use Rattle.transition.proofs.Causing.{took-all, watched-judged, took-judged}
+use Rattle.transition.proofs.Effects.{took-all, watched-judged, took-judged}
 use Rattle.transition.proofs.cause.takes.Statement.{statement}
 use Rattle.transition.proofs.cause.takes.Tie as tie
 

@@ -1,7 +1,7 @@
 -- Behind the pack's end there are none; elsewhere the effects are asked. Assumes nothing.
 use native.Mathlib.Omega.{arith}
 use borrow.Author.Needs.{needs}
-use Rattle.transition.proofs.Causing.{effects-there, tell-nothing}
+use Rattle.transition.proofs.Effects.{effects-there, tell-nothing}
 use Rattle.transition.proofs.cause.tells.Statement.{statement}
 use Rattle.transition.proofs.cause.tells.Tie as tie
 

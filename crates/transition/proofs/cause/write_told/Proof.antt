@@ -1,7 +1,7 @@
 -- Effects stand before the pack's end, or there are none. Assumes nothing.
 use native.Mathlib.Omega.{arith}
 use borrow.Author.Needs.{needs}
-use Rattle.transition.proofs.Causing.{told-writable, told-written, told-nothing}
+use Rattle.transition.proofs.Effects.{told-writable, told-written, told-nothing}
 use Rattle.transition.proofs.cause.write_told.Statement.{statement}
 use Rattle.transition.proofs.cause.write_told.Tie as tie
 

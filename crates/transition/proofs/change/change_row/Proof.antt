@@ -7,7 +7,7 @@ use borrow.Author.Needs.{needs}
 use Rattle.chart.specs.Laws.Numbering.{numbering-same}
 use Rattle.transition.specs.Laws.Changed.{There}
 use Rattle.transition.specs.Inner.Change.{memberOf}
-use Rattle.transition.proofs.Rowing.{row-room, row-made}
+use Rattle.transition.proofs.ChangePass.{row-room, row-made}
 use Rattle.transition.proofs.change.change_row.Statement.{statement}
 use Rattle.transition.proofs.change.change_row.Tie as tie
 

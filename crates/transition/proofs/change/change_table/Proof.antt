@@ -7,7 +7,7 @@ use borrow.Author.Needs.{needs}
 use Rattle.chart.specs.Laws.Numbering.{numbering-none}
 use Rattle.transition.specs.Inner.Change.{Scene, Stands, Laid}
 use Rattle.transition.specs.Laws.ChangedRows.{stands-same}
-use Rattle.transition.proofs.Rowing.{slotsOf, First, Making, making-start, making-real, making-row, making-end}
+use Rattle.transition.proofs.ChangePass.{slotsOf, First, Making, making-start, making-real, making-row, making-end}
 use Rattle.transition.proofs.change.change_table.Statement.{statement}
 use Rattle.transition.proofs.change.change_table.Tie as tie
 

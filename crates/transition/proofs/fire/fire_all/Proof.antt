@@ -10,7 +10,7 @@ use Rattle.pack.specs.Syntax.{Trigger, Node}
 use Rattle.pack.specs.Grammar.{Dimensions}
 use Rattle.transition.specs.Contracts.Cause.{Tabled}
 use Rattle.transition.specs.Inner.Fire.{Triggered, FiredBelow}
-use Rattle.transition.proofs.Firing.{fired-none, fired-more, fired-all}
+use Rattle.transition.proofs.FiringTriggers.{fired-none, fired-more, fired-all}
 use Rattle.transition.proofs.fire.fire_all.Statement.{statement}
 use Rattle.transition.proofs.fire.fire_all.Tie as tie
 

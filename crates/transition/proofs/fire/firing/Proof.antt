@@ -4,7 +4,7 @@ use Prim.Native.Nat.{_+_, _*_, _-_, _<_, _≤_}
 use lib.ListN.{length}
 use native.Mathlib.Omega.{arith}
 use borrow.Author.Needs.{needs}
-use Rattle.transition.proofs.Firing.{Idle, fire-judged, idle-more, fires-here, fires-nothing}
+use Rattle.transition.proofs.FiringTriggers.{Idle, fire-judged, idle-more, fires-here, fires-nothing}
 use Rattle.transition.proofs.fire.firing.Statement.{statement}
 use Rattle.transition.proofs.fire.firing.Tie as tie
 

@@ -3,7 +3,7 @@ use mathlib.Core.Path.{sym, _∙_}
 use native.Mathlib.Omega.{arith}
 use borrow.Author.Needs.{needs}
 use Rattle.chart.specs.Laws.LoadedNodes.{read-copies}
-use Rattle.transition.proofs.Stepping.{step-setting, step-refused, step-writes, step-left}
+use Rattle.transition.proofs.StepOnCharts.{step-setting, step-refused, step-writes, step-left}
 use Rattle.transition.proofs.play.play.Statement.{statement}
 use Rattle.transition.proofs.play.play.Tie as tie
 

@@ -3,7 +3,7 @@ use mathlib.Core.Path.{refl, sym}
 use native.Mathlib.Omega.{arith}
 use lib.Seq.{length-take-le}
 use borrow.Author.Needs.{needs}
-use Rattle.transition.proofs.Stepped.{step-no, step-able, step-done}
+use Rattle.transition.proofs.StepCall.{step-no, step-able, step-done}
 use Rattle.transition.proofs.play.step.Statement.{statement}
 use Rattle.transition.proofs.play.step.Tie as tie
 

@@ -12,7 +12,7 @@ use Rattle.pack.specs.Grammar.{Dimensions}
 use Rattle.pack.specs.Contracts.Judge.{Small}
 use Rattle.transition.specs.Contracts.Cause.{EffectsAt}
 use Rattle.transition.specs.Inner.Round.{Silent}
-use Rattle.transition.proofs.Acting.{clash}
+use Rattle.transition.proofs.PartOne.{clash}
 use Rattle.transition.proofs.round.all_silent.Statement.{statement}
 use Rattle.transition.proofs.round.all_silent.Tie as tie
 

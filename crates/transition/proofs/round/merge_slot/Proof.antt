@@ -1,7 +1,7 @@
 -- The classes of the rows; where each row is one, the table stands as it is, else the merged rows are put in its place. Assumes nothing.
 use mathlib.Core.Path.{_∙_}
 use native.Mathlib.Omega.{arith}
-use Rattle.transition.proofs.Rounding.{slot-levels, slot-classed, slot-apart, slot-room, slot-few, slot-done}
+use Rattle.transition.proofs.SilentRounds.{slot-levels, slot-classed, slot-apart, slot-room, slot-few, slot-done}
 use Rattle.transition.proofs.round.merge_slot.Statement.{statement}
 use Rattle.transition.proofs.round.merge_slot.Tie as tie
 

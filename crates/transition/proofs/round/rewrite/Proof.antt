@@ -5,7 +5,7 @@ use lib.ListN.{length}
 use native.Mathlib.Omega.{arith}
 use Rattle.transition.specs.Inner.Change.{Scene}
 use Rattle.transition.specs.Inner.Round.{Caused, Rewritten}
-use Rattle.transition.proofs.Rounding.{rewritten-none, row-inside, row-tellable, rewritten-more}
+use Rattle.transition.proofs.SilentRounds.{rewritten-none, row-inside, row-tellable, rewritten-more}
 use Rattle.transition.proofs.round.rewrite.Statement.{statement}
 use Rattle.transition.proofs.round.rewrite.Tie as tie
 

@@ -1,7 +1,7 @@
 -- Where nobody is told anything, the rows change in place and are merged; else it is a stage. Assumes nothing.
 use borrow.Author.Needs.{needs}
 use borrow.Author.Tests.{not-false}
-use Rattle.transition.proofs.Rounding.{row-telling, round-caused, round-slot, round-staged}
+use Rattle.transition.proofs.SilentRounds.{row-telling, round-caused, round-slot, round-staged}
 use Rattle.transition.proofs.round.round.Statement.{statement}
 use Rattle.transition.proofs.round.round.Tie as tie
 

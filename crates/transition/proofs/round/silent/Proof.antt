@@ -4,8 +4,8 @@ use mathlib.Core.Path.{refl, sym, _∙_}
 use native.Mathlib.Omega.{arith}
 use borrow.Author.Needs.{needs}
 use borrow.Author.Tests.{not-true}
-use Rattle.transition.proofs.Causing.{effects-there, tell-nothing, none-silent}
-use Rattle.transition.proofs.Acting.{clash}
+use Rattle.transition.proofs.Effects.{effects-there, tell-nothing, none-silent}
+use Rattle.transition.proofs.PartOne.{clash}
 use Rattle.transition.proofs.round.silent.Statement.{statement}
 use Rattle.transition.proofs.round.silent.Tie as tie
 

@@ -9,7 +9,7 @@ use borrow.Author.Tests.{not-true, not-false}
 use Rattle.pack.specs.Syntax.{Node, Theory}
 use Rattle.pack.specs.State.{meaning}
 use Rattle.transition.specs.Contracts.Play.{Setting, Slotted}
-use Rattle.transition.proofs.Settling.{InRound, round-start, round-table, round-firable, theory-triggers, round-idle, round-quiet, round-last, roundScene, round-slotted, round-stands, round-room, round-many, round-next}
+use Rattle.transition.proofs.Rounds.{InRound, round-start, round-table, round-firable, theory-triggers, round-idle, round-quiet, round-last, roundScene, round-slotted, round-stands, round-room, round-many, round-next}
 use Rattle.transition.proofs.settle.settle.Statement.{statement}
 use Rattle.transition.proofs.settle.settle.Tie as tie
 

@@ -3,7 +3,7 @@ use mathlib.Core.Path.{_∙_}
 use Prim.Native.Nat.{_*_, _≤_}
 use native.Mathlib.Omega.{arith}
 use Rattle.transition.specs.Laws.ChangedRows.{small}
-use Rattle.transition.proofs.Staging.{stage-laid, stage-one, stage-levels, stage-many, stage-room, stage-classed, apart-inside, stage-apart, stage-few, stage-inside, stage-done}
+use Rattle.transition.proofs.Stages.{stage-laid, stage-one, stage-levels, stage-many, stage-room, stage-classed, apart-inside, stage-apart, stage-few, stage-inside, stage-done}
 use Rattle.transition.proofs.stage.stage.Statement.{statement}
 use Rattle.transition.proofs.stage.stage.Tie as tie
 

@@ -4,8 +4,8 @@ use native.Mathlib.Omega.{arith}
 use Prim.Native.Nat.{_*_}
 use borrow.Author.Needs.{needs}
 use borrow.Author.Tests.{not-true, not-false}
-use Rattle.transition.proofs.Acting.{act-places}
-use Rattle.transition.proofs.Playing.{playTable, play-judged, play-forbidden, play-many, play-setting, play-slotted, play-settled}
+use Rattle.transition.proofs.PartOne.{act-places}
+use Rattle.transition.proofs.PlayedInSlot.{playTable, play-judged, play-forbidden, play-many, play-setting, play-slotted, play-settled}
 use Rattle.transition.proofs.step.step_slot.Statement.{statement}
 use Rattle.transition.proofs.step.step_slot.Tie as tie
 

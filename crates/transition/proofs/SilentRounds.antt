@@ -33,10 +33,10 @@ use Rattle.transition.specs.Inner.Change.{Scene, Stands, at}
 use Rattle.transition.specs.Contracts.Stage.{StageRoom, SlotOnly, InSlot, Staged}
 use Rattle.transition.specs.Contracts.Play.{Slotted, Acted}
 use Rattle.transition.specs.Inner.Round.{Silent, Caused, Rewritten, SlotTable, Everyone}
-use Rattle.transition.proofs.Causing.{untold-write}
+use Rattle.transition.proofs.Effects.{untold-write}
 use Rattle.transition.specs.Laws.ChangedRows.{small}
-use Rattle.transition.proofs.Staging.{put-down}
-use Rattle.transition.proofs.Settling.{only-then}
+use Rattle.transition.proofs.Stages.{put-down}
+use Rattle.transition.proofs.Rounds.{only-then}
 
 -- Tables with the same beliefs are ordered alike
 module _ (t u : List Node) (long : length u ≡ length t) (same : (m : ℕ) → m < length t → node u m .beliefs ≡ node t m .beliefs) where

@@ -47,7 +47,7 @@ use Rattle.planner.specs.Laws.Answers.{search-table-iff}
 use Rattle.planner.specs.Inner.Lists.{slotTable, Ends}
 use Rattle.planner.specs.Inner.Explain.{Stage}
 use Rattle.planner.specs.Inner.Memory.{Memory}
-use Rattle.planner.proofs.Remembering.{memory-clear}
+use Rattle.planner.proofs.TrueMemory.{memory-clear}
 use Rattle.planner.specs.Inner.Search.{Laying, LaidStart, Chosen, Best, Shortest, Seeking, Seekable, SearchPut}
 
 module _ {Good : List ℕ → ℕ → Type 0} where

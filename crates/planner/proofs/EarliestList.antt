@@ -28,8 +28,8 @@ use Rattle.planner.specs.Inner.Memory.{memoryAt, Fact, Memory}
 use Rattle.planner.specs.Inner.Explain.{Stage}
 use Rattle.planner.specs.Inner.Search.{Dry, Trail, Repeated, Put, Chosen, Best}
 use Rattle.planner.specs.Laws.Explaining.{Agreeing}
-use Rattle.planner.proofs.Remembering.{table-moved, state-moved}
-use Rattle.planner.proofs.Telling.{consenter-below, slot-same, stage-extent, stage-state}
+use Rattle.planner.proofs.TrueMemory.{table-moved, state-moved}
+use Rattle.planner.proofs.Explanations.{consenter-below, slot-same, stage-extent, stage-state}
 
 -- none found
 pub best-none : {M : List ℕ → Type 0} {Good : List ℕ → ℕ → Type 0} {n : ℕ} (was : List ℕ) {done slot : ℕ} {work work′ : List ℕ} → Below work work′ slot → Above work work′ workRoom → M work′ → ((list : List ℕ) (v : ℕ) → length list ≡ n → ¬ Good list v) → Best M Good n was was done slot work work′ 0

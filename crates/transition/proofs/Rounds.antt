@@ -28,8 +28,8 @@ use Rattle.transition.specs.Inner.Fire.{Triggered, Firable, FiredBelow}
 use Rattle.transition.specs.Contracts.Stage.{StageRoom, SlotOnly, InSlot, Staged}
 use Rattle.transition.specs.Contracts.Play.{Theorized, Setting, Slotted, Left, SettledIn}
 use Rattle.transition.specs.Laws.ChangedRows.{small}
-use Rattle.transition.proofs.Acting.{clash}
-use Rattle.transition.proofs.Firing.{fires-none}
+use Rattle.transition.proofs.PartOne.{clash}
+use Rattle.transition.proofs.FiringTriggers.{fires-none}
 
 -- a state with a written chart of at most 32 rows
 module _ (p : Theory) (z : State) (U : List Node) (w : Starts (p .characters) z U) (few : length U ≤ 32) where

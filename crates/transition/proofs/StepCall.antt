@@ -31,7 +31,7 @@ use Rattle.transition.specs.Promises.{Stepped}
 use Rattle.transition.specs.Laws.Step.{step-fits}
 use Rattle.transition.specs.Laws.Loaded.{short-pack}
 use Rattle.transition.specs.Inner.Steppable.{Stepping, Steppable, StepPut}
-use Rattle.transition.proofs.Stepping.{step-cleared}
+use Rattle.transition.proofs.StepOnCharts.{step-cleared}
 
 module _ {pack places : List ℕ} (chart : List ℕ) (action : ℕ) (out work : List ℕ) {p : Contents} (got : PackRead pack places p) (nodes : Number) (under : repliedCount nodes ≡ with (replied (p .answer)) (λ u. counted p chart))
     (enough : Bool) (here : enough ≡ (fits chartRoom out && fits workRoom work)) (there : Bool) (is-there : there ≡ ltb action (p .actions)) (r : Number) (says : repliedCount r ≡ with (repliedCount nodes) (λ v. lent enough there (gives v))) where

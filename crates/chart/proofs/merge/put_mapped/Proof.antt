@@ -3,8 +3,8 @@ use Prim.Native.Nat.{_+_}
 use native.Mathlib.Omega.{arith}
 use borrow.Author.Needs.{needs}
 use Rattle.chart.specs.Laws.MergedRows.{row-put}
-use Rattle.chart.proofs.merge.put_row.Statement.{statement}
-use Rattle.chart.proofs.merge.put_row.Tie as tie
+use Rattle.chart.proofs.merge.put_mapped.Statement.{statement}
+use Rattle.chart.proofs.merge.put_mapped.Tie as tie
 
 map-part-requires : tie.Need-map-part-requires
 map-part-requires c κs =
@@ -21,5 +21,5 @@ returns c =
     let start = at-copy-part .before .before .before in
     row-put (start .args .n) (at-copy-part .copy-part .ensures) (at-map-part .map-part .ensures) (omega arith) (omega arith) (start .pre .1)
 
-pub put-row-spec : {M : Type 1} → statement M
-put-row-spec = tie.close (tie.spec (λ c κs. search needs) (λ c. search needs) (λ c. search needs) map-part-requires (λ c. search needs) returns)
+pub put-mapped-spec : {M : Type 1} → statement M
+put-mapped-spec = tie.close (tie.spec (λ c κs. search needs) (λ c. search needs) (λ c. search needs) map-part-requires (λ c. search needs) returns)

@@ -31,12 +31,12 @@ use Rattle.chart.specs.Contracts.Look.{NodesRead}
 use Rattle.chart.specs.Contracts.Put.{Cleared}
 use Rattle.chart.specs.Inner.Match.{Joinable, Joined, Matchable, Said, RowsMatched, ChartsMatched}
 use Rattle.chart.specs.Laws.Cells.{cells-length, row-in, rows-node, rows-same, rows-most}
-use Rattle.chart.proofs.Parting.{sound-closed}
-use Rattle.chart.proofs.Pairing.{pairs-first}
+use Rattle.chart.proofs.PartitionLevels.{sound-closed}
+use Rattle.chart.proofs.MetPairs.{pairs-first}
 use Rattle.chart.specs.Laws.ChartBytes.{front-back}
 use Rattle.chart.specs.Laws.LookedUp.{cleared-all}
 use Rattle.chart.specs.Laws.LoadedNodes.{read-slim}
-use Rattle.chart.proofs.Joining.{read-long, read-closed, read-values}
+use Rattle.chart.proofs.JoinedCharts.{read-long, read-closed, read-values}
 
 module _ {work : List ℕ} {n m f c : ℕ} {chain : List ℕ} (p : Matchable work n m f c chain) where
   abbrev w : ℕ

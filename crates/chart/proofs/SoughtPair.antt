@@ -15,8 +15,8 @@ use Rattle.chart.specs.Contracts.Numbers.{Sound}
 use Rattle.chart.specs.Contracts.Level.{Agrees, SameByte}
 use Rattle.chart.specs.Inner.Pairs.{leftAt, rightAt, Paired, Pairs, PairsIn, Followed, Sought}
 use Rattle.chart.specs.Laws.Cells.{row-in}
-use Rattle.chart.proofs.Parting.{same-rows, still-sound, values-byte, byte-values}
-use Rattle.chart.proofs.Pairing.{entries-most}
+use Rattle.chart.proofs.PartitionLevels.{same-rows, still-sound, values-byte, byte-values}
+use Rattle.chart.proofs.MetPairs.{entries-most}
 
 -- The entries below `done` are of rows with the same values, and all their characters are followed
 pub record Seeking (was now : List ℕ) (n w f c t m q count done : ℕ) : Type 0 where

@@ -15,7 +15,7 @@ use Rattle.pack.specs.Contracts.Table.{rowsAt, Below, Above}
 use Rattle.chart.specs.Contracts.Put.{Cleared}
 use Rattle.chart.specs.Contracts.Numbers.{Sound}
 use Rattle.chart.specs.Laws.Cells.{row-in}
-use Rattle.chart.proofs.Parting.{target-at}
+use Rattle.chart.proofs.PartitionLevels.{target-at}
 use Rattle.chart.specs.Inner.Pairs.{leftAt, rightAt, fromAt, charAt, markAt, Paired, Pairs, PairsIn, EntryPut, PairMet, FirstMet, Followed}
 
 -- What `meet` stores

@@ -41,7 +41,7 @@ use Rattle.planner.specs.Inner.Lists.{counted, slotTable, Other, AboveBy
 use Rattle.planner.specs.Inner.Lists as inner
 use Rattle.planner.specs.Inner.Memory.{stepsAt, keptTable, HasId, StepFact, StepEntry, Memory, Fact, Place, Before, InSlot, Interning, StepRead, Noted, Slot, Again, LeftNoted}
 use Rattle.planner.specs.Inner.Explain.{Stage, Free, Told, Advanced}
-use Rattle.planner.proofs.Remembering.{fact-same, first-same, grown-by, before-now, named-state, memory-quiet, memory-fewer}
+use Rattle.planner.proofs.TrueMemory.{fact-same, first-same, grown-by, before-now, named-state, memory-quiet, memory-fewer}
 
 -- Told: passed on
 pub told-none : {M : List ℕ → Type 0} {slot : ℕ} (was : List ℕ) {P : Type 0} → M was → (P → ⊥) → Told M slot was was false P

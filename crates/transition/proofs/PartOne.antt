@@ -17,7 +17,7 @@ use Rattle.transition.specs.Contracts.Cause.{told, EffectsAt, Telling}
 use Rattle.transition.specs.Inner.Change.{Scene, Stands, Kinds}
 use Rattle.transition.specs.Contracts.Stage.{Staged}
 use Rattle.transition.specs.Contracts.Play.{Untold, Setting, Acted}
-use Rattle.transition.proofs.Firing.{effects-inside}
+use Rattle.transition.proofs.FiringTriggers.{effects-inside}
 use Rattle.transition.specs.Laws.ChangedRows.{small}
 
 -- true is not false

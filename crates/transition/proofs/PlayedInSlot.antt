@@ -17,7 +17,7 @@ use Rattle.pack.specs.declared.table.Table.{Table}
 use Rattle.chart.specs.States.{AtMost}
 use Rattle.transition.specs.Happening.{nothing, actionOf, act, Settles, Stops, Refuses}
 use Rattle.transition.specs.Contracts.Play.{Setting, Slotted, Acted, SettledIn, PlayedIn}
-use Rattle.transition.proofs.Settling.{only-none, only-then, tableIn, slot-small}
+use Rattle.transition.proofs.Rounds.{only-none, only-then, tableIn, slot-small}
 
 module _ {p : Theory} {T : List Node} {pack places : List ℕ} {actions triggers : ℕ} {was : List ℕ} {t : Table} {slot : ℕ} (x : Setting p T pack places actions triggers was t slot) {a : ℕ} (l : a < actions) (root : ℕ) (inside : root < t .nodes) where
   abbrev A : Action

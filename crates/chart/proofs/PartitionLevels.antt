@@ -21,7 +21,7 @@ use Rattle.chart.specs.Contracts.Level.{SameValues, Alike, Levels, Finer
 use Rattle.chart.specs.Inner.Values.{Valued}
 use Rattle.pack.specs.Laws.Rows.{cells-at, rows-length}
 use Rattle.chart.specs.Laws.Cells.{cells-length, row-in, rows-node, rows-same}
-use Rattle.chart.proofs.Sorting.{classes-same}
+use Rattle.chart.proofs.Classes.{classes-same}
 use Rattle.chart.specs.Laws.MergedRows.{ordered-sound}
 
 -- Over a table: class numbers `key` that are exact at a depth, and those of the next level

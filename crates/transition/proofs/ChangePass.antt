@@ -15,7 +15,7 @@ use Rattle.transition.specs.Happening.{change}
 use Rattle.transition.specs.Laws.Changed as changed
 use Rattle.transition.specs.Laws.Changed.{Member, acted, There}
 use Rattle.transition.specs.Inner.Change.{Scene, Stands, at, tells, next, valuesOf, memberOf, SlotIs, Puts, Laid, RowMade, ChangeMade}
-use Rattle.transition.proofs.Causing.{untold-write}
+use Rattle.transition.proofs.Effects.{untold-write}
 
 -- how many slots there are
 abbrev pub slotsOf : Table → ℕ

@@ -4,9 +4,9 @@ use Prim.Native.Nat.{ℕ, _≤_, _<_, _+_, _*_, _%_, _-_}
 use native.Mathlib.Omega.{arith}
 use borrow.Author.Needs.{needs}
 use Rattle.chart.specs.Inner.Values.{sumOf}
-use Rattle.chart.proofs.Valuing.{sum-none, sum-more}
-use Rattle.chart.proofs.values.mark.Statement.{statement}
-use Rattle.chart.proofs.values.mark.Tie as tie
+use Rattle.chart.proofs.ValueClasses.{sum-none, sum-more}
+use Rattle.chart.proofs.values.value_hash.Statement.{statement}
+use Rattle.chart.proofs.values.value_hash.Tie as tie
 
 abbrev Inv-loop : tie.InvT-loop
 Inv-loop work a f sum₀ q₀ sum q = (q ≤ f) × (sum < 4294967296) × (sum ≡ sumOf work a q)
@@ -42,7 +42,7 @@ returns c =
     let e : l .q ≡ a .f = omega (arith, c .loop-test .left) in
     (ap (λ (s : ℕ). s % 131) (l .inv .2 ∙ ap (sumOf (a .work .now) (a .a)) e), omega arith)
 
-pub mark-spec : {M : Type 1} → statement M
-mark-spec =
+pub value-hash-spec : {M : Type 1} → statement M
+value-hash-spec =
     tie.close
     (tie.spec Inv-loop μ-loop loop-holds (λ c. search needs) (λ c. search needs) (λ c. search needs) (λ c κs. search needs) add-sum (λ c. search needs) (λ c. search needs) loop-again returns)

@@ -18,7 +18,7 @@ use Rattle.chart.specs.Laws.LoadedNodes.{read-small, read-same, merged-small}
 use Rattle.planner.specs.declared.limits.Context.{Context}
 use Rattle.planner.specs.Inner.Memory.{memoryAt}
 use Rattle.planner.specs.Inner.Search.{Laying, LaidStart}
-use Rattle.planner.proofs.Remembering.{emptied}
+use Rattle.planner.proofs.TrueMemory.{emptied}
 
 module _ {T : List Node} {pack : List ℕ} {first nodes : ℕ} {h : Context} {work : List ℕ} (x : Laying T pack first nodes h work) where
   abbrev f : ℕ

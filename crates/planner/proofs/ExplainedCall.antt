@@ -43,8 +43,8 @@ use Rattle.planner.specs.Laws.Answers.{explained-table-iff}
 use Rattle.planner.specs.Inner.Lists as slots
 use Rattle.planner.specs.Inner.Lists.{slotTable}
 use Rattle.planner.specs.Inner.Memory.{memoryAt, Memory}
-use Rattle.planner.proofs.Remembering.{emptied, memory-clear}
-use Rattle.planner.proofs.Telling.{stage-same}
+use Rattle.planner.proofs.TrueMemory.{emptied, memory-clear}
+use Rattle.planner.proofs.Explanations.{stage-same}
 use Rattle.planner.specs.Inner.Explain.{Stage, Free, Told, Judging, Judgeable, Verdict}
 
 module _ {th : Theory} {T : List Node} {pack places : List ℕ} {h : Context} {chart : List ℕ} {nodes c a K e : ℕ} {work : List ℕ} (x : Judging th T pack places h chart nodes c a K e work) where

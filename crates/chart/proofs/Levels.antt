@@ -12,8 +12,8 @@ use Rattle.chart.specs.Contracts.Numbers.{Sound}
 use Rattle.chart.specs.Contracts.Classed.{classAt}
 use Rattle.chart.specs.Contracts.Level.{Placed, SameValues, Alike, RowOk, Against, Levels, Finer, Sorted, RowClassed, Leveled}
 use Rattle.chart.specs.Laws.Cells.{row-in}
-use Rattle.chart.proofs.Sorting.{Equivalence, finer-above, sorted-none, sorted-row}
-use Rattle.chart.proofs.Valuing.{values-equivalence, values-same}
+use Rattle.chart.proofs.Classes.{Equivalence, finer-above, sorted-none, sorted-row}
+use Rattle.chart.proofs.ValueClasses.{values-equivalence, values-same}
 
 -- of the first `count` classes none below q has a leading row that is alike to row i
 pub record NoneBelow (bytes : List ℕ) (w f c t k r count i q : ℕ) : Type 0 where

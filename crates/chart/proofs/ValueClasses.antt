@@ -11,9 +11,9 @@ use lib.Seq.{getD-set-same, getD-set-other}
 use Rattle.pack.specs.Contracts.Table.{Below, Above}
 use Rattle.chart.specs.Contracts.Classed.{classAt}
 use Rattle.chart.specs.Contracts.Level.{Agrees, Placed, SameByte, SameValues, Levels, Sorted}
-use Rattle.chart.specs.Inner.Values.{sumOf, markOf, leadMark, Last, Chain, Chained, Valuable, RowValued, Valued}
+use Rattle.chart.specs.Inner.Values.{sumOf, hashOf, leadMark, Last, Chain, Chained, Valuable, RowValued, Valued}
 use Rattle.chart.specs.Laws.Cells.{row-in}
-use Rattle.chart.proofs.Sorting.{Equivalence, sorted-none, sorted-row}
+use Rattle.chart.proofs.Classes.{Equivalence, sorted-none, sorted-row}
 
 -- `SameValues` is an equivalence
 pub values-equivalence : (bytes : List ℕ) (w f t : ℕ) → Equivalence (SameValues bytes w f t)
@@ -51,7 +51,7 @@ sum-same bytes bytes′ a b (suc f) h =
     ap (λ (s : ℕ). (s * 2 + getD bytes (a + f) 0) % 4294967296) (sum-same bytes bytes′ a b f (λ q l. h q (omega arith))) ∙ ap (λ (v : ℕ). (sumOf bytes′ b f * 2 + v) % 4294967296) (h f (omega arith))
 
 -- and the same mark
-pub mark-same : (bytes bytes′ : List ℕ) (a b f : ℕ) → ((q : ℕ) → q < f → getD bytes (a + q) 0 ≡ getD bytes′ (b + q) 0) → markOf bytes a f ≡ markOf bytes′ b f
+pub mark-same : (bytes bytes′ : List ℕ) (a b f : ℕ) → ((q : ℕ) → q < f → getD bytes (a + q) 0 ≡ getD bytes′ (b + q) 0) → hashOf bytes a f ≡ hashOf bytes′ b f
 mark-same bytes bytes′ a b f h = ap (λ (s : ℕ). s % 131) (sum-same bytes bytes′ a b f h)
 
 -- rows held against each other byte by byte
@@ -65,7 +65,7 @@ module _ {bytes : List ℕ} {w f t i j k : ℕ} (x : Agrees (SameByte bytes (t +
 -- Looking along the classes of one mark: from class q on none has a leading row with the values of row i
 pub record Looking (bytes : List ℕ) (w f t r i count q : ℕ) : Type 0 where
   pub within : q ≤ count
-  pub has : (p : ℕ) → q ≡ suc p → leadMark bytes w f t r p ≡ markOf bytes (t + i * w) f
+  pub has : (p : ℕ) → q ≡ suc p → leadMark bytes w f t r p ≡ hashOf bytes (t + i * w) f
   pub others : (p : ℕ) → q ≤ p → p < count → SameValues bytes w f t (getD bytes (r + p) 0) i → ⊥
 
 module _ {bytes : List ℕ} {w f t a r i count last : ℕ} (x : Chain bytes w f t a r i count last) where
@@ -124,7 +124,7 @@ module _ {was : List ℕ} {n w f t a k r i count : ℕ} (v : Valuable was n w f 
   pub row-inside : (j : ℕ) → j < n → t + j * w + f ≤ length was
   row-inside j h = omega (arith, row-in n w j h, v .wide, v .source, v .nexts, v .classes, v .room)
 
-  pub chain-at : {heads : List ℕ} → Chained was heads w f t a r count → {b last : ℕ} → b < 131 → b ≡ markOf was (t + i * w) f → last ≡ getD heads b 0 → Chain was w f t a r i count last
+  pub chain-at : {heads : List ℕ} → Chained was heads w f t a r count → {b last : ℕ} → b < 131 → b ≡ hashOf was (t + i * w) f → last ≡ getD heads b 0 → Chain was w f t a r i count last
   chain-at {heads} x {b} {last} h e z = record {
     row = row-inside i (v .row);
     leads = λ q l. row-inside (getD was (r + q) 0) (omega (arith, v .leads q l, v .row));
@@ -136,11 +136,11 @@ module _ {was : List ℕ} {n w f t a k r i count : ℕ} (v : Valuable was n w f 
 
   -- bytes below a, the leading rows and what stands for each class are as they were
   module _ (now : List ℕ) (low : Below was now a) (led : (q : ℕ) → q < count → getD now (r + q) 0 ≡ getD was (r + q) 0) (kept : (q : ℕ) → q < count → getD now (a + q) 0 ≡ getD was (a + q) 0) {heads : List ℕ} (x : Chained was heads w f t a r count) where
-    row-mark : (j : ℕ) → j < n → markOf now (t + j * w) f ≡ markOf was (t + j * w) f
+    row-mark : (j : ℕ) → j < n → hashOf now (t + j * w) f ≡ hashOf was (t + j * w) f
     row-mark j h = mark-same now was (t + j * w) (t + j * w) f (λ q l. row-byte was now n w t (v .wide) (v .source) low j h q l)
 
     lead-mark : (q : ℕ) → q < count → leadMark now w f t r q ≡ leadMark was w f t r q
-    lead-mark q h = ap (λ (j : ℕ). markOf now (t + j * w) f) (led q h) ∙ row-mark (getD was (r + q) 0) (omega (arith, v .leads q h, v .row))
+    lead-mark q h = ap (λ (j : ℕ). hashOf now (t + j * w) f) (led q h) ∙ row-mark (getD was (r + q) 0) (omega (arith, v .leads q h, v .row))
 
     old-next : (q : ℕ) → q < count → Last (leadMark now w f t r) q (leadMark now w f t r q) (getD now (a + q) 0)
     old-next q h = subst (Last (leadMark now w f t r) q (leadMark now w f t r q)) (sym (kept q h))
@@ -153,7 +153,7 @@ module _ {was : List ℕ} {n w f t a k r i count : ℕ} (v : Valuable was n w f 
     chained-same = record { marks = x .marks; heads-last = old-head; nexts = old-next }
 
     -- row i leads one class more
-    pub chained-more : {b : ℕ} → b < 131 → b ≡ markOf was (t + i * w) f → getD now (r + count) 0 ≡ i → getD now (a + count) 0 ≡ getD heads b 0 → Chained now (set heads b (count + 1)) w f t a r (count + 1)
+    pub chained-more : {b : ℕ} → b < 131 → b ≡ hashOf was (t + i * w) f → getD now (r + count) 0 ≡ i → getD now (a + count) 0 ≡ getD heads b 0 → Chained now (set heads b (count + 1)) w f t a r (count + 1)
     chained-more {b} h e lead next = record {
       marks = length-set heads b (count + 1) ∙ x .marks;
       heads-last = λ b′ h′. by-cases (decLt b′ b) (λ l. other b′ h′ (λ z. omega arith)) (λ l. by-cases (decLt b b′) (λ m. other b′ h′ (λ z. omega arith)) (λ m. same b′ (omega arith)));
@@ -161,7 +161,7 @@ module _ {was : List ℕ} {n w f t a k r i count : ℕ} (v : Valuable was n w f 
     }
       where
         mark : leadMark now w f t r count ≡ b
-        mark = ap (λ (j : ℕ). markOf now (t + j * w) f) lead ∙ row-mark i (v .row) ∙ sym e
+        mark = ap (λ (j : ℕ). hashOf now (t + j * w) f) lead ∙ row-mark i (v .row) ∙ sym e
 
         newest : Last (leadMark now w f t r) count (leadMark now w f t r count) (getD now (a + count) 0)
         newest = subst (Last (leadMark now w f t r) count (leadMark now w f t r count)) (sym next) (subst (λ (m : ℕ). Last (leadMark now w f t r) count m (getD heads b 0)) (sym mark) (old-head b h))
@@ -195,7 +195,7 @@ module _ {was : List ℕ} {n w f t a k r i count : ℕ} (v : Valuable was n w f 
         led : (p : ℕ) → p < count → getD (set was (k + i) q) (r + p) 0 ≡ getD was (r + p) 0
         led p l = getD-set-other was (k + i) (r + p) q 0 (omega (arith, v))
 
-    pub valued-new : count ≤ q → {b last : ℕ} → b < 131 → b ≡ markOf was (t + i * w) f → last ≡ getD heads b 0
+    pub valued-new : count ≤ q → {b last : ℕ} → b < 131 → b ≡ hashOf was (t + i * w) f → last ≡ getD heads b 0
         → RowValued was (set (set (set was (k + i) q) (r + count) i) (a + count) last) (set heads b (count + 1)) w f t a k r i count (count + 1)
     valued-new h {b} {last} hb e z = record {
       class = q;

@@ -2,12 +2,12 @@
 use native.Mathlib.Omega.{arith}
 use mathlib.Core.Path.{refl}
 use Rattle.pack.specs.Condition.{compares}
-use Rattle.pack.proofs.judge.compare.Statement.{statement}
-use Rattle.pack.proofs.judge.compare.Tie as tie
+use Rattle.pack.proofs.judge.relates.Statement.{statement}
+use Rattle.pack.proofs.judge.relates.Tie as tie
 
-pub compare-spec : {M : Type 1} → statement M
+pub relates-spec : {M : Type 1} → statement M
 unfolding compares
-compare-spec =
+relates-spec =
     tie.close
     (tie.spec
     (λ c. (λ known. rw (c .match .keys1), λ other. absurd (omega (arith, other, c .match .keys1))))
