@@ -3,11 +3,12 @@
 use reference::calls::search_pack;
 use reference::ending::{lines, FORESIGHT, NESTING, STORY};
 use reference::happening::step;
+use reference::pack::{self, Pack};
 use reference::planner::Planner;
 use reference::refusal::{CONDITION, ROUNDS};
 use reference::state::State;
 use reference::{chart, text};
-use story::{read, Story};
+use story::read;
 
 const LETTER: &str = include_str!("../../../examples/letter.story");
 const ALICE: &str = include_str!("../../../examples/alice.story");
@@ -19,18 +20,19 @@ const SAFE: &str = include_str!("../../../examples/safe.story");
 const NONE: &str = "refused 13 at 0\n";
 
 /// The story with texts put in place of others, each of which stands there exactly once.
-fn changed(story: &str, changes: &[(&str, &str)]) -> Story {
+fn changed(story: &str, changes: &[(&str, &str)]) -> Pack {
     let mut story = story.to_string();
     for (before, after) in changes {
         assert_eq!(story.matches(before).count(), 1, "{before}");
         story = story.replace(before, after);
     }
-    read(story.as_bytes()).unwrap_or_else(|error| panic!("{error}\n{story}"))
+    let reading = read(story.as_bytes()).unwrap_or_else(|problems| panic!("{problems:?}\n{story}"));
+    pack::read(&reading.story.bytes()).unwrap()
 }
 
 /// What `ending` would print under these limits.
-fn under(story: &Story, (most, foresight, nesting): (usize, usize, usize)) -> String {
-    let found = search_pack(&story.pack, most, foresight, nesting);
+fn under(story: &Pack, (most, foresight, nesting): (usize, usize, usize)) -> String {
+    let found = search_pack(story, most, foresight, nesting);
     let found = found.as_ref().map(|ending| (&ending.actions[..], ending.before, ending.after));
     lines(found.map_err(|refusal| *refusal))
 }
@@ -40,20 +42,20 @@ fn ends(story: &str, changes: &[(&str, &str)]) -> String {
 }
 
 /// The state after some actions.
-fn state(story: &Story, actions: &[usize]) -> State {
-    let start = State::new(&story.pack.nodes, 0);
-    actions.iter().fold(start, |state, &action| step(&story.pack, &state, action).unwrap())
+fn state(story: &Pack, actions: &[usize]) -> State {
+    let start = State::new(&story.nodes, 0);
+    actions.iter().fold(start, |state, &action| step(story, &state, action).unwrap())
 }
 
 /// Its chart, in hexadecimal.
-fn after(story: &Story, actions: &[usize]) -> String {
+fn after(story: &Pack, actions: &[usize]) -> String {
     text::hex(&chart::write(&state(story, actions)))
 }
 
 /// Whether an action after some others is explained to a character, under a foresight and a nesting limit.
-fn explained(story: &Story, actions: &[usize], action: usize, character: usize, limits: (usize, usize)) -> bool {
+fn explained(story: &Pack, actions: &[usize], action: usize, character: usize, limits: (usize, usize)) -> bool {
     let (foresight, nesting) = limits;
-    Planner::new(&story.pack, foresight).explained(character, action, &state(story, actions), nesting)
+    Planner::new(story, foresight).explained(character, action, &state(story, actions), nesting)
 }
 
 #[test]
@@ -64,7 +66,7 @@ fn letter() {
     assert!(explained(&story, &[], 0, 0, (1, 1)), "Ada moves the letter for its own sake");
     assert!(explained(&story, &[0], 1, 1, (3, 1)) && !explained(&story, &[0], 1, 1, (2, 3)), "he comes home for three");
     assert!(explained(&story, &[0, 1], 2, 1, (2, 1)) && !explained(&story, &[0, 1], 2, 1, (1, 3)));
-    assert_eq!(step(&story.pack, &state(&story, &[0, 1, 2]), 3), Err(CONDITION), "the letter isn't in the desk");
+    assert_eq!(step(&story, &state(&story, &[0, 1, 2]), 3), Err(CONDITION), "the letter isn't in the desk");
     let at_home = ("    the cousin is out\n\naction", "    the cousin is in the house\n\naction");
     assert_eq!(ends(LETTER, &[at_home]), NONE);
     assert_eq!(ends(LETTER, &[("seen by the cousin if the cousin is in the house", "seen by the cousin")]), NONE);
@@ -120,7 +122,7 @@ fn market() {
             ("     and the stalls are seen and Tom believes the stalls are seen\n", ""),
         ],
     );
-    assert_eq!(step(&literal.pack, &state(&literal, &[]), 0), Err(ROUNDS));
+    assert_eq!(step(&literal, &state(&literal, &[]), 0), Err(ROUNDS));
     assert_eq!(under(&literal, (4, 3, 2)), NONE);
     let found = "1 0\n2 2\nauthor 0 5\n";
     let knows =

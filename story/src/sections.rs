@@ -1,7 +1,8 @@
 //! A text cut into its sections: a heading with a colon, and the lines under it.
 
 use crate::cursor::{Cursor, Phrase};
-use crate::error::{Error, Fault, Place};
+use crate::error::{Error, Fault};
+use crate::problem::Place;
 use crate::words::{Line, Sign};
 
 #[derive(Clone, PartialEq, Eq, Debug)]

@@ -1,10 +1,8 @@
 //! A story printed as text, and a chart with the story's names.
 
-use reference::generate::draft::{AT_LEAST, IS_NOT};
-use reference::graph::Node;
-use reference::pack::{Condition, Effect, Rule, Test};
-
+use crate::decode::{self, Unreadable};
 use crate::names::{chain_text, labels, Fact, Label, Names};
+use crate::pack::{Condition, Effect, How, Node, Rule, Test};
 use crate::Story;
 
 /// Tests that would make a longer line than this stand on a line each.
@@ -12,7 +10,7 @@ const LONGEST_LINE: usize = 90;
 
 /// The whole text. Read again it gives the same pack and names.
 pub fn story(story: &Story) -> String {
-    let Story { pack, names } = story;
+    let Story { pack, names, .. } = story;
     let mut out = format!("characters: {}\n\nfacts:\n", names.characters.join(", "));
     names.facts.iter().for_each(|fact| out += &format!("    {}: {}\n", fact.name, values(fact)));
     out += &views(names, &pack.nodes, &names.views);
@@ -75,15 +73,15 @@ pub fn told<'s>(names: &'s Names, nodes: &'s [Node], i: usize) -> impl Iterator<
 }
 
 /// `the letter is burnt`; `how` is what stands before the value: nothing, `not ` or `at least `.
-fn is(names: &Names, fact: usize, how: &str, value: u8) -> String {
+fn is(names: &Names, fact: usize, how: &str, value: usize) -> String {
     let fact = &names.facts[fact];
     let verb = if fact.plural { "are" } else { "is" };
-    format!("{} {verb} {how}{}", fact.name, fact.values[value as usize])
+    format!("{} {verb} {how}{}", fact.name, fact.values[value])
 }
 
 fn happening(names: &Names, condition: &Condition, effects: &[Effect]) -> String {
     let mut out = String::new();
-    if !is_always(condition) {
+    if !condition.is_always() {
         out += &format!("    when {}\n", conditional(names, condition));
     }
     let effects: Vec<String> = effects.iter().map(|told| effect(names, told)).collect();
@@ -93,8 +91,14 @@ fn happening(names: &Names, condition: &Condition, effects: &[Effect]) -> String
     out
 }
 
-pub fn is_always(condition: &Condition) -> bool {
-    matches!(&condition.alternatives[..], [tests] if tests.is_empty())
+/// A condition on one line.
+pub fn condition(names: &Names, condition: &Condition) -> String {
+    conditional(names, condition).split_whitespace().collect::<Vec<_>>().join(" ")
+}
+
+/// `Ada believes Ben believes the letter is burnt`
+pub fn belief(names: &Names, chain: &[usize], fluent: usize, value: usize) -> String {
+    in_belief(names, chain, is(names, fluent, "", value))
 }
 
 /// A condition, each alternative on a line of its own.
@@ -119,22 +123,22 @@ fn alternative(names: &Names, tests: &[Test]) -> String {
 }
 
 /// A test: whose belief, which fact, which value.
-fn test(names: &Names, test: &Test) -> String {
-    in_belief(names, &test.chain, is(names, test.fluent, kind(test), test.value))
+pub fn test(names: &Names, test: &Test) -> String {
+    in_belief(names, &test.chain, is(names, test.fluent, how(test.how), test.value))
 }
 
 /// What stands before the value.
-pub fn kind(test: &Test) -> &'static str {
-    match test.kind {
-        IS_NOT => "not ",
-        AT_LEAST => "at least ",
-        _ => "",
+pub fn how(how: How) -> &'static str {
+    match how {
+        How::Is => "",
+        How::IsNot => "not ",
+        How::AtLeast => "at least ",
     }
 }
 
 /// An effect: whose belief it is written into, which fact, which value.
-fn effect(names: &Names, effect: &Effect) -> String {
-    let chain: Vec<usize> = effect.whom.checked_sub(1).into_iter().collect();
+pub fn effect(names: &Names, effect: &Effect) -> String {
+    let chain: Vec<usize> = effect.whom.into_iter().collect();
     in_belief(names, &chain, is(names, effect.fluent, "", effect.value))
 }
 
@@ -158,7 +162,7 @@ pub fn people(names: &Names, characters: &[usize]) -> String {
 fn sight(names: &Names, observations: &[Condition]) -> String {
     let mut groups: Vec<(String, Vec<usize>)> = Vec::new();
     for (character, condition) in observations.iter().enumerate().filter(|(_, seen)| !seen.alternatives.is_empty()) {
-        let when = if is_always(condition) { String::new() } else { format!(" if {}", conditional(names, condition)) };
+        let when = if condition.is_always() { String::new() } else { format!(" if {}", conditional(names, condition)) };
         match groups.iter_mut().find(|(known, _)| *known == when) {
             Some((_, characters)) => characters.push(character),
             None => groups.push((when, vec![character])),
@@ -174,13 +178,14 @@ fn sight(names: &Names, observations: &[Condition]) -> String {
 }
 
 fn wish(names: &Names, place: usize, rule: &Rule) -> String {
-    if place > 0 && is_always(&rule.condition) {
+    if place > 0 && rule.condition.is_always() {
         return format!("    {} otherwise\n", rule.worth);
     }
     format!("    {} if {}\n", rule.worth, conditional(names, &rule.condition))
 }
 
-/// A chart's nodes with labels of their own.
-pub fn chart(names: &Names, nodes: &[Node]) -> String {
-    views(names, nodes, &labels(nodes)).trim_start().to_string()
+/// A chart under a story: its views, with labels of their own.
+pub fn chart(story: &Story, bytes: &[u8]) -> Result<String, Unreadable> {
+    let nodes = decode::chart(&story.pack, bytes)?;
+    Ok(views(&story.names, &nodes, &labels(&nodes)).trim_start().to_string())
 }

@@ -1,42 +1,58 @@
 //! A text read as a story.
 
-use reference::generate::draft;
-use reference::pack::{Pack, Rule, LONGEST_PACK};
-
 use crate::cursor::Cursor;
 use crate::declare::{self, Declared};
-use crate::error::{Error, Fault, Place};
+use crate::error::{Error, Fault};
 use crate::happenings;
 use crate::names::{Fact, Names};
+use crate::pack::{Pack, Rule, LONGEST_PACK, MOST_ACTIONS, MOST_TRIGGERS};
+use crate::problem::Place;
 use crate::scope::Scope;
 use crate::sections::{only, sections, Kind, Section};
 use crate::views::{views, Views};
 use crate::words;
-use crate::Story;
+use crate::write;
+use crate::{Problem, Story};
 
-const MOST_ACTIONS: usize = 32;
-const MOST_TRIGGERS: usize = 16;
+/// A story that was read, and what in it is seldom meant.
+#[derive(Clone, Debug)]
+pub struct Reading {
+    pub story: Story,
+    pub warnings: Vec<Problem>,
+}
 
 /// Reads a story from its text. What it gives can be written as a pack.
-pub fn read(bytes: &[u8]) -> Result<Story, Error> {
+pub fn read(bytes: &[u8]) -> Result<Reading, Vec<Problem>> {
+    match story(bytes) {
+        Ok(story) => Ok(Reading { story, warnings: Vec::new() }),
+        Err(error) => Err(vec![Problem {
+            at: error.at,
+            width: 1,
+            message: error.fault.to_string(),
+            help: "write what is expected".to_string(),
+        }]),
+    }
+}
+
+fn story(bytes: &[u8]) -> Result<Story, Error> {
     let (lines, end) = words::lines(words::text(bytes)?)?;
     let sections = &sections(lines)?[..];
     let (characters, mut facts) = declared(sections, end)?;
     let scope = &Scope { characters: &characters, facts: &facts };
-    let Views { nodes, labels, plural } = views(scope, sections, end)?;
+    let Views { nodes, labels, plural, source } = views(scope, sections, end)?;
     let actions = each(sections, Kind::Action, |section| happenings::action(scope, section))?;
     let triggers = each(sections, Kind::Trigger, |section| happenings::trigger(scope, section))?;
     let utilities = utilities(scope, sections)?;
     let domains = facts.iter().map(|fact| fact.values.len()).collect();
     let pack = Pack { characters: characters.len(), domains, nodes, actions, triggers, utilities };
-    let length = draft::bytes(&pack).len();
+    let length = write::pack(&pack).bytes.len();
     if length > LONGEST_PACK {
         return Err(Error::new(end, Fault::TooLong { bytes: length, most: LONGEST_PACK }));
     }
     facts.iter_mut().zip(plural).for_each(|(fact, plural)| fact.plural = plural);
     let actions = titles(sections, Kind::Action, "action", ("actions", MOST_ACTIONS))?;
     let triggers = titles(sections, Kind::Trigger, "trigger", ("triggers", MOST_TRIGGERS))?;
-    Ok(Story { pack, names: Names { characters, facts, views: labels, actions, triggers } })
+    Ok(Story { pack, names: Names { characters, facts, views: labels, actions, triggers }, source: Some(source) })
 }
 
 fn declared(sections: &[Section], end: Place) -> Result<(Vec<String>, Vec<Fact>), Error> {

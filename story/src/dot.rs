@@ -2,16 +2,15 @@
 
 use std::fmt::Write;
 
-use reference::graph::Node;
-use reference::pack::{Action, Condition, Effect};
-
+use crate::decode::{self, Unreadable};
 use crate::names::{chain_text, labels, Label, Names};
-use crate::print::{is_always, kind, people, told};
+use crate::pack::{Action, Condition, Effect, Node};
+use crate::print::{how, people, told};
 use crate::Story;
 
 /// A story: its views, and its facts with the actions and triggers that look at them and change them.
 pub fn story(story: &Story) -> String {
-    let Story { pack, names } = story;
+    let Story { pack, names, .. } = story;
     let mut out = opening();
     out += "    subgraph cluster_views {\n        label=\"what is so, and what is believed\";\n";
     out += &views(names, &pack.nodes, &names.views);
@@ -31,9 +30,10 @@ pub fn story(story: &Story) -> String {
     out + "    }\n}\n"
 }
 
-/// A chart: its views.
-pub fn chart(names: &Names, nodes: &[Node]) -> String {
-    opening() + &views(names, nodes, &labels(nodes)) + "}\n"
+/// A chart under a story: its views.
+pub fn chart(story: &Story, bytes: &[u8]) -> Result<String, Unreadable> {
+    let nodes = decode::chart(&story.pack, bytes)?;
+    Ok(opening() + &views(&story.names, &nodes, &labels(&nodes)) + "}\n")
 }
 
 fn opening() -> String {
@@ -65,10 +65,10 @@ fn agents(names: &Names, action: &Action) -> Vec<String> {
         let found = (0..action.observations.len()).filter(|&character| wanted(&action.observations[character]));
         found.collect::<Vec<_>>()
     };
-    let at_times = |seen: &Condition| !seen.alternatives.is_empty() && !is_always(seen);
+    let at_times = |seen: &Condition| !seen.is_never() && !seen.is_always();
     let told = [
         ("by", action.consenters.clone()),
-        ("seen by", observers(is_always)),
+        ("seen by", observers(Condition::is_always)),
         ("at times seen by", observers(at_times)),
     ];
     let told = told.into_iter().filter(|(_, who)| !who.is_empty());
@@ -78,14 +78,14 @@ fn agents(names: &Names, action: &Action) -> Vec<String> {
 /// From each fact that a condition looks at, and to each fact that the effects change. Those in a belief are dashed.
 fn arrows(names: &Names, happening: &str, condition: &Condition, effects: &[Effect]) -> String {
     let mut arrows = Vec::new();
-    for test in condition.alternatives.iter().flatten() {
-        let value = &names.facts[test.fluent].values[test.value as usize];
+    for test in condition.tests() {
+        let value = &names.facts[test.fluent].values[test.value];
         let ends = format!("f{} -> {happening}", test.fluent);
-        arrows.push(arrow(names, ends, &test.chain, format!("{}{value}", kind(test))));
+        arrows.push(arrow(names, ends, &test.chain, format!("{}{value}", how(test.how))));
     }
     for effect in effects {
-        let chain: Vec<usize> = effect.whom.checked_sub(1).into_iter().collect();
-        let value = names.facts[effect.fluent].values[effect.value as usize].clone();
+        let chain: Vec<usize> = effect.whom.into_iter().collect();
+        let value = names.facts[effect.fluent].values[effect.value].clone();
         arrows.push(arrow(names, format!("{happening} -> f{}", effect.fluent), &chain, value));
     }
     let mut out = String::new();

@@ -3,12 +3,9 @@
 use crate::cursor::{Cursor, Phrase};
 use crate::error::{Error, Fault};
 use crate::names::Fact;
+use crate::pack::{MOST_CHARACTERS, MOST_FACTS, MOST_VALUES};
 use crate::sections::Section;
 use crate::words::Line;
-
-const MOST_CHARACTERS: usize = 6;
-const MOST_FACTS: usize = 24;
-const MOST_VALUES: usize = 128;
 
 /// No character's name begins with one of these, for headings and conditions do.
 const NO_CHARACTERS: [&str; 8] = ["author", "everyone", "always", "never", "what", "view", "action", "trigger"];

@@ -1,15 +1,9 @@
 //! What names mean in a story, and the reading of conditions and effects.
 
-use reference::generate::draft::{AT_LEAST, IS, IS_NOT};
-use reference::pack::{Condition, Effect, Test};
-
 use crate::cursor::{Cursor, Phrase};
 use crate::error::{Error, Fault};
 use crate::names::Fact;
-
-const MOST_ALTERNATIVES: usize = 8;
-const MOST_TESTS: usize = 8;
-const LONGEST_CHAIN: usize = 4;
+use crate::pack::{Condition, Effect, How, Test, LONGEST_CHAIN, MOST_ALTERNATIVES, MOST_TESTS};
 
 /// The characters and facts that there are.
 pub struct Scope<'n> {
@@ -28,9 +22,9 @@ impl Scope<'_> {
     }
 
     /// One of the fact's values.
-    pub fn value(&self, fact: usize, cursor: &mut Cursor) -> Result<u8, Error> {
+    pub fn value(&self, fact: usize, cursor: &mut Cursor) -> Result<usize, Error> {
         let name = cursor.phrase("a value")?;
-        Ok(position("value", self.facts[fact].values.iter(), &name)? as u8)
+        position("value", self.facts[fact].values.iter(), &name)
     }
 
     /// Alternatives with `or` between them, or `never`.
@@ -66,21 +60,21 @@ impl Scope<'_> {
     /// `Ada believes Ben believes the letter is not burnt`
     fn test(&self, cursor: &mut Cursor) -> Result<Test, Error> {
         let (chain, fluent) = self.subject(cursor, LONGEST_CHAIN, "beliefs one in another")?;
-        let kind = if cursor.take("not") {
-            IS_NOT
+        let how = if cursor.take("not") {
+            How::IsNot
         } else if cursor.take_two("at", "least") {
-            AT_LEAST
+            How::AtLeast
         } else {
-            IS
+            How::Is
         };
         let value = self.value(fluent, cursor)?;
-        Ok(Test { chain, kind, fluent, value })
+        Ok(Test { chain, how, fluent, value })
     }
 
     /// `the letter is burnt` or `Ben believes the letter is burnt`
     pub fn effect(&self, cursor: &mut Cursor) -> Result<Effect, Error> {
         let (chain, fluent) = self.subject(cursor, 1, "belief in an effect")?;
-        let whom = chain.first().map_or(0, |character| character + 1);
+        let whom = chain.first().copied();
         let value = self.value(fluent, cursor)?;
         Ok(Effect { whom, fluent, value })
     }

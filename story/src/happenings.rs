@@ -1,16 +1,11 @@
 //! Actions, triggers and what everyone wants.
 
-use reference::generate::draft::{always, never};
-use reference::pack::{Action, Condition, Effect, Rule, Test, Trigger};
-
 use crate::cursor::Cursor;
-use crate::error::{Error, Fault, Place};
+use crate::error::{Error, Fault};
+use crate::pack::{Action, Condition, Effect, Rule, Trigger, MOST_EFFECTS, MOST_RULES, MOST_WORTH};
+use crate::problem::Place;
 use crate::scope::{room, Scope};
 use crate::sections::Section;
-
-const MOST_EFFECTS: usize = 16;
-const MOST_RULES: usize = 8;
-const MOST_WORTH: usize = 65_535;
 
 /// What the lines of an action or a trigger say; each of them at most once but for `then`.
 struct Happening {
@@ -54,7 +49,7 @@ pub fn trigger(scope: &Scope, section: &Section) -> Result<Trigger, Error> {
 }
 
 fn or_always(condition: Option<(Condition, usize)>) -> Condition {
-    condition.map_or_else(always, |(condition, _)| condition)
+    condition.map_or_else(Condition::always, |(condition, _)| condition)
 }
 
 impl Happening {
@@ -112,15 +107,15 @@ impl Sight {
         let condition = if_condition(scope, cursor)?;
         for (character, at) in named {
             let what = format!("whether '{}' sees it", scope.characters[character]);
-            note(&mut self.named[character], copy(&condition), at, &what)?;
+            note(&mut self.named[character], condition.clone(), at, &what)?;
         }
         Ok(())
     }
 
     /// Who is named nowhere never sees it.
     fn observations(self) -> Vec<Condition> {
-        let others = self.others.map_or_else(never, |(condition, _)| condition);
-        self.named.into_iter().map(|named| named.map_or_else(|| copy(&others), |(condition, _)| condition)).collect()
+        let others = self.others.map_or_else(Condition::never, |(condition, _)| condition);
+        self.named.into_iter().map(|named| named.map_or_else(|| others.clone(), |(condition, _)| condition)).collect()
     }
 }
 
@@ -129,7 +124,7 @@ fn if_condition(scope: &Scope, cursor: &mut Cursor) -> Result<Condition, Error> 
     if cursor.take("if") {
         return scope.condition(cursor);
     }
-    Ok(always())
+    Ok(Condition::always())
 }
 
 /// Characters with commas or `and` between them, none of them twice, each with its place.
@@ -179,16 +174,10 @@ fn rule(scope: &Scope, cursor: &mut Cursor) -> Result<Rule, Error> {
     let worth = number.text.parse().ok().filter(|&worth| worth <= MOST_WORTH);
     let worth = worth.ok_or(Error::new(number.at, Fault::TooGreat { what: "a worth", most: MOST_WORTH }))?;
     if cursor.take("otherwise") {
-        return Ok(Rule { condition: always(), worth });
+        return Ok(Rule { condition: Condition::always(), worth });
     }
     if !cursor.take("if") {
         return cursor.expected("'if' or 'otherwise'");
     }
     Ok(Rule { condition: scope.condition(cursor)?, worth })
-}
-
-fn copy(condition: &Condition) -> Condition {
-    let test = |test: &Test| Test { chain: test.chain.clone(), ..*test };
-    let alternatives = condition.alternatives.iter().map(|tests| tests.iter().map(test).collect()).collect();
-    Condition { alternatives }
 }

@@ -1,6 +1,7 @@
 //! A text as lines of words, commas and colons, each with its place.
 
-use crate::error::{Error, Fault, Place};
+use crate::error::{Error, Fault};
+use crate::problem::Place;
 
 #[derive(Clone, Copy, PartialEq, Eq, Debug)]
 pub enum Sign<'a> {

@@ -1,6 +1,7 @@
 //! A walk along one line, word by word.
 
-use crate::error::{Error, Fault, Place};
+use crate::error::{Error, Fault};
+use crate::problem::Place;
 use crate::words::{Line, Sign, Token};
 
 /// Words that end a name wherever names are used.

@@ -1,15 +1,16 @@
 //! The truth and the views: each section is a node.
 
-use reference::graph::Node;
-
 use crate::cursor::{Cursor, Phrase};
 use crate::declare::refuse_word;
-use crate::error::{Error, Fault, Place};
+use crate::error::{Error, Fault};
 use crate::names::{Label, TRUTH};
+use crate::pack::{Node, MOST_VIEWS};
+use crate::problem::Place;
 use crate::scope::Scope;
 use crate::sections::{only, Kind, Section};
+use crate::source::Source;
+use crate::write::Part;
 
-const MOST_VIEWS: usize = 32;
 const OWN_SECTION: &str = "the end of the view's name (what is believed has a section of its own: 'what … believes:')";
 
 /// The nodes, the truth first and the others in the order of their sections, with their labels.
@@ -18,11 +19,12 @@ pub struct Views {
     pub labels: Vec<Label>,
     /// For each fact, whether the truth tells it with `are`.
     pub plural: Vec<bool>,
+    pub source: Source,
 }
 
 /// What a view's section says: values by fact, and views by character, each with the line that says it.
 struct Said {
-    values: Vec<Option<(u8, usize)>>,
+    values: Vec<Option<(usize, usize)>>,
     plural: Vec<bool>,
     beliefs: Vec<Option<(usize, usize)>>,
 }
@@ -39,7 +41,21 @@ pub fn views(scope: &Scope, sections: &[Section], end: Place) -> Result<Views, E
     }
     tie(scope, &views, &labels, &mut said)?;
     let plural = said[0].plural.clone();
-    Ok(Views { nodes: nodes(scope, truth, said)?, labels, plural })
+    let source = source(&views, &said);
+    Ok(Views { nodes: nodes(scope, truth, said)?, labels, plural, source })
+}
+
+/// Where each view says its facts and beliefs: what it leaves out, by its heading.
+fn source(views: &[&Section], said: &[Said]) -> Source {
+    let mut source = Source::default();
+    for (i, (view, said)) in views.iter().zip(said).enumerate() {
+        let place = |line: Option<usize>| line.map_or(view.at, |line| Place { line, column: 1 });
+        let values = said.values.iter().map(|told| place(told.map(|(_, line)| line)));
+        source.places.extend(values.enumerate().map(|(fact, at)| (Part::Value(i, fact), at)));
+        let beliefs = said.beliefs.iter().map(|told| place(told.map(|(_, line)| line)));
+        source.places.extend(beliefs.enumerate().map(|(character, at)| (Part::Belief(i, character), at)));
+    }
+    source
 }
 
 fn labels(scope: &Scope, views: &[&Section]) -> Result<Vec<Label>, Error> {
@@ -184,10 +200,10 @@ fn nodes(scope: &Scope, truth: &Section, said: Vec<Said>) -> Result<Vec<Node>, E
 fn values(
     scope: &Scope,
     truth: &Section,
-    told: &[Option<(u8, usize)>],
+    told: &[Option<(usize, usize)>],
     first: Option<&Node>,
-) -> Result<Vec<u8>, Error> {
-    let value = |(fact, told): (usize, &Option<(u8, usize)>)| match (told, first) {
+) -> Result<Vec<usize>, Error> {
+    let value = |(fact, told): (usize, &Option<(usize, usize)>)| match (told, first) {
         (Some((value, _)), _) => Ok(*value),
         (None, Some(first)) => Ok(first.values[fact]),
         (None, None) => Err(Error::new(truth.at, Fault::Unsaid(scope.facts[fact].name.clone()))),

@@ -2,8 +2,7 @@
 
 use std::collections::VecDeque;
 
-use reference::graph::Node;
-use reference::pack::Pack;
+use crate::pack::{Node, Pack};
 
 #[derive(Clone, PartialEq, Eq, Debug)]
 pub struct Names {

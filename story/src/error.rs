@@ -2,12 +2,7 @@
 
 use std::fmt::{self, Display, Formatter};
 
-/// A line and a column, both from 1; columns count characters.
-#[derive(Clone, Copy, PartialEq, Eq, Debug)]
-pub struct Place {
-    pub line: usize,
-    pub column: usize,
-}
+use crate::problem::Place;
 
 #[derive(Clone, PartialEq, Eq, Debug)]
 pub struct Error {

@@ -1,7 +1,6 @@
 //! Every refusal of a text: its line, its column and its sentence. `errors.txt` has a text for each, and here are those
 //! that are too long to be read.
 
-use story::command::{run, Problem};
 use story::read;
 
 /// The beginning of a story, without fault. In `errors.txt` three dots stand for it.
@@ -14,7 +13,10 @@ fn with(rest: &str) -> String {
 fn error(text: &str) -> String {
     match read(text.as_bytes()) {
         Ok(_) => panic!("read without an error:\n{text}"),
-        Err(error) => error.to_string(),
+        Err(problems) => {
+            let problem = &problems[0];
+            format!("line {}, column {}: {}", problem.at.line, problem.at.column, problem.message)
+        }
     }
 }
 
@@ -33,7 +35,7 @@ fn texts() {
 #[test]
 fn encoding() {
     let bytes = b"characters: Ada\n# \xC3\xA9\xC3\xA9 \xFF\n";
-    assert_eq!(read(bytes).err().unwrap().to_string(), "line 2, column 6: expected text in UTF-8");
+    assert_eq!(read(bytes).unwrap_err()[0].message, "expected text in UTF-8");
 }
 
 /// Counts of facts, views and rules.
@@ -84,27 +86,4 @@ fn too_long() {
             condition.len() + 7
         )
     );
-}
-
-/// What the program says where it isn't a text that is wrong.
-#[test]
-fn commands() {
-    let files = |path: &str| match path {
-        "good.story" => Ok(with("").into_bytes()),
-        "bad.story" => Ok(b"nothing".to_vec()),
-        "bad.pack" => Ok(vec![2]),
-        _ => Err(std::io::Error::from(std::io::ErrorKind::NotFound)),
-    };
-    let said = |words: &[&str]| run(words, files).unwrap_err().to_string();
-    assert!(matches!(run(&[], files), Err(Problem::Usage)));
-    assert!(matches!(run(&["pack"], files), Err(Problem::Usage)));
-    assert_eq!(said(&["pack", "no.story"]), "no.story: entity not found");
-    assert!(said(&["pack", "bad.story"]).starts_with("bad.story: line 1, column 1: expected a heading"));
-    assert_eq!(said(&["text", "bad.pack"]), "bad.pack: refused 3 at 0");
-    assert_eq!(said(&["chart", "good.story", "0g"]), "expected a chart in hexadecimal, found '0g'");
-    assert_eq!(said(&["chart", "good.story", "00"]), "the chart is refused: 23 at 0");
-    assert_eq!(said(&["dot", "good.story", "01000103"]), "the chart is refused: 24 at 3");
-    let told = run(&["chart", "good.story", "0201010200 0202".replace(' ', "").as_str()], files).unwrap();
-    let expected = "the truth:\n    letter is there\n\nwhat Ben believes:\n    letter is here\n";
-    assert_eq!(String::from_utf8(told).unwrap(), expected);
 }
