@@ -5,23 +5,26 @@ use pirwodd::{Foresight, Limits, Nesting, Story};
 use crate::said::Refused;
 
 pub const USAGE: &str = "\
-pirwodd new FILE              a story to begin with; a file that is there is never overwritten
-pirwodd check FILE            what is wrong with a story; then its beliefs, asked back by the proved calls
-pirwodd play FILE             the shortest ending in words           [-T N] [-K N] [-E N]
-pirwodd try FILE LIST ..      your own list of actions, up to the first that fails, and why   [-K N] [-E N]
-pirwodd ask FILE BELIEF       what is believed, as \"Ada believes the cousin believes the letter\"   [--after LIST]
+pirwodd new FILE                  a story to begin with; a file that is there is never overwritten
+pirwodd check FILE                what is wrong with a story; its beliefs, asked back by the proved calls
+pirwodd play FILE [LIMITS]        the shortest ending in words
+pirwodd try FILE LIST .. [LIMITS] your own list of actions, up to the first that fails, and why
+pirwodd ask FILE BELIEF [--after LIST]
+                                  what is believed: \"Ada believes the cousin believes the letter\"
 pirwodd compare FILE --after LIST --after LIST
-                              whether two lists leave the same, or who believes what differently
-pirwodd pack FILE             the story's pack, as bytes
-pirwodd text FILE             the story as text, or a state under it   [--after LIST | --chart HEX]
-pirwodd dot FILE              the same as a picture for Graphviz       [--after LIST | --chart HEX]
+                                  whether two lists leave the same, or who believes what differently
+pirwodd pack FILE                 the story's pack, as bytes
+pirwodd text FILE [STATE]         the story, or a state under it, as text
+pirwodd dot FILE [STATE]          the same as a picture for Graphviz
 pirwodd --version
 pirwodd --help
 
-FILE is a story, a pack if its name ends with .pack, or - for standard input.
-LIST is actions with commas between them, by number from 0 or by title; \"\" is the start.
--T is how many actions an ending may have (1 to 8, else 4), -K how many actions a character
-has in mind (1 to 6, else 3), -E how deep reasons are nested (0 to 3, else 2).
+FILE    a story, a pack if its name ends with .pack, or - for standard input
+LIST    actions with commas between them, by number from 0 or by title; \"\" is the start
+STATE   --after LIST, or --chart and the bytes of a chart in hexadecimal
+LIMITS  -T N  an ending has at most N actions, 1 to 8 (4); not for try
+        -K N  a character has at most N actions in mind, 1 to 6 (3)
+        -E N  reasons are nested N deep, 0 to 3 (2)
 Behind -- nothing is an option.
 
 Exit status: 0 answered; 1 no (no ending, they differ, an action fails, it is not believed);
@@ -71,7 +74,7 @@ pub fn command(words: &[String]) -> Result<Command, Refused> {
 }
 
 fn usage(problem: impl AsRef<str>) -> Refused {
-    Refused::new(format!("{}\n\n{USAGE}", problem.as_ref()))
+    Refused::new(format!("{}\npirwodd --help lists the commands and what they take", problem.as_ref()))
 }
 
 fn given<'w>(words: &[&'w str]) -> Result<Given<'w>, Refused> {

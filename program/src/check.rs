@@ -9,8 +9,8 @@ use crate::said::{Refused, Said};
 
 pub fn check(file: &str) -> Result<Said, Refused> {
     let Opened { stage, warnings } = open(file)?;
-    let Said { out, status, .. } = asked_back(file, &stage.story.names, &stage.pack, &stage.story.stated())?;
-    Ok(Said { out, err: warnings, status })
+    let said = asked_back(file, &stage.story.names, &stage.pack, &stage.story.stated())?;
+    Ok(said.warned(&warnings))
 }
 
 /// Asks a pack for every belief that a text states, on the chart that Start gives. The two are handed in apart, so that
@@ -31,5 +31,5 @@ pub fn asked_back(file: &str, names: &Names, pack: &[u8], stated: &[Stated]) -> 
     if !wrong.is_empty() {
         return Err(Refused(wrong + "That is a mistake of this program, and not of the story.\n"));
     }
-    Ok(Said::answer(format!("{file}: in order. {} beliefs that it states were asked back.\n", stated.len())))
+    Ok(Said::answer(format!("{file}: in order; beliefs asked back: {}\n", stated.len())))
 }

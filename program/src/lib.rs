@@ -10,7 +10,7 @@ mod attempt;
 pub mod check;
 mod compare;
 mod judge;
-mod list;
+pub mod list;
 mod mistakes;
 mod new;
 mod open;
@@ -19,10 +19,9 @@ mod said;
 mod show;
 mod stage;
 
-pub use said::{Said, Status};
+pub use said::{Refused, Said, Status};
 
 use arguments::{Command, USAGE};
-use said::Refused;
 
 /// What the program says to its arguments.
 pub fn run(words: &[String]) -> Said {

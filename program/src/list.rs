@@ -1,5 +1,7 @@
 //! Lists of actions, by number or by title. Titles may have commas, so a list is cut at all commas and put together again.
 
+use std::cmp::Reverse;
+
 use crate::said::Refused;
 
 /// The actions of a list. Of titles that begin alike the longest is taken that leaves a list.
@@ -37,7 +39,7 @@ fn candidates(titles: &[Vec<String>], list: &[String]) -> Vec<(usize, usize)> {
     }
     let fitting = titles.iter().enumerate().filter(|(_, title)| list.starts_with(title));
     let mut found: Vec<(usize, usize)> = fitting.map(|(action, title)| (title.len(), action)).collect();
-    found.sort_by(|one, other| other.0.cmp(&one.0));
+    found.sort_by_key(|&(length, _)| Reverse(length));
     found
 }
 

@@ -13,7 +13,6 @@ facts:
 the truth:
     the letter is in the desk
     the cousin is out
-    everyone believes the truth
 
 # What can happen. `when` it can be done, `then` what it changes, `by` whose reasons it needs,
 # `seen by` who notices it: anyone else goes on believing what was so before.
