@@ -156,3 +156,16 @@ fn its_tools_are_looked_for_first() {
         well(&format!("without-{tool}")).without(tool).fails(&format!("not found: {tool}"));
     }
 }
+
+/// The crates that need the library are left out of the tests beside the proofs, and just these run later.
+#[test]
+fn every_crate_is_tested_once() {
+    let script = std::fs::read_to_string(repository().join(".ci/run")).expect("the script");
+    let named = |option: &str| -> Vec<String> {
+        let lines = script.lines().filter(|line| line.contains("cargo test "));
+        let words: Vec<&str> = lines.flat_map(str::split_whitespace).collect();
+        words.windows(2).filter(|pair| pair[0] == option).map(|pair| pair[1].to_string()).collect()
+    };
+    assert_eq!(named("--exclude"), ["compare", "pirwodd", "program"]);
+    assert_eq!(named("-p"), named("--exclude"));
+}

@@ -23,7 +23,7 @@ const TOOLS: [&str; 16] = [
 /// A folder as a fresh clone has it.
 fn clone(name: &str) -> Folder {
     let clone = Folder::new(&format!("run-{name}"), "run", &[&TOOLS[..], &["sh"]].concat());
-    clone.copy("tests/Cargo.toml").say("tests/Cargo.lock", "").say("crates.txt", "");
+    clone.copy("tests/Cargo.toml").say("tests/Cargo.lock", "").say("crates.txt", "").say("a.story", "");
     for source in ["src/lib.rt", "specs/Number.antt", "proofs/Shared.antt"] {
         clone.say(&format!("crates/pack/{source}"), "");
     }
@@ -109,10 +109,21 @@ fn the_rust_that_is_needed() {
     }
 }
 
+/// A story that isn't there is told before anything is built.
+#[test]
+fn the_story_is_looked_for_first() {
+    let clone = clone("no-story");
+    for (words, said) in [(&["b.story"][..], "there is no story b.story that can be read"), (&[], "expected a story")] {
+        let (status, out, err) = ran(&clone, words);
+        assert_eq!((status, &out[..]), (Some(2), ""));
+        assert!(err.starts_with(&format!("run: {said}")) && err.lines().count() == 1, "{err}");
+    }
+    assert_eq!(ran(&clone, &["-"]).1, "told play -\n", "standard input");
+}
+
 #[test]
 fn what_fails_is_told() {
     let clone = clone("fails");
-    assert_eq!(ran(&clone, &[]).0, Some(2));
     clone.stand_in("rt", "#!/bin/sh\necho 'pack: a hole'\necho 'rt: pack NOT PROVED' >&2\nexit 1\n");
     let (status, out, err) = ran(&clone, &["a.story"]);
     assert_eq!((status, &out[..]), (Some(2), ""));
