@@ -60,7 +60,7 @@ fn wrong(stage: &mut Stage, chart: &[u8]) -> Result<String, Refused> {
     if mistakes.is_empty() {
         return Ok(line("nobody is wrong afterwards"));
     }
-    let told: String = mistakes.iter().take(MOST_TOLD).map(|mistake| below(mistake.told(stage))).collect();
+    let told: String = mistakes.iter().take(MOST_TOLD).map(|mistake| below(mistake.told(stage.names()))).collect();
     let rest = mistakes.len().saturating_sub(MOST_TOLD);
     let more = if rest > 0 { below(format!("and {rest} more")) } else { String::new() };
     Ok(line("wrong afterwards:") + &told + &more)

@@ -15,7 +15,7 @@ struct Asked {
 }
 
 pub fn ask(file: &str, question: &str, after: &str) -> Result<Said, Refused> {
-    let Opened { mut stage, warnings } = open(file)?;
+    let Opened { mut stage, warnings, .. } = open(file)?;
     let Asked { chain, fact, value } = asked(stage.names(), question)?;
     let list = actions(&stage.names().actions, after)?;
     let chart = stage.after(&list)?;

@@ -14,7 +14,7 @@ use crate::stage::Stage;
 const LONGEST_ENDING: usize = 8;
 
 pub fn attempt(file: &str, lists: &[String], limits: Limits) -> Result<Said, Refused> {
-    let Opened { mut stage, warnings } = open(file)?;
+    let Opened { mut stage, warnings, .. } = open(file)?;
     let mut list = Vec::new();
     for part in lists {
         list.extend(actions(&stage.names().actions, part)?);

@@ -1,16 +1,27 @@
 //! `check`: what is wrong with a story, and whether the planner finds in its pack what its text states.
 
+use std::collections::HashSet;
+
 use pirwodd::{Character, Fluent, Planner};
 use story::print::belief;
 use story::{Names, Stated};
 
+use crate::again;
 use crate::open::{name, open, Opened};
 use crate::said::{Refused, Said};
 
+/// The text's beliefs are read twice, by the reader of stories and by their words alone, and all are asked back.
 pub fn check(file: &str) -> Result<Said, Refused> {
-    let Opened { stage, warnings } = open(file)?;
-    let said = asked_back(file, &stage.story.names, &stage.pack, &stage.story.stated())?;
-    Ok(said.warned(&warnings))
+    let Opened { stage, warnings, text } = open(file)?;
+    let names = &stage.story.names;
+    let mut stated = stage.story.stated();
+    let known: HashSet<_> = stated.iter().map(key).collect();
+    stated.extend(again::stated(&text, names).into_iter().filter(|belief| !known.contains(&key(belief))));
+    Ok(asked_back(file, names, &stage.pack, &stated)?.warned(&warnings))
+}
+
+fn key(belief: &Stated) -> (Vec<usize>, usize, usize) {
+    (belief.chain.clone(), belief.fluent, belief.value)
 }
 
 /// Asks a pack for every belief that a text states, on the chart that Start gives. The two are handed in apart, so that

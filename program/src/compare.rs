@@ -8,7 +8,7 @@ use crate::open::{open, Opened};
 use crate::said::{Refused, Said};
 
 pub fn compare(file: &str, first: &str, second: &str) -> Result<Said, Refused> {
-    let Opened { mut stage, warnings } = open(file)?;
+    let Opened { mut stage, warnings, .. } = open(file)?;
     let (first, second) = (actions(&stage.names().actions, first)?, actions(&stage.names().actions, second)?);
     let (one, other) = (stage.after(&first)?, stage.after(&second)?);
     let said = match stage.compare(&one, &other)? {

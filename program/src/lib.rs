@@ -4,6 +4,7 @@
 //! In the order of reading: `said`, `arguments`, `open`, `stage`, `list`, `judge`, `act`, then a module for each command.
 
 mod act;
+pub mod again;
 mod arguments;
 mod ask;
 mod attempt;

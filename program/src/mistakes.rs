@@ -3,7 +3,9 @@
 use std::collections::{HashSet, VecDeque};
 
 use story::decode;
+use story::pack::Node;
 use story::print::belief;
+use story::Names;
 
 use crate::said::Refused;
 use crate::stage::Stage;
@@ -18,61 +20,75 @@ pub struct Mistake {
 
 impl Mistake {
     /// `Ada believes the letter is burnt (the letter is in the desk)`
-    pub fn told(&self, stage: &Stage) -> String {
+    pub fn told(&self, names: &Names) -> String {
         let Mistake { chain, fact, believed, so } = self;
-        let names = stage.names();
         format!("{} ({})", belief(names, chain, *fact, *believed), belief(names, &chain[1..], *fact, *so))
     }
 }
 
-/// All mistakes in a state, those of short chains first. A belief and what it is about are walked side by side; each pair of
-/// nodes of the chart is met once for each believer. The chart says which chains are worth asking for, Query what is there.
+/// Two nodes side by side: what the first of a chain believes, and what that is about.
+#[derive(Clone, Copy, PartialEq, Eq, Hash)]
+struct Pair {
+    believed: usize,
+    so: usize,
+}
+
+/// All mistakes in a state, those of short chains first. For each believer every pair of nodes is met once, by the shortest
+/// chain.
 pub fn mistakes(stage: &mut Stage, chart: &[u8]) -> Result<Vec<Mistake>, Refused> {
-    let nodes = decode::chart(&stage.story.pack, chart).map_err(|unreadable| Refused::new(unreadable.to_string()))?;
-    let characters = 0..stage.story.pack.characters;
-    let first = characters.clone().map(|who| (vec![who], nodes[0].beliefs[who], 0));
-    let mut open: VecDeque<(Vec<usize>, usize, usize)> = first.collect();
-    let mut met: HashSet<_> = open.iter().map(|(chain, believed, so)| (chain[0], *believed, *so)).collect();
+    let nodes = asked(stage, chart)?;
+    let first = nodes[0].beliefs.iter().enumerate();
+    let mut open: VecDeque<_> = first.map(|(who, &believed)| (vec![who], Pair { believed, so: 0 }, None)).collect();
+    let mut met: HashSet<_> = open.iter().map(|(chain, pair, _)| (chain[0], *pair)).collect();
     let mut found = Vec::new();
-    while let Some((chain, believed, so)) = open.pop_front() {
-        if believed == so {
+    while let Some((chain, pair, before)) = open.pop_front() {
+        if pair.believed == pair.so {
             continue;
         }
-        found.extend(at_chain(stage, chart, &chain)?);
-        for next in characters.clone() {
-            let (believed, so) = (nodes[believed].beliefs[next], nodes[so].beliefs[next]);
-            if met.insert((chain[0], believed, so)) {
-                open.push_back(([&chain[..], &[next]].concat(), believed, so));
+        found.extend(at_pair(&nodes, &chain, pair, before));
+        let (believed, so) = (&nodes[pair.believed].beliefs, &nodes[pair.so].beliefs);
+        for (next, (&believed, &so)) in believed.iter().zip(so).enumerate() {
+            let then = Pair { believed, so };
+            if met.insert((chain[0], then)) {
+                open.push_back(([&chain[..], &[next]].concat(), then, Some(pair)));
             }
         }
     }
     Ok(found)
 }
 
-/// The facts that a chain's first character is wrong about. Left out is what follows: somebody who is wrong about a fact and
-/// takes another to be of the same opinion.
-fn at_chain(stage: &mut Stage, chart: &[u8], chain: &[usize]) -> Result<Vec<Mistake>, Refused> {
+/// The nodes of a chart: where chains lead is the chart's to say; the values there are asked for by Query, by the chain that
+/// meets a node first.
+fn asked(stage: &mut Stage, chart: &[u8]) -> Result<Vec<Node>, Refused> {
+    let chart_nodes = decode::chart(&stage.story.pack, chart);
+    let mut nodes = chart_nodes.map_err(|unreadable| Refused::new(unreadable.to_string()))?;
+    let mut met = HashSet::from([0]);
+    let mut open = VecDeque::from([(Vec::new(), 0)]);
+    while let Some((chain, node)) = open.pop_front() {
+        for fact in 0..nodes[node].values.len() {
+            nodes[node].values[fact] = stage.value(chart, &chain, fact)?;
+        }
+        for (next, &believed) in nodes[node].beliefs.iter().enumerate() {
+            if met.insert(believed) {
+                open.push_back(([&chain[..], &[next]].concat(), believed));
+            }
+        }
+    }
+    Ok(nodes)
+}
+
+/// The facts that a chain's first character is wrong about. Left out is what follows from the pair before it: somebody who is
+/// wrong about a fact and takes another to be of the same opinion.
+fn at_pair(nodes: &[Node], chain: &[usize], pair: Pair, before: Option<Pair>) -> Vec<Mistake> {
+    let values = |pair: Pair, fact: usize| (nodes[pair.believed].values[fact], nodes[pair.so].values[fact]);
     let mut found = Vec::new();
-    for fact in 0..stage.names().facts.len() {
-        let (believed, so) = sides(stage, chart, chain, fact)?;
-        if believed != so && !follows(stage, chart, chain, (fact, believed))? {
+    for fact in 0..nodes[0].values.len() {
+        let (believed, so) = values(pair, fact);
+        let follows =
+            before.map(|before| values(before, fact)).is_some_and(|(held, so)| held == believed && held != so);
+        if believed != so && !follows {
             found.push(Mistake { chain: chain.to_vec(), fact, believed, so });
         }
     }
-    Ok(found)
-}
-
-/// What the first of a chain believes, and what it is about.
-fn sides(stage: &mut Stage, chart: &[u8], chain: &[usize], fact: usize) -> Result<(usize, usize), Refused> {
-    Ok((stage.value(chart, chain, fact)?, stage.value(chart, &chain[1..], fact)?))
-}
-
-fn follows(stage: &mut Stage, chart: &[u8], chain: &[usize], told: (usize, usize)) -> Result<bool, Refused> {
-    let (fact, believed) = told;
-    let [shorter @ .., _] = chain else { return Ok(false) };
-    if shorter.is_empty() {
-        return Ok(false);
-    }
-    let (before, so) = sides(stage, chart, shorter, fact)?;
-    Ok(before == believed && before != so)
+    found
 }

@@ -8,10 +8,11 @@ use story::{Reading, Story};
 use crate::said::Refused;
 use crate::stage::Stage;
 
-/// A story that the planner accepts, and what is seldom meant in it.
+/// A story that the planner accepts, what is seldom meant in it, and its text; a pack has none.
 pub struct Opened {
     pub stage: Stage,
     pub warnings: String,
+    pub text: String,
 }
 
 /// Opens a story, or a pack; `-` is standard input.
@@ -29,7 +30,7 @@ pub fn open(file: &str) -> Result<Opened, Refused> {
     let pack = story.bytes();
     let mut planner = Planner::new();
     let start = planner.start(&pack).map_err(|refusal| at_its_line(file, &story, refusal))?;
-    Ok(Opened { stage: Stage { planner, story, pack, start }, warnings })
+    Ok(Opened { stage: Stage { planner, story, pack, start }, warnings, text: text.into_owned() })
 }
 
 /// What a file is called in messages.
@@ -60,7 +61,7 @@ fn pack(file: &str, pack: Vec<u8>) -> Result<Opened, Refused> {
     let mut planner = Planner::new();
     let start = planner.start(&pack).map_err(|refusal| refused(refusal.to_string()))?;
     let story = Story::of_pack(&pack).map_err(|unreadable| refused(unreadable.to_string()))?;
-    Ok(Opened { stage: Stage { planner, story, pack, start }, warnings: String::new() })
+    Ok(Opened { stage: Stage { planner, story, pack, start }, warnings: String::new(), text: String::new() })
 }
 
 /// A refusal of a story's pack, with the line of the text that it is about.

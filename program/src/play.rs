@@ -10,7 +10,7 @@ use crate::said::{Refused, Said};
 use crate::stage::Stage;
 
 pub fn play(file: &str, limits: Limits) -> Result<Said, Refused> {
-    let Opened { mut stage, warnings } = open(file)?;
+    let Opened { mut stage, warnings, .. } = open(file)?;
     let said = match stage.search(limits) {
         Ok(ending) => Said::answer(told(&mut stage, &ending, limits)?),
         Err(Refusal { number: NO_ENDING, .. }) => Said::verdict(false, none(limits)),

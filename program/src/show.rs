@@ -9,7 +9,7 @@ use crate::said::{Refused, Said};
 use crate::stage::Stage;
 
 pub fn pack(file: &str) -> Result<Said, Refused> {
-    let Opened { stage, warnings } = open(file)?;
+    let Opened { stage, warnings, .. } = open(file)?;
     Ok(Said::answer(stage.pack).warned(&warnings))
 }
 
@@ -25,7 +25,7 @@ type OfStory = fn(&Story) -> String;
 type OfChart = fn(&Story, &[u8]) -> Result<String, Unreadable>;
 
 fn shown(file: &str, of: Shown, story: OfStory, chart: OfChart) -> Result<Said, Refused> {
-    let Opened { mut stage, warnings } = open(file)?;
+    let Opened { mut stage, warnings, .. } = open(file)?;
     let text = match state(&mut stage, of)? {
         None => story(&stage.story),
         Some(bytes) => chart(&stage.story, &bytes).map_err(|unreadable| Refused::new(unreadable.to_string()))?,
