@@ -48,6 +48,29 @@ fn beliefs_about_beliefs() {
     assert_eq!((lines.len(), lines.last()), (12, Some(&"and 8 more")), "{second}");
 }
 
+/// What is told as wrong is asked back: the belief is held after these actions, and what stands behind it is so.
+#[test]
+fn wrong_beliefs_are_held_and_wrong() {
+    let mut asked = 0;
+    for file in ["letter.story", "alice.story", "shoes.story", "market.story", "lie.story"] {
+        let (_, told, _) = pirwodd(&["play", file]);
+        let mut after: Vec<&str> = Vec::new();
+        for line in told.lines().skip(2) {
+            if let Some((_, title)) = line.split_once(". ").filter(|_| !line.starts_with(' ')) {
+                after.push(title);
+            }
+            let Some((held, so)) = line.trim().strip_suffix(')').and_then(|line| line.split_once(" (")) else {
+                continue;
+            };
+            for side in [held, so] {
+                says(pirwodd(&["ask", file, side, "--after", &after.join(",")]), 0, &format!("yes: {side}\n"));
+                asked += 1;
+            }
+        }
+    }
+    assert!(asked > 40, "{asked}");
+}
+
 /// Every story of the examples: the actions and worths that its `.out` has.
 #[test]
 fn the_endings_are_those_of_the_examples() {
