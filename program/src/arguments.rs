@@ -4,145 +4,108 @@ use pirwodd::{Foresight, Limits, Nesting, Story};
 
 use crate::said::Refused;
 
-pub const USAGE: &str = "\
-pirwodd new FILE                  a story to begin with; a file that is there is never overwritten
-pirwodd check FILE                what is wrong with a story; its beliefs, asked back by the proved calls
-pirwodd play FILE [LIMITS]        the shortest ending in words
-pirwodd try FILE LIST .. [LIMITS] your own list of actions, up to the first that fails, and why
-pirwodd ask FILE BELIEF [--after LIST]
-                                  what is believed: \"Ada believes the cousin believes the letter\"
-pirwodd compare FILE --after LIST --after LIST
-                                  whether two lists leave the same, or who believes what differently
-pirwodd pack FILE                 the story's pack, as bytes
-pirwodd text FILE [STATE]         the story, or a state under it, as text
-pirwodd dot FILE [STATE]          the same as a picture for Graphviz
-pirwodd --version
-pirwodd --help
+/// What `--help` prints.
+pub const USAGE: &str = include_str!("usage.txt");
 
-FILE    a story, a pack if its name ends with .pack, or - for standard input
-LIST    actions with commas between them, by number from 0 or by title; \"\" is the start
-STATE   --after LIST, or --chart and the bytes of a chart in hexadecimal
-LIMITS  -T N  an ending has at most N actions, 1 to 8 (4); not for try
-        -K N  a character has at most N actions in mind, 1 to 6 (3)
-        -E N  reasons are nested N deep, 0 to 3 (2)
-Behind -- nothing is an option.
-
-Exit status: 0 answered; 1 no (no ending, they differ, an action fails, it is not believed);
-2 refused, wrong usage, or a read or write that failed.
-";
-
-#[derive(Debug)]
-pub enum Command {
-    New { file: String },
-    Check { file: String },
-    Play { file: String, limits: Limits },
-    Try { file: String, lists: Vec<String>, limits: Limits },
-    Ask { file: String, belief: String, after: String },
-    Compare { file: String, first: String, second: String },
-    Pack { file: String },
-    Text { file: String, of: Shown },
-    Dot { file: String, of: Shown },
+pub enum Command<'w> {
+    New { file: &'w str },
+    Check { file: &'w str },
+    Play { file: &'w str, limits: Limits },
+    Try { file: &'w str, lists: &'w [&'w str], limits: Limits },
+    Ask { file: &'w str, belief: &'w str, after: &'w str },
+    Compare { file: &'w str, first: &'w str, second: &'w str },
+    Pack { file: &'w str },
+    Text { file: &'w str, of: Shown<'w> },
+    Dot { file: &'w str, of: Shown<'w> },
     Version,
     Help,
 }
 
 /// What is shown: a story, or a state under it.
-#[derive(Debug)]
-pub enum Shown {
+pub enum Shown<'w> {
     Story,
-    After(String),
-    Chart(String),
+    After(&'w str),
+    Chart(&'w str),
 }
 
-/// The arguments by kind.
+/// The words behind a command: options with what stands behind each, and the others.
 #[derive(Default)]
-struct Given<'w> {
+pub struct Given<'w> {
+    command: &'w str,
     places: Vec<&'w str>,
     options: Vec<(&'w str, &'w str)>,
 }
 
 const OPTIONS: [&str; 5] = ["-T", "-K", "-E", "--after", "--chart"];
 
-pub fn command(words: &[String]) -> Result<Command, Refused> {
-    let words: Vec<&str> = words.iter().map(String::as_str).collect();
-    match words[..] {
-        ["--version"] => Ok(Command::Version),
-        ["--help" | "-h"] | [_, "--help" | "-h"] => Ok(Command::Help),
-        [name, ref rest @ ..] => given(rest)?.command(name),
-        [] => Err(usage("expected a command")),
-    }
-}
-
 fn usage(problem: impl AsRef<str>) -> Refused {
     Refused::new(format!("{}\npirwodd --help lists the commands and what they take", problem.as_ref()))
 }
 
-fn given<'w>(words: &[&'w str]) -> Result<Given<'w>, Refused> {
-    let mut given = Given::default();
-    let mut words = words.iter().copied();
-    while let Some(word) = words.next() {
-        match word {
-            "--" => given.places.extend(words.by_ref()),
-            _ if OPTIONS.contains(&word) => {
-                let value = words.next().ok_or_else(|| usage(format!("{word}: expected something behind it")))?;
-                given.options.push((word, value));
+impl<'w> Given<'w> {
+    /// The arguments by kind. `--help` and `--version` are commands.
+    pub fn new(words: &'w [String]) -> Result<Given<'w>, Refused> {
+        let mut words = words.iter().map(String::as_str);
+        let command = words.next().ok_or_else(|| usage("expected a command"))?;
+        let mut given = Given { command, ..Given::default() };
+        while let Some(word) = words.next() {
+            match word {
+                "--" => given.places.extend(words.by_ref()),
+                "--help" | "-h" => given.command = "--help",
+                _ if OPTIONS.contains(&word) => {
+                    let value = words.next().ok_or_else(|| usage(format!("{word}: expected something behind it")))?;
+                    given.options.push((word, value));
+                }
+                _ if word.starts_with('-') && word != "-" => return Err(usage(format!("there is no option {word}"))),
+                _ => given.places.push(word),
             }
-            _ if word.starts_with('-') && word != "-" => return Err(usage(format!("there is no option {word}"))),
-            _ => given.places.push(word),
         }
-    }
-    Ok(given)
-}
-
-impl Given<'_> {
-    fn command(&self, name: &str) -> Result<Command, Refused> {
-        let places: Vec<String> = self.places.iter().map(|place| place.to_string()).collect();
-        let mut more = places.into_iter();
-        let file = more.next().unwrap_or_default();
-        let more: Vec<String> = more.collect();
-        let command = match (name, &more[..]) {
-            ("new", []) => Command::New { file },
-            ("check", []) => Command::Check { file },
-            ("play", []) => Command::Play { file, limits: self.limits()? },
-            ("try", [_, ..]) => Command::Try { file, lists: more, limits: self.limits()? },
-            ("ask", [belief]) => Command::Ask { file, belief: belief.clone(), after: self.after()? },
-            ("compare", []) => self.two_lists(file)?,
-            ("pack", []) => Command::Pack { file },
-            ("text", []) => Command::Text { file, of: self.shown()? },
-            ("dot", []) => Command::Dot { file, of: self.shown()? },
-            _ => return Err(usage(format!("'{name}' is no command, or not one with these arguments"))),
-        };
-        self.places.first().ok_or_else(|| usage(format!("{name}: expected a file")))?;
-        self.only(name)?;
-        Ok(command)
+        Ok(given)
     }
 
-    /// No option is given that the command doesn't have.
-    fn only(&self, name: &str) -> Result<(), Refused> {
+    pub fn command(&'w self) -> Result<Command<'w>, Refused> {
+        let name = self.command;
         let known: &[&str] = match name {
+            "--help" | "-h" => return Ok(Command::Help),
+            "--version" => return Ok(Command::Version),
+            "new" | "check" | "pack" => &[],
             "play" => &["-T", "-K", "-E"],
             "try" => &["-K", "-E"],
             "ask" | "compare" => &["--after"],
             "text" | "dot" => &["--after", "--chart"],
-            _ => &[],
+            _ => return Err(usage(format!("there is no command '{name}'"))),
         };
-        match self.options.iter().find(|(option, _)| !known.contains(option)) {
-            Some((option, _)) => Err(usage(format!("{name}: {option} is not one of its options"))),
-            None => Ok(()),
+        if let Some((option, _)) = self.options.iter().find(|(option, _)| !known.contains(option)) {
+            return Err(usage(format!("{name}: {option} is not one of its options")));
         }
+        let (file, more) = self.places.split_first().ok_or_else(|| usage(format!("{name}: expected a file")))?;
+        self.on(file, more)
+    }
+
+    /// The command on a file.
+    fn on(&'w self, file: &'w str, more: &'w [&'w str]) -> Result<Command<'w>, Refused> {
+        Ok(match (self.command, more) {
+            ("new", []) => Command::New { file },
+            ("check", []) => Command::Check { file },
+            ("play", []) => Command::Play { file, limits: self.limits()? },
+            ("try", [_, ..]) => Command::Try { file, lists: more, limits: self.limits()? },
+            ("ask", [belief]) => Command::Ask { file, belief, after: self.once("--after")?.unwrap_or_default() },
+            ("compare", []) => self.two_lists(file)?,
+            ("pack", []) => Command::Pack { file },
+            ("text", []) => Command::Text { file, of: self.shown()? },
+            ("dot", []) => Command::Dot { file, of: self.shown()? },
+            (name, []) => return Err(usage(format!("{name}: expected more than a file"))),
+            (name, [.., last]) => return Err(usage(format!("{name}: '{last}' is more than it takes"))),
+        })
     }
 
     /// The value of an option that stands at most once.
-    fn once(&self, name: &str) -> Result<Option<&str>, Refused> {
+    fn once(&self, name: &str) -> Result<Option<&'w str>, Refused> {
         let mut values = self.options.iter().filter(|(option, _)| *option == name).map(|(_, value)| *value);
         match (values.next(), values.next()) {
             (value, None) => Ok(value),
             _ => Err(usage(format!("{name}: expected it once"))),
         }
-    }
-
-    fn after(&self) -> Result<String, Refused> {
-        Ok(self.once("--after")?.unwrap_or_default().to_string())
     }
 
     /// The limits; whether they are within their bounds is the planner's to say.
@@ -159,20 +122,18 @@ impl Given<'_> {
         })
     }
 
-    fn two_lists(&self, file: String) -> Result<Command, Refused> {
+    fn two_lists(&self, file: &'w str) -> Result<Command<'w>, Refused> {
         match self.options[..] {
-            [("--after", first), ("--after", second)] => {
-                Ok(Command::Compare { file, first: first.to_string(), second: second.to_string() })
-            }
+            [(_, first), (_, second)] => Ok(Command::Compare { file, first, second }),
             _ => Err(usage("compare: expected --after LIST twice")),
         }
     }
 
-    fn shown(&self) -> Result<Shown, Refused> {
+    fn shown(&self) -> Result<Shown<'w>, Refused> {
         match self.options[..] {
             [] => Ok(Shown::Story),
-            [("--after", list)] => Ok(Shown::After(list.to_string())),
-            [("--chart", bytes)] => Ok(Shown::Chart(bytes.to_string())),
+            [("--after", list)] => Ok(Shown::After(list)),
+            [(_, bytes)] => Ok(Shown::Chart(bytes)),
             _ => Err(usage("expected --after LIST or --chart HEX, and one of them")),
         }
     }

@@ -13,7 +13,7 @@ use crate::stage::Stage;
 /// An ending has at most so many actions, whatever T is.
 const LONGEST_ENDING: usize = 8;
 
-pub fn attempt(file: &str, lists: &[String], limits: Limits) -> Result<Said, Refused> {
+pub fn attempt(file: &str, lists: &[&str], limits: Limits) -> Result<Said, Refused> {
     let Opened { mut stage, warnings, .. } = open(file)?;
     let mut list = Vec::new();
     for part in lists {

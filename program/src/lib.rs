@@ -23,7 +23,7 @@ mod stage;
 
 pub use said::{Refused, Said, Status};
 
-use arguments::{Command, USAGE};
+use arguments::{Command, Given, USAGE};
 
 /// What the program says to its arguments.
 pub fn run(words: &[String]) -> Said {
@@ -35,16 +35,16 @@ pub fn run(words: &[String]) -> Said {
 }
 
 fn answered(words: &[String]) -> Result<Said, Refused> {
-    match arguments::command(words)? {
-        Command::New { file } => new::new(&file),
-        Command::Check { file } => check::check(&file),
-        Command::Play { file, limits } => play::play(&file, limits),
-        Command::Try { file, lists, limits } => attempt::attempt(&file, &lists, limits),
-        Command::Ask { file, belief, after } => ask::ask(&file, &belief, &after),
-        Command::Compare { file, first, second } => compare::compare(&file, &first, &second),
-        Command::Pack { file } => show::pack(&file),
-        Command::Text { file, of } => show::text(&file, of),
-        Command::Dot { file, of } => show::dot(&file, of),
+    match Given::new(words)?.command()? {
+        Command::New { file } => new::new(file),
+        Command::Check { file } => check::check(file),
+        Command::Play { file, limits } => play::play(file, limits),
+        Command::Try { file, lists, limits } => attempt::attempt(file, lists, limits),
+        Command::Ask { file, belief, after } => ask::ask(file, belief, after),
+        Command::Compare { file, first, second } => compare::compare(file, first, second),
+        Command::Pack { file } => show::pack(file),
+        Command::Text { file, of } => show::text(file, of),
+        Command::Dot { file, of } => show::dot(file, of),
         Command::Version => Ok(Said::answer(version())),
         Command::Help => Ok(Said::answer(USAGE)),
     }

@@ -38,11 +38,11 @@ fn state(stage: &mut Stage, of: Shown) -> Result<Option<Vec<u8>>, Refused> {
     match of {
         Shown::Story => Ok(None),
         Shown::After(list) => {
-            let list = actions(&stage.names().actions, &list)?;
+            let list = actions(&stage.names().actions, list)?;
             Ok(Some(stage.after(&list)?.to_vec()))
         }
         Shown::Chart(text) => {
-            let bytes = hexadecimal(&text).ok_or_else(|| {
+            let bytes = hexadecimal(text).ok_or_else(|| {
                 Refused::new(format!("expected a chart's bytes in hexadecimal, two digits each, found '{text}'"))
             })?;
             stage.compare(&bytes, &bytes)?;

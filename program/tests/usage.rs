@@ -38,12 +38,13 @@ fn help() {
 
 #[test]
 fn wrong_usage() {
-    let cases: [(&[&str], &str); 12] = [
+    let cases: [(&[&str], &str); 13] = [
         (&[], "expected a command"),
-        (&["sing"], "'sing' is no command, or not one with these arguments"),
+        (&["sing"], "there is no command 'sing'"),
         (&["play"], "play: expected a file"),
-        (&["play", "p.story", "letter.story"], "'play' is no command, or not one with these arguments"),
-        (&["try", "p.story"], "'try' is no command, or not one with these arguments"),
+        (&["play", "p.story", "letter.story"], "play: 'letter.story' is more than it takes"),
+        (&["try", "p.story"], "try: expected more than a file"),
+        (&["ask", "p.story", "the", "lamp"], "ask: 'lamp' is more than it takes"),
         (&["play", "p.story", "-T"], "-T: expected something behind it"),
         (&["play", "p.story", "-T", "four"], "-T: expected a small number, found 'four'"),
         (&["play", "p.story", "-T", "4", "-T", "5"], "-T: expected it once"),
