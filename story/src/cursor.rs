@@ -1,12 +1,13 @@
 //! A walk along one line, word by word.
 
-use crate::error::{Error, Fault};
-use crate::problem::Place;
-use crate::words::{Line, Sign, Token};
+use crate::problem::{Place, Read, Span};
+use crate::wanted::Wanted;
+use crate::words::{span, Line, Sign, Token};
 
 /// Words that end a name wherever names are used.
 pub const RESERVED: [&str; 6] = ["is", "are", "believes", "and", "or", "if"];
 
+#[derive(Clone)]
 pub struct Cursor<'l, 'a> {
     tokens: &'l [Token<'a>],
     end: Place,
@@ -16,7 +17,7 @@ pub struct Cursor<'l, 'a> {
 #[derive(Clone, Debug)]
 pub struct Phrase {
     pub text: String,
-    pub at: Place,
+    pub span: Span,
 }
 
 impl<'l, 'a> Cursor<'l, 'a> {
@@ -24,9 +25,18 @@ impl<'l, 'a> Cursor<'l, 'a> {
         Cursor { tokens: &line.tokens, end: line.end }
     }
 
-    /// The place of what comes next.
-    pub fn at(&self) -> Place {
-        self.tokens.first().map_or(self.end, |token| token.at)
+    /// What comes next.
+    pub fn here(&self) -> Span {
+        match self.tokens.first() {
+            Some(token) => Span { at: token.at, width: token.width() },
+            None => Span { at: self.end, width: 1 },
+        }
+    }
+
+    /// From a place to what was taken last, as far as it stands on one line.
+    pub fn since(&self, begin: &Cursor) -> Span {
+        let taken = &begin.tokens[..begin.tokens.len() - self.tokens.len()];
+        span(taken).unwrap_or_else(|| begin.here())
     }
 
     pub fn is_done(&self) -> bool {
@@ -50,14 +60,9 @@ impl<'l, 'a> Cursor<'l, 'a> {
         found
     }
 
-    /// Takes the word if it comes next.
-    pub fn take(&mut self, word: &str) -> bool {
-        self.takes(&[Sign::Word(word)])
-    }
-
-    /// Takes both words if they come next.
-    pub fn take_two(&mut self, first: &str, second: &str) -> bool {
-        self.takes(&[Sign::Word(first), Sign::Word(second)])
+    /// Takes the words, which one space parts, if they come next.
+    pub fn take(&mut self, words: &str) -> bool {
+        self.takes(&words.split(' ').map(Sign::Word).collect::<Vec<_>>())
     }
 
     /// Takes `is` or, for shoes and stalls, `are`.
@@ -80,47 +85,44 @@ impl<'l, 'a> Cursor<'l, 'a> {
     }
 
     /// Takes any word.
-    pub fn any_word(&mut self, what: &'static str) -> Result<Phrase, Error> {
-        let at = self.at();
-        let Some(word) = self.word() else { return self.expected(what) };
+    pub fn any_word(&mut self, wanted: Wanted) -> Read<Phrase> {
+        let span = self.here();
+        let Some(word) = self.word() else { return self.expected(wanted) };
         self.tokens = &self.tokens[1..];
-        Ok(Phrase { text: word.to_string(), at })
+        Ok(Phrase { text: word.to_string(), span })
     }
 
     /// Takes a name: words up to a reserved one, a comma, a colon or the end.
-    pub fn phrase(&mut self, what: &'static str) -> Result<Phrase, Error> {
-        self.words(what, |word| !RESERVED.contains(&word))
+    pub fn phrase(&mut self, wanted: Wanted) -> Read<Phrase> {
+        self.words(wanted, |word| !RESERVED.contains(&word))
     }
 
     /// Takes a title: all words up to a comma, a colon or the end.
-    pub fn title(&mut self, what: &'static str) -> Result<Phrase, Error> {
-        self.words(what, |_| true)
+    pub fn title(&mut self, wanted: Wanted) -> Read<Phrase> {
+        self.words(wanted, |_| true)
     }
 
-    fn words(&mut self, what: &'static str, part: fn(&str) -> bool) -> Result<Phrase, Error> {
-        let at = self.at();
-        let mut words = Vec::new();
-        while let Some(word) = self.word().filter(|word| part(word)) {
-            words.push(word);
-            self.tokens = &self.tokens[1..];
-        }
-        if words.is_empty() {
-            return self.expected(what);
-        }
-        Ok(Phrase { text: words.join(" "), at })
+    fn words(&mut self, wanted: Wanted, part: fn(&str) -> bool) -> Read<Phrase> {
+        let taken = self.tokens.iter().take_while(|token| matches!(token.sign, Sign::Word(word) if part(word))).count();
+        let (words, rest) = self.tokens.split_at(taken);
+        let Some(span) = span(words) else { return self.expected(wanted) };
+        self.tokens = rest;
+        let words: Vec<&str> = words.iter().map(|token| token.sign.text()).collect();
+        Ok(Phrase { text: words.join(" "), span })
     }
 
     /// The refusal of what comes next.
-    pub fn expected<T>(&self, what: &'static str) -> Result<T, Error> {
-        let found = self.tokens.first().map(|token| token.sign.text().to_string());
-        Err(Error::new(self.at(), Fault::Expected { what, found }))
+    pub fn expected<T>(&self, wanted: Wanted) -> Read<T> {
+        let found = self.tokens.first().map(|token| format!("'{}'", token.sign.text()));
+        let found = found.unwrap_or("the end of the line".to_string());
+        Err(self.here().problem(format!("expected {}, found {found}", wanted.what), wanted.help).into())
     }
 
     /// Nothing may follow.
-    pub fn finish(&self, what: &'static str) -> Result<(), Error> {
+    pub fn finish(&self, wanted: Wanted) -> Read<()> {
         if self.is_done() {
             return Ok(());
         }
-        self.expected(what)
+        self.expected(wanted)
     }
 }

@@ -3,9 +3,11 @@
 use std::fmt::Write;
 
 use crate::decode::{self, Unreadable};
-use crate::names::{chain_text, labels, Label, Names};
-use crate::pack::{Action, Condition, Effect, Node};
-use crate::print::{how, people, told};
+use crate::names::{chain_text, labels, Names};
+use crate::pack::{Action, Condition, Effect};
+use crate::print::{belief, how, people, Shown};
+use crate::source::Filled;
+use crate::write::Part;
 use crate::Story;
 
 /// A story: its views, and its facts with the actions and triggers that look at them and change them.
@@ -13,7 +15,7 @@ pub fn story(story: &Story) -> String {
     let Story { pack, names, .. } = story;
     let mut out = opening();
     out += "    subgraph cluster_views {\n        label=\"what is so, and what is believed\";\n";
-    out += &views(names, &pack.nodes, &names.views);
+    out += &views(&Shown::of(story));
     out += "    }\n    subgraph cluster_plot {\n        label=\"what can happen\";\n";
     for (i, fact) in names.facts.iter().enumerate() {
         line(&mut out, &format!("f{i} [shape=ellipse, label={}];", quoted(&fact.name)));
@@ -33,7 +35,8 @@ pub fn story(story: &Story) -> String {
 /// A chart under a story: its views.
 pub fn chart(story: &Story, bytes: &[u8]) -> Result<String, Unreadable> {
     let nodes = decode::chart(&story.pack, bytes)?;
-    Ok(opening() + &views(&story.names, &nodes, &labels(&nodes)) + "}\n")
+    let shown = Shown { names: &story.names, nodes: &nodes, labels: &labels(&nodes), source: None };
+    Ok(opening() + &views(&shown) + "}\n")
 }
 
 fn opening() -> String {
@@ -41,22 +44,40 @@ fn opening() -> String {
 }
 
 /// A box for each view, the truth with a double border; an arrow from a view to what is believed in it, with the names
-/// of those who believe it.
-fn views(names: &Names, nodes: &[Node], labels: &[Label]) -> String {
+/// of those who believe it. What a short form of the text filled has its line behind it.
+fn views(shown: &Shown) -> String {
     let mut out = String::new();
-    for (i, (node, label)) in nodes.iter().zip(labels).enumerate() {
-        let text: Vec<String> = std::iter::once(label.text(&names.characters)).chain(told(names, nodes, i)).collect();
-        let border = if i == 0 { "peripheries=2, " } else { "" };
-        line(&mut out, &format!("n{i} [{border}label={}];", lines(&text)));
-        for next in 0..nodes.len() {
-            let who: Vec<usize> =
-                (0..node.beliefs.len()).filter(|&character| node.beliefs[character] == next).collect();
-            if !who.is_empty() {
-                line(&mut out, &format!("n{i} -> n{next} [label={}];", quoted(&people(names, &who))));
-            }
-        }
+    for (view, node) in shown.nodes.iter().enumerate() {
+        let facts = node.values.iter().enumerate().map(|(fact, &value)| {
+            let told = belief(shown.names, &[], fact, value);
+            shown.filled(Part::Value(view, fact)).map_or(told.clone(), |filled| format!("{told} {}", by_line(filled)))
+        });
+        let label = shown.labels[view].text(&shown.names.characters);
+        let text: Vec<String> = std::iter::once(label).chain(facts).collect();
+        let border = if view == 0 { "peripheries=2, " } else { "" };
+        line(&mut out, &format!("n{view} [{border}label={}];", lines(&text)));
+        (0..shown.nodes.len()).for_each(|next| out += &believers(shown, view, next));
     }
     out
+}
+
+/// The arrow from a view to another, and one for those whom a short form speaks of.
+fn believers(shown: &Shown, view: usize, next: usize) -> String {
+    let mut out = String::new();
+    let beliefs = &shown.nodes[view].beliefs;
+    let all: Vec<usize> = (0..beliefs.len()).filter(|&character| beliefs[character] == next).collect();
+    let short = |character: &usize| shown.filled(Part::Belief(view, *character));
+    let (filled, said): (Vec<usize>, Vec<usize>) = all.into_iter().partition(|character| short(character).is_some());
+    for who in [said, filled].iter().filter(|who| !who.is_empty()) {
+        let mark = short(&who[0]).map(by_line);
+        let text: Vec<String> = std::iter::once(people(shown.names, who)).chain(mark).collect();
+        line(&mut out, &format!("n{view} -> n{next} [label={}];", lines(&text)));
+    }
+    out
+}
+
+fn by_line(filled: &Filled) -> String {
+    format!("(by line {})", filled.at.at.line)
 }
 
 /// Who does an action, who sees it, and who sees it at times.

@@ -1,183 +1,204 @@
 //! Actions, triggers and what everyone wants.
 
 use crate::cursor::Cursor;
-use crate::error::{Error, Fault};
-use crate::pack::{Action, Condition, Effect, Rule, Trigger, MOST_EFFECTS, MOST_RULES, MOST_WORTH};
-use crate::problem::Place;
-use crate::scope::{room, Scope};
-use crate::sections::Section;
+use crate::faults::again;
+use crate::found::Found;
+use crate::pack::{Action, Effect, Rule, Trigger, MOST_EFFECTS, MOST_RULES, MOST_WORTH};
+use crate::problem::{Problem, Read, Span};
+use crate::scope::{room, Placed, Scope};
+use crate::sections::{Kind, Section};
+use crate::sight::{characters, Sight};
+use crate::wanted::{ACTION, END, IF, TRIGGER, WORTH};
+use crate::write::{Owner, Part};
 
-/// What the lines of an action or a trigger say; each of them at most once but for `then`.
+/// What the lines of an action or a trigger say. Of each kind of line, where the first of them stands.
 struct Happening {
-    condition: Option<(Condition, usize)>,
-    effects: Vec<Effect>,
-    consenters: Option<(Vec<usize>, usize)>,
+    kind: Kind,
+    when: Option<Span>,
+    condition: Option<Placed>,
+    then: Option<Span>,
+    /// `then nothing`, after which no effect may follow.
+    nothing: bool,
+    effects: Vec<(Effect, Span)>,
+    by: Option<Span>,
+    consenters: Vec<usize>,
     sight: Sight,
+    /// A line couldn't be read, so that what seems to be blank may be said there.
+    unread: bool,
 }
 
-/// Who sees an action when. `others` are those who aren't named.
-struct Sight {
-    named: Vec<Option<(Condition, usize)>>,
-    others: Option<(Condition, usize)>,
-}
-
-pub fn action(scope: &Scope, section: &Section) -> Result<Action, Error> {
-    let mut found = Happening::new(scope);
-    for line in &section.body {
-        let cursor = &mut Cursor::new(line);
-        if !found.line(scope, cursor)? && !found.agents(scope, cursor)? {
-            return cursor.expected("'when', 'then', 'by' or 'seen by'");
-        }
-        cursor.finish("the end of the line")?;
+/// An action, unless something is wrong with it; `i` is its number.
+pub fn action(scope: &Scope, section: &Section, i: usize, found: &mut Found) -> Option<Action> {
+    let said = happening(scope, section, found);
+    if !said.unread {
+        found.problems.extend(said.sight.blank(scope, section));
     }
-    let Happening { condition, effects, consenters, sight } = found;
-    let mut consenters = consenters.map_or(Vec::new(), |(consenters, _)| consenters);
+    said.sight.check(scope, found);
+    let observations = said.sight.observations()?;
+    for (character, placed) in observations.iter().enumerate() {
+        found.source.condition(Owner::Seen(i, character), placed);
+    }
+    found.source.at(Part::Consenters(i), said.by?);
+    let observations = observations.into_iter().map(|placed| placed.condition).collect();
+    let mut consenters = said.consenters.clone();
     consenters.sort_unstable();
-    Ok(Action { condition: or_always(condition), effects, consenters, observations: sight.observations() })
+    let (condition, effects) = said.done(Owner::Action(i), found)?;
+    Some(Action { condition: condition.condition, effects, consenters, observations })
 }
 
-pub fn trigger(scope: &Scope, section: &Section) -> Result<Trigger, Error> {
-    let mut found = Happening::new(scope);
+/// A trigger, unless something is wrong with it; `i` is its number.
+pub fn trigger(scope: &Scope, section: &Section, i: usize, found: &mut Found) -> Option<Trigger> {
+    let (condition, effects) = happening(scope, section, found).done(Owner::Trigger(i), found)?;
+    Some(Trigger { condition: condition.condition, effects })
+}
+
+fn happening(scope: &Scope, section: &Section, found: &mut Found) -> Happening {
+    let mut said = Happening {
+        kind: section.kind,
+        when: None,
+        condition: None,
+        then: None,
+        nothing: false,
+        effects: Vec::new(),
+        by: None,
+        consenters: Vec::new(),
+        sight: Sight::new(scope),
+        unread: false,
+    };
     for line in &section.body {
         let cursor = &mut Cursor::new(line);
-        if !found.line(scope, cursor)? {
-            return cursor.expected("'when' or 'then'");
-        }
-        cursor.finish("the end of the line")?;
+        let read = said.line(scope, cursor).and_then(|()| cursor.finish(END));
+        found.kept(line, read);
     }
-    Ok(Trigger { condition: or_always(found.condition), effects: found.effects })
-}
-
-fn or_always(condition: Option<(Condition, usize)>) -> Condition {
-    condition.map_or_else(Condition::always, |(condition, _)| condition)
+    found.problems.extend(said.blank(section));
+    said
 }
 
 impl Happening {
-    fn new(scope: &Scope) -> Self {
-        let named = scope.characters.iter().map(|_| None).collect();
-        Happening { condition: None, effects: Vec::new(), consenters: None, sight: Sight { named, others: None } }
-    }
-
-    /// A line that actions and triggers have: `when …` or `then …`. False if it is another one.
-    fn line(&mut self, scope: &Scope, cursor: &mut Cursor) -> Result<bool, Error> {
-        let at = cursor.at();
+    fn line(&mut self, scope: &Scope, cursor: &mut Cursor) -> Read<()> {
+        let begin = cursor.clone();
+        let at = cursor.here();
+        let acts = self.kind == Kind::Action;
         if cursor.take("when") {
-            let condition = scope.condition(cursor)?;
-            note(&mut self.condition, condition, at, "'when'")?;
-            return Ok(true);
-        }
-        if !cursor.take("then") {
-            return Ok(false);
-        }
-        loop {
-            room(self.effects.len(), "effects", MOST_EFFECTS, cursor)?;
-            self.effects.push(scope.effect(cursor)?);
-            if !cursor.take_next(&["and"]) {
-                return Ok(true);
+            once(&mut self.when, at, "'when'")?;
+            self.condition = Some(scope.condition(cursor)?);
+        } else if cursor.take("then") {
+            self.effects(scope, cursor, at)?;
+        } else if acts && cursor.take("by") {
+            once(&mut self.by, at, "'by'")?;
+            if !cursor.take("nobody") {
+                self.consenters = characters(scope, cursor)?.into_iter().map(|(character, _)| character).collect();
             }
-        }
-    }
-
-    /// `by Ada and Ben` or `seen by Ada if …`. False if it is another line.
-    fn agents(&mut self, scope: &Scope, cursor: &mut Cursor) -> Result<bool, Error> {
-        let at = cursor.at();
-        if cursor.take("by") {
-            let consenters = characters(scope, cursor)?.into_iter().map(|(character, _)| character).collect();
-            note(&mut self.consenters, consenters, at, "'by'")?;
-            return Ok(true);
-        }
-        if !cursor.take_two("seen", "by") {
-            return Ok(false);
-        }
-        self.sight.line(scope, cursor)?;
-        Ok(true)
-    }
-}
-
-impl Sight {
-    /// Who, and `if` when.
-    fn line(&mut self, scope: &Scope, cursor: &mut Cursor) -> Result<(), Error> {
-        let at = cursor.at();
-        if cursor.take("everyone") {
-            cursor.take("else");
-            let condition = if_condition(scope, cursor)?;
-            return note(&mut self.others, condition, at, "'everyone'");
-        }
-        let named = characters(scope, cursor)?;
-        let condition = if_condition(scope, cursor)?;
-        for (character, at) in named {
-            let what = format!("whether '{}' sees it", scope.characters[character]);
-            note(&mut self.named[character], condition.clone(), at, &what)?;
+            self.by = Some(cursor.since(&begin));
+        } else if acts && cursor.take("seen by") {
+            self.sight.line(scope, cursor)?;
+        } else {
+            self.unread = true;
+            return cursor.expected(if acts { ACTION } else { TRIGGER });
         }
         Ok(())
     }
 
-    /// Who is named nowhere never sees it.
-    fn observations(self) -> Vec<Condition> {
-        let others = self.others.map_or_else(Condition::never, |(condition, _)| condition);
-        self.named.into_iter().map(|named| named.map_or_else(|| others.clone(), |(condition, _)| condition)).collect()
-    }
-}
-
-/// `if …`, or always.
-fn if_condition(scope: &Scope, cursor: &mut Cursor) -> Result<Condition, Error> {
-    if cursor.take("if") {
-        return scope.condition(cursor);
-    }
-    Ok(Condition::always())
-}
-
-/// Characters with commas or `and` between them, none of them twice, each with its place.
-fn characters(scope: &Scope, cursor: &mut Cursor) -> Result<Vec<(usize, Place)>, Error> {
-    let mut found: Vec<(usize, Place)> = Vec::new();
-    loop {
-        let name = cursor.phrase("a character")?;
-        let character = scope.character(&name)?;
-        if found.iter().any(|&(known, _)| known == character) {
-            let what = format!("'{}'", name.text);
-            return Err(Error::new(name.at, Fault::Again { what, line: name.at.line }));
+    /// Effects with `and` or commas between them, or `nothing`.
+    fn effects(&mut self, scope: &Scope, cursor: &mut Cursor, at: Span) -> Read<()> {
+        let before = self.then.get_or_insert(at);
+        let nothing = cursor.take("nothing");
+        if self.nothing || nothing && *before != at {
+            let help = format!("write one of the two; the other is in line {}", before.at.line);
+            return Err(at.problem("there are 'then nothing' and effects besides", help).into());
         }
-        found.push((character, name.at));
-        if !cursor.take_next(&["and"]) {
-            return Ok(found);
+        self.nothing = nothing;
+        while !nothing {
+            room(self.effects.len(), "effects", MOST_EFFECTS, cursor)?;
+            let begin = cursor.clone();
+            let effect = scope.effect(cursor)?;
+            self.effects.push((effect, cursor.since(&begin)));
+            if !cursor.take_next(&["and"]) {
+                break;
+            }
         }
+        Ok(())
+    }
+
+    /// The kinds of lines that there are none of.
+    fn blank(&self, section: &Section) -> Vec<Problem> {
+        let lines = [
+            (self.when, "when it happens", "write 'when always', or 'when' and a condition"),
+            (self.then, "what it changes", "write 'then nothing', or 'then' and what is so then"),
+            (self.by, "who has to have a reason for it", "write 'by nobody', or 'by' and who does it"),
+        ];
+        let lines = &lines[..if self.kind == Kind::Action { 3 } else { 2 }];
+        let blank = lines.iter().filter(|(said, ..)| said.is_none() && !self.unread);
+        blank.map(|(_, what, help)| unsaid(section, what, help)).collect()
+    }
+
+    /// Its condition and effects, with their places.
+    fn done(self, of: Owner, found: &mut Found) -> Option<(Placed, Vec<Effect>)> {
+        let condition = self.condition?;
+        found.source.condition(of, &condition);
+        found.source.at(Part::Effects(of), self.then?);
+        self.effects.iter().enumerate().for_each(|(i, &(_, at))| found.source.at(Part::Effect(of, i), at));
+        Some((condition, self.effects.into_iter().map(|(effect, _)| effect).collect()))
     }
 }
 
-/// Notes what a line says, unless one before said it.
-fn note<T>(place: &mut Option<(T, usize)>, said: T, at: Place, what: &str) -> Result<(), Error> {
-    if let Some((_, line)) = place {
-        return Err(Error::new(at, Fault::Again { what: what.to_string(), line: *line }));
+/// What an action or a trigger leaves blank.
+pub fn unsaid(section: &Section, what: &str, help: &str) -> Problem {
+    section.span.problem(format!("'{}' doesn't say {what}", section.words()), help)
+}
+
+/// Notes where something is said, unless it was said before.
+fn once(place: &mut Option<Span>, at: Span, what: &str) -> Read<()> {
+    if let Some(before) = place {
+        return Err(again(what, at, *before).into());
     }
-    *place = Some((said, at.line));
+    *place = Some(at);
     Ok(())
 }
 
-/// `5 if …` or `1 otherwise`, a line each.
-pub fn rules(scope: &Scope, section: &Section) -> Result<Vec<Rule>, Error> {
+/// `5 if …` or `1 otherwise`, a line each, or `nothing`. `who` is 0 for the author and character + 1 for a character.
+pub fn rules(scope: &Scope, section: &Section, who: usize, found: &mut Found) -> Vec<Rule> {
     let mut rules = Vec::new();
     for line in &section.body {
         let cursor = &mut Cursor::new(line);
-        room(rules.len(), "lines of what one wants", MOST_RULES, cursor)?;
-        rules.push(rule(scope, cursor)?);
-        cursor.finish("the end of the line")?;
+        let at = cursor.here();
+        if cursor.take("nothing") {
+            let alone = section.body.len() == 1;
+            let both = || at.problem("there are 'nothing' and wishes besides", "leave 'nothing' out").into();
+            let read = cursor.finish(END).and_then(|()| if alone { Ok(()) } else { Err(both()) });
+            found.kept(line, read);
+            continue;
+        }
+        let read = room(rules.len(), "lines of what one wants", MOST_RULES, cursor)
+            .and_then(|()| rule(scope, cursor))
+            .and_then(|rule| cursor.finish(END).map(|()| rule));
+        let Some((worth, condition)) = found.kept(line, read) else { continue };
+        found.source.condition(Owner::Rule(who, rules.len()), &condition);
+        found.source.at(Part::Worth(who, rules.len()), at);
+        rules.push(Rule { condition: condition.condition, worth });
     }
-    Ok(rules)
+    if section.body.is_empty() {
+        found.problems.push(unsaid(section, "what", "write 'nothing', or lines such as '5 if …'"));
+    }
+    rules
 }
 
-fn rule(scope: &Scope, cursor: &mut Cursor) -> Result<Rule, Error> {
-    const WORTH: &str = "a number, how much it is worth";
-    if !cursor.word().is_some_and(|word| word.bytes().all(|byte| byte.is_ascii_digit())) {
-        return cursor.expected(WORTH);
-    }
+fn rule(scope: &Scope, cursor: &mut Cursor) -> Read<(usize, Placed)> {
+    let begin = cursor.clone();
     let number = cursor.any_word(WORTH)?;
-    let worth = number.text.parse().ok().filter(|&worth| worth <= MOST_WORTH);
-    let worth = worth.ok_or(Error::new(number.at, Fault::TooGreat { what: "a worth", most: MOST_WORTH }))?;
+    if !number.text.bytes().all(|byte| byte.is_ascii_digit()) {
+        return begin.expected(WORTH);
+    }
+    let Some(worth) = number.text.parse().ok().filter(|&worth| worth <= MOST_WORTH) else {
+        let message = format!("{} is more than a worth may be", number.text);
+        return Err(number.span.problem(message, format!("write a number of at most {MOST_WORTH}")).into());
+    };
+    let at = cursor.here();
     if cursor.take("otherwise") {
-        return Ok(Rule { condition: Condition::always(), worth });
+        return Ok((worth, Placed::always(at)));
     }
     if !cursor.take("if") {
-        return cursor.expected("'if' or 'otherwise'");
+        return cursor.expected(IF);
     }
-    Ok(Rule { condition: scope.condition(cursor)?, worth })
+    Ok((worth, scope.condition(cursor)?))
 }

@@ -5,11 +5,17 @@
 
 mod cursor;
 mod declare;
-mod error;
+mod faults;
+mod fill;
+mod found;
 mod happenings;
+mod rest;
 mod scope;
 mod sections;
+mod sight;
 mod views;
+mod wanted;
+mod warnings;
 mod words;
 
 pub mod decode;
@@ -53,7 +59,7 @@ impl Story {
     /// Where the text says what the byte at a place of the pack is about.
     pub fn line_of(&self, place: usize) -> Option<Place> {
         let part = write::pack(&self.pack).part_at(place)?;
-        self.source.as_ref()?.place(part)
+        Some(self.source.as_ref()?.span(part)?.at)
     }
 
     /// Every belief that the text states, by a claim or by a short form.

@@ -56,6 +56,16 @@ impl Label {
         Some((holder, last))
     }
 
+    /// The heading of its section, without the colon.
+    pub fn heading(&self, characters: &[String]) -> String {
+        let text = self.text(characters);
+        if let Label::Named(_) = self {
+            format!("view {text}")
+        } else {
+            text
+        }
+    }
+
     pub fn text(&self, characters: &[String]) -> String {
         match self {
             Label::Truth => TRUTH.to_string(),

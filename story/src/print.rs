@@ -3,23 +3,25 @@
 use crate::decode::{self, Unreadable};
 use crate::names::{chain_text, labels, Fact, Label, Names};
 use crate::pack::{Condition, Effect, How, Node, Rule, Test};
+use crate::source::{Filled, Source};
+use crate::write::Part;
 use crate::Story;
 
 /// Tests that would make a longer line than this stand on a line each.
 const LONGEST_LINE: usize = 90;
 
-/// The whole text. Read again it gives the same pack and names.
+/// The whole text. Read again it gives the same pack and names. Every fact and belief is told, and what a short form of
+/// the text filled is marked with its line.
 pub fn story(story: &Story) -> String {
     let Story { pack, names, .. } = story;
     let mut out = format!("characters: {}\n\nfacts:\n", names.characters.join(", "));
     names.facts.iter().for_each(|fact| out += &format!("    {}: {}\n", fact.name, values(fact)));
-    out += &views(names, &pack.nodes, &names.views);
+    out += &views(&Shown::of(story));
     for (action, name) in pack.actions.iter().zip(&names.actions) {
         out += &format!("\naction {name}:\n");
         out += &happening(names, &action.condition, &action.effects);
-        if !action.consenters.is_empty() {
-            out += &format!("    by {}\n", people(names, &action.consenters));
-        }
+        let by = if action.consenters.is_empty() { "nobody".to_string() } else { people(names, &action.consenters) };
+        out += &format!("    by {by}\n");
         out += &sight(names, &action.observations);
     }
     for (trigger, name) in pack.triggers.iter().zip(&names.triggers) {
@@ -27,8 +29,9 @@ pub fn story(story: &Story) -> String {
         out += &happening(names, &trigger.condition, &trigger.effects);
     }
     let wanting = std::iter::once("author").chain(names.characters.iter().map(String::as_str));
-    for (name, rules) in wanting.zip(&pack.utilities).filter(|(_, rules)| !rules.is_empty()) {
-        out += &format!("\n{name} wants:\n");
+    for (name, rules) in wanting.zip(&pack.utilities) {
+        let nothing = if rules.is_empty() { " nothing" } else { "" };
+        out += &format!("\n{name} wants:{nothing}\n");
         rules.iter().enumerate().for_each(|(i, rule)| out += &wish(names, i, rule));
     }
     out
@@ -45,31 +48,72 @@ fn values(fact: &Fact) -> String {
     }
 }
 
-/// The views: of the truth all facts are told, of the others what differs from it; beliefs only where a view's label
-/// doesn't tell them and someone believes another view than the one at hand.
-fn views(names: &Names, nodes: &[Node], labels: &[Label]) -> String {
+/// Views to be shown, of a story or of a chart.
+pub struct Shown<'s> {
+    pub names: &'s Names,
+    pub nodes: &'s [Node],
+    pub labels: &'s [Label],
+    pub source: Option<&'s Source>,
+}
+
+impl<'s> Shown<'s> {
+    pub fn of(story: &'s Story) -> Shown<'s> {
+        let Story { pack, names, source } = story;
+        Shown { names, nodes: &pack.nodes, labels: &names.views, source: source.as_ref() }
+    }
+
+    /// The short form that says a part of a view.
+    pub fn filled(&self, part: Part) -> Option<&'s Filled> {
+        self.source.and_then(|source| source.filled(part))
+    }
+
+    /// Whether a view's heading says that this is what a character believes in another one.
+    fn is_tied(&self, view: usize, character: usize) -> bool {
+        let next = self.nodes[view].beliefs[character];
+        self.labels[view].of_belief(character).as_ref() == Some(&self.labels[next])
+    }
+
+    /// `Ada believes the truth`
+    fn belief(&self, view: usize, who: &str, next: usize) -> String {
+        let believed = if next == view { "this".to_string() } else { self.labels[next].text(&self.names.characters) };
+        format!("{who} believes {believed}")
+    }
+}
+
+/// The views: every fact of each, and every belief that no heading tells.
+fn views(shown: &Shown) -> String {
     let mut out = String::new();
-    for (i, (node, label)) in nodes.iter().zip(labels).enumerate() {
-        let title = label.text(&names.characters);
-        let heading = if let Label::Named(_) = label { format!("view {title}") } else { title };
-        out += &format!("\n{heading}:\n");
-        told(names, nodes, i).for_each(|line| out += &format!("    {line}\n"));
-        for (character, &next) in node.beliefs.iter().enumerate() {
-            let tied = label.of_belief(character).as_ref() == Some(&labels[next]);
-            if next != i && !tied {
-                let believed = labels[next].text(&names.characters);
-                out += &format!("    {} believes {believed}\n", names.characters[character]);
-            }
+    for (view, (node, label)) in shown.nodes.iter().zip(shown.labels).enumerate() {
+        out += &format!("\n{}:\n", label.heading(&shown.names.characters));
+        for (fact, &value) in node.values.iter().enumerate() {
+            out += &marked(is(shown.names, fact, "", value), shown.filled(Part::Value(view, fact)));
         }
+        out += &beliefs(shown, view);
     }
     out
 }
 
-/// The facts that are told of a node.
-pub fn told<'s>(names: &'s Names, nodes: &'s [Node], i: usize) -> impl Iterator<Item = String> + 's {
-    let values = nodes[i].values.iter().enumerate();
-    let differing = values.filter(move |&(fact, value)| i == 0 || nodes[0].values[fact] != *value);
-    differing.map(|(fact, &value)| is(names, fact, "", value))
+/// What is believed in a view: by everyone, or by one after the other.
+fn beliefs(shown: &Shown, view: usize) -> String {
+    let next = &shown.nodes[view].beliefs;
+    let all = 0..next.len();
+    if all.clone().all(|character| !shown.is_tied(view, character) && next[character] == next[0]) {
+        return marked(shown.belief(view, "everyone", next[0]), None);
+    }
+    let untied = all.filter(|&character| !shown.is_tied(view, character));
+    let line = |character: usize| {
+        let told = shown.belief(view, &shown.names.characters[character], next[character]);
+        marked(told, shown.filled(Part::Belief(view, character)))
+    };
+    untied.map(line).collect()
+}
+
+/// A line, with a remark where a short form says it.
+fn marked(line: String, filled: Option<&Filled>) -> String {
+    match filled {
+        Some(Filled { at, words }) => format!("    {line}  # by line {}: {words}\n", at.at.line),
+        None => format!("    {line}\n"),
+    }
 }
 
 /// `the letter is burnt`; `how` is what stands before the value: nothing, `not ` or `at least `.
@@ -80,15 +124,9 @@ fn is(names: &Names, fact: usize, how: &str, value: usize) -> String {
 }
 
 fn happening(names: &Names, condition: &Condition, effects: &[Effect]) -> String {
-    let mut out = String::new();
-    if !condition.is_always() {
-        out += &format!("    when {}\n", conditional(names, condition));
-    }
     let effects: Vec<String> = effects.iter().map(|told| effect(names, told)).collect();
-    if !effects.is_empty() {
-        out += &format!("    then {}\n", effects.join("\n     and "));
-    }
-    out
+    let then = if effects.is_empty() { "nothing".to_string() } else { effects.join("\n     and ") };
+    format!("    when {}\n    then {then}\n", conditional(names, condition))
 }
 
 /// A condition on one line.
@@ -158,10 +196,10 @@ pub fn people(names: &Names, characters: &[usize]) -> String {
     }
 }
 
-/// Who sees an action when, those with the same condition together. Who never does isn't named.
+/// Who sees an action when, those with the same condition together.
 fn sight(names: &Names, observations: &[Condition]) -> String {
     let mut groups: Vec<(String, Vec<usize>)> = Vec::new();
-    for (character, condition) in observations.iter().enumerate().filter(|(_, seen)| !seen.alternatives.is_empty()) {
+    for (character, condition) in observations.iter().enumerate().filter(|(_, seen)| !seen.is_never()) {
         let when = if condition.is_always() { String::new() } else { format!(" if {}", conditional(names, condition)) };
         match groups.iter_mut().find(|(known, _)| *known == when) {
             Some((_, characters)) => characters.push(character),
@@ -169,10 +207,14 @@ fn sight(names: &Names, observations: &[Condition]) -> String {
         }
     }
     let mut out = String::new();
-    for (when, characters) in groups {
+    for (when, characters) in &groups {
         let everyone = characters.len() == observations.len() && characters.len() > 1;
-        let who = if everyone { "everyone".to_string() } else { people(names, &characters) };
+        let who = if everyone { "everyone".to_string() } else { people(names, characters) };
         out += &format!("    seen by {who}{when}\n");
+    }
+    let nobody = if groups.is_empty() { "nobody" } else { "nobody else" };
+    if observations.iter().any(Condition::is_never) {
+        out += &format!("    seen by {nobody}\n");
     }
     out
 }
@@ -187,5 +229,6 @@ fn wish(names: &Names, place: usize, rule: &Rule) -> String {
 /// A chart under a story: its views, with labels of their own.
 pub fn chart(story: &Story, bytes: &[u8]) -> Result<String, Unreadable> {
     let nodes = decode::chart(&story.pack, bytes)?;
-    Ok(views(&story.names, &nodes, &labels(&nodes)).trim_start().to_string())
+    let shown = Shown { names: &story.names, nodes: &nodes, labels: &labels(&nodes), source: None };
+    Ok(views(&shown).trim_start().to_string())
 }

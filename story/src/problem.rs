@@ -15,6 +15,19 @@ impl Display for Place {
     }
 }
 
+/// Some characters of a line, at least one.
+#[derive(Clone, Copy, PartialEq, Eq, Debug)]
+pub struct Span {
+    pub at: Place,
+    pub width: usize,
+}
+
+impl Span {
+    pub fn problem(self, message: impl Into<String>, help: impl Into<String>) -> Problem {
+        Problem { at: self.at, width: self.width, message: message.into(), help: help.into() }
+    }
+}
+
 /// An error or a warning.
 #[derive(Clone, PartialEq, Eq, PartialOrd, Ord, Debug)]
 pub struct Problem {
@@ -34,8 +47,21 @@ impl Problem {
         let text = text.strip_prefix('\u{FEFF}').unwrap_or(text);
         let line = text.lines().nth(at.line - 1).unwrap_or("");
         let tab = |sign: char| if sign == '\t' { '\t' } else { ' ' };
-        let mut under: String = line.chars().take(at.column - 1).map(tab).collect();
-        under.extend(std::iter::repeat_n(' ', at.column - 1 - under.chars().count()));
-        format!("{file}:{at}: {kind}: {message}\n{line}\n{under}{}\nhelp: {help}\n", "^".repeat(*width))
+        let before: String = line.chars().chain(std::iter::repeat(' ')).take(at.column - 1).map(tab).collect();
+        format!("{file}:{at}: {kind}: {message}\n{line}\n{before}{}\nhelp: {help}\n", "^".repeat(*width))
+    }
+}
+
+/// Why something can't be read: a problem, or what only follows from one that is told already.
+pub enum Mistake {
+    Problem(Problem),
+    Follows,
+}
+
+pub type Read<T> = Result<T, Mistake>;
+
+impl From<Problem> for Mistake {
+    fn from(problem: Problem) -> Mistake {
+        Mistake::Problem(problem)
     }
 }

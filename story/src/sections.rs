@@ -1,11 +1,13 @@
 //! A text cut into its sections: a heading with a colon, and the lines under it.
 
 use crate::cursor::{Cursor, Phrase};
-use crate::error::{Error, Fault};
-use crate::problem::Place;
-use crate::words::{Line, Sign};
+use crate::faults::again;
+use crate::found::Found;
+use crate::problem::{Problem, Read, Span};
+use crate::wanted::{COLON, HEADING, TITLE};
+use crate::words::{span, Line, Sign};
 
-#[derive(Clone, PartialEq, Eq, Debug)]
+#[derive(Clone, Copy, PartialEq, Eq, Debug)]
 pub enum Kind {
     Characters,
     Facts,
@@ -20,39 +22,59 @@ pub enum Kind {
 
 pub struct Section<'a> {
     pub kind: Kind,
-    pub at: Place,
-    /// The heading without its colon.
+    /// Its heading, without the colon.
+    pub span: Span,
     pub heading: Line<'a>,
     pub body: Vec<Line<'a>>,
 }
 
-pub const HEADING: &str =
-    "a heading: characters, facts, the truth, what … believes, view …, action …, trigger … or … wants";
+pub struct Text<'a> {
+    pub sections: Vec<Section<'a>>,
+    /// The place after its last line.
+    pub end: Span,
+    /// A heading couldn't be read, so that what seems to be missing may stand under it.
+    pub lost: bool,
+}
 
-/// Cuts lines into sections. What stands after a heading's colon is the first line under it.
-pub fn sections(lines: Vec<Line<'_>>) -> Result<Vec<Section<'_>>, Error> {
-    let mut sections: Vec<Section> = Vec::new();
+/// Cuts lines into sections. What stands after a heading's colon is the first line under it. Lines behind a heading that
+/// can't be read are left out up to the next one.
+pub fn sections<'a>((lines, end): (Vec<Line<'a>>, Span), found: &mut Found) -> Text<'a> {
+    let mut text = Text { sections: Vec::new(), end, lost: false };
+    let mut skipping = false;
     for line in lines {
-        match (heading(&line), sections.last_mut()) {
-            (Some((kind, colon)), _) => sections.push(opened(kind, line, colon)),
-            (None, Some(section)) if section.kind == Kind::Facts || !has_colon(&line) => section.body.push(line),
-            (None, _) => return Cursor::new(&line).expected(HEADING),
+        if let Some((kind, colon)) = heading(&line) {
+            text.sections.push(opened(kind, line, colon));
+            skipping = false;
+            continue;
+        }
+        match text.sections.last_mut() {
+            Some(section) if !skipping && !seems_heading(&line, section.kind == Kind::Facts) => section.body.push(line),
+            _ if skipping && !seems_heading(&line, false) => {}
+            _ => {
+                found.kept::<()>(&line, Cursor::new(&line).expected(HEADING));
+                text.lost = true;
+                skipping = true;
+            }
         }
     }
-    Ok(sections)
+    text
 }
 
 fn opened(kind: Kind, mut line: Line<'_>, colon: usize) -> Section<'_> {
-    let rest = Line { tokens: line.tokens.split_off(colon + 1), end: line.end };
-    let colon = line.tokens.pop().map_or(line.end, |token| token.at);
-    let heading = Line { end: colon, ..line };
-    let at = Cursor::new(&heading).at();
+    let rest = Line { tokens: line.tokens.split_off(colon + 1), ..line };
+    let end = line.tokens.pop().map_or(line.end, |token| token.at);
+    let heading = Line { end, ..line };
+    let span = span(&heading.tokens).unwrap_or(Span { at: end, width: 1 });
     let body = if rest.tokens.is_empty() { Vec::new() } else { vec![rest] };
-    Section { kind, at, heading, body }
+    Section { kind, span, heading, body }
 }
 
-fn has_colon(line: &Line) -> bool {
-    line.tokens.iter().any(|token| token.sign == Sign::Colon)
+/// Whether a line has a colon and stands where headings do, at the beginning of a line. Facts have something behind
+/// their colon.
+fn seems_heading(line: &Line, among_facts: bool) -> bool {
+    let first = line.tokens.first().is_some_and(|token| token.at.column == 1);
+    let colon = line.tokens.iter().position(|token| token.sign == Sign::Colon);
+    first && colon.is_some_and(|colon| !among_facts || colon + 1 == line.tokens.len())
 }
 
 /// Which heading a line is, and where its colon stands.
@@ -73,23 +95,43 @@ fn heading(line: &Line) -> Option<(Kind, usize)> {
     Some((kind, colon))
 }
 
-impl<'a> Section<'a> {
+impl Section<'_> {
+    /// The heading as it stands, but for its spaces.
+    pub fn words(&self) -> String {
+        let words: Vec<&str> = self.heading.tokens.iter().map(|token| token.sign.text()).collect();
+        words.join(" ").replace(" ,", ",")
+    }
+
     /// The title after the heading's first word.
-    pub fn title(&self, what: &'static str) -> Result<Phrase, Error> {
+    pub fn title(&self) -> Read<Phrase> {
         let mut cursor = Cursor::new(&self.heading);
-        cursor.any_word(what)?;
-        let title = cursor.title(what)?;
-        cursor.finish("a colon")?;
+        cursor.any_word(TITLE)?;
+        let title = cursor.title(TITLE)?;
+        cursor.finish(COLON)?;
         Ok(title)
     }
 }
 
-/// The one section of a kind. A second one is refused; `None` if there is none.
-pub fn only<'s, 'a>(sections: &'s [Section<'a>], kind: Kind, name: &str) -> Result<Option<&'s Section<'a>>, Error> {
-    let mut found = sections.iter().filter(|section| section.kind == kind);
-    let first = found.next();
-    if let (Some(first), Some(second)) = (first, found.next()) {
-        return Err(Error::new(second.at, Fault::Again { what: format!("'{name}:'"), line: first.at.line }));
+impl<'a> Text<'a> {
+    pub fn of(&self, kind: Kind) -> impl Iterator<Item = &Section<'a>> {
+        self.sections.iter().filter(move |section| section.kind == kind)
     }
-    Ok(first)
+
+    /// The one section of a kind. That there is none, or a second one, is told.
+    pub fn only(&self, kind: Kind, name: &str, found: &mut Found) -> Option<&Section<'a>> {
+        let mut all = self.of(kind);
+        let first = all.next();
+        match first {
+            Some(first) => {
+                found.problems.extend(all.map(|second| again(&format!("'{name}:'"), second.span, first.span)))
+            }
+            None if !self.lost => found.problems.push(self.missing(name)),
+            None => {}
+        }
+        first
+    }
+
+    fn missing(&self, name: &str) -> Problem {
+        self.end.problem(format!("the story has no section '{name}:'"), format!("write a section '{name}:'"))
+    }
 }

@@ -1,17 +1,18 @@
-//! The truth and the views: each section is a node.
+//! The truth and the views: each section is a node. What each of them says is read here; `fill` completes it.
 
 use crate::cursor::{Cursor, Phrase};
-use crate::declare::refuse_word;
-use crate::error::{Error, Fault};
+use crate::declare::{refuse, refuse_word};
+use crate::faults::{again, too_many, unknown};
+use crate::fill;
+use crate::found::Found;
 use crate::names::{Label, TRUTH};
 use crate::pack::{Node, MOST_VIEWS};
-use crate::problem::Place;
+use crate::problem::{Mistake, Problem, Read, Span};
 use crate::scope::Scope;
-use crate::sections::{only, Kind, Section};
-use crate::source::Source;
+use crate::sections::{Kind, Section, Text};
+use crate::wanted::{BELIEVER, BELIEVES, COLON, IS, NEXT_CLAIM, OWN_SECTION, SUBJECT, VIEW, VIEW_NAME};
+use crate::words::Line;
 use crate::write::Part;
-
-const OWN_SECTION: &str = "the end of the view's name (what is believed has a section of its own: 'what … believes:')";
 
 /// The nodes, the truth first and the others in the order of their sections, with their labels.
 pub struct Views {
@@ -19,194 +20,271 @@ pub struct Views {
     pub labels: Vec<Label>,
     /// For each fact, whether the truth tells it with `are`.
     pub plural: Vec<bool>,
-    pub source: Source,
 }
 
-/// What a view's section says: values by fact, and views by character, each with the line that says it.
-struct Said {
-    values: Vec<Option<(usize, usize)>>,
+/// A view's section, and what it says.
+pub struct Said {
+    /// Its heading: where, in words, and as a label unless it can't be read.
+    pub at: Span,
+    pub heading: String,
+    pub label: Option<Label>,
+    /// By fact, the value.
+    pub values: Vec<Option<Told>>,
+    /// By character, the view.
+    pub beliefs: Vec<Option<Told>>,
+    /// `the rest is as in ..`
+    pub rest: Option<Told>,
+    /// `everyone else believes ..`
+    pub others: Option<Told>,
     plural: Vec<bool>,
-    beliefs: Vec<Option<(usize, usize)>>,
+    /// Something couldn't be read, so that what seems to be blank may be said there.
+    pub unread: bool,
 }
 
-pub fn views(scope: &Scope, sections: &[Section], end: Place) -> Result<Views, Error> {
-    let truth = only(sections, Kind::Truth, TRUTH)?;
-    let truth = truth.ok_or_else(|| Error::new(end, Fault::Missing("the truth:")))?;
-    let others = sections.iter().filter(|section| matches!(section.kind, Kind::Believed | Kind::View));
-    let views: Vec<&Section> = std::iter::once(truth).chain(others).collect();
-    let labels = labels(scope, &views)?;
-    let mut said = Vec::new();
-    for view in &views {
-        said.push(body(scope, view, &labels)?);
+/// What is said, and where.
+#[derive(Clone, Copy)]
+pub struct Told {
+    /// None where it can't be read.
+    pub what: Option<usize>,
+    pub at: Span,
+    /// Whether it speaks of all (`everything`, `everyone`), so that none may be named besides.
+    pub of_all: bool,
+}
+
+/// What a claim is about.
+enum About {
+    Fact(usize),
+    Character(usize),
+    Rest { of_all: bool },
+    Others { of_all: bool },
+}
+
+/// The views as they are said.
+pub struct Sections<'s> {
+    pub scope: &'s Scope,
+    pub said: Vec<Said>,
+    /// Whether all headings could be read.
+    pub whole: bool,
+}
+
+pub fn views(scope: &Scope, text: &Text, found: &mut Found) -> Option<Views> {
+    let truth = text.only(Kind::Truth, TRUTH, found);
+    truth.into_iter().for_each(|section| found.source.at(Part::Views, section.span));
+    let others = text.sections.iter().filter(|section| matches!(section.kind, Kind::Believed | Kind::View));
+    let sections: Vec<&Section> = truth.into_iter().chain(others).collect();
+    let mut views = Sections { scope, said: Vec::new(), whole: truth.is_some() && !text.lost };
+    for section in &sections {
+        views.open(section, found);
     }
-    tie(scope, &views, &labels, &mut said)?;
-    let plural = said[0].plural.clone();
-    let source = source(&views, &said);
-    Ok(Views { nodes: nodes(scope, truth, said)?, labels, plural, source })
-}
-
-/// Where each view says its facts and beliefs: what it leaves out, by its heading.
-fn source(views: &[&Section], said: &[Said]) -> Source {
-    let mut source = Source::default();
-    for (i, (view, said)) in views.iter().zip(said).enumerate() {
-        let place = |line: Option<usize>| line.map_or(view.at, |line| Place { line, column: 1 });
-        let values = said.values.iter().map(|told| place(told.map(|(_, line)| line)));
-        source.places.extend(values.enumerate().map(|(fact, at)| (Part::Value(i, fact), at)));
-        let beliefs = said.beliefs.iter().map(|told| place(told.map(|(_, line)| line)));
-        source.places.extend(beliefs.enumerate().map(|(character, at)| (Part::Belief(i, character), at)));
+    for (i, section) in sections.iter().enumerate() {
+        section.body.iter().for_each(|line| views.claims(i, line, found));
     }
-    source
+    views.tie(found);
+    let nodes = fill::nodes(&views, found)?;
+    let plural = views.said.first()?.plural.clone();
+    Some(Views { nodes, labels: views.said.into_iter().map(|said| said.label).collect::<Option<_>>()?, plural })
 }
 
-fn labels(scope: &Scope, views: &[&Section]) -> Result<Vec<Label>, Error> {
-    let mut labels: Vec<Label> = Vec::new();
-    for view in views {
-        let label = label(scope, view)?;
-        if let Some(before) = labels.iter().position(|known| *known == label) {
-            let what = format!("'{}:'", label.text(scope.characters));
-            return Err(Error::new(view.at, Fault::Again { what, line: views[before].at.line }));
+impl Sections<'_> {
+    pub fn name(&self, view: usize) -> String {
+        let label = self.said[view].label.as_ref();
+        label.map_or(String::new(), |label| label.text(&self.scope.characters.names))
+    }
+
+    /// Adds a section by its heading.
+    fn open(&mut self, section: &Section, found: &mut Found) {
+        let mut label = found.kept(&section.heading, self.label(section));
+        self.whole &= label.is_some();
+        if let Some(before) = self.said.iter().find(|said| label.is_some() && said.label == label) {
+            found.problems.push(again(&format!("'{}:'", before.heading), section.span, before.at));
+            label = None;
         }
-        if labels.len() == MOST_VIEWS {
-            return Err(Error::new(view.at, Fault::TooMany { what: "views, the truth among them", most: MOST_VIEWS }));
+        if self.said.len() == MOST_VIEWS {
+            found.problems.push(too_many(section.span, "views, the truth among them", MOST_VIEWS));
         }
-        labels.push(label);
+        let facts = self.scope.facts.values.len();
+        self.said.push(Said {
+            at: section.span,
+            heading: section.words(),
+            label,
+            values: vec![None; facts],
+            beliefs: vec![None; self.scope.characters.names.len()],
+            rest: None,
+            others: None,
+            plural: vec![false; facts],
+            unread: false,
+        });
     }
-    Ok(labels)
-}
 
-fn label(scope: &Scope, view: &Section) -> Result<Label, Error> {
-    let cursor = &mut Cursor::new(&view.heading);
-    let label = match view.kind {
-        Kind::Truth => return Ok(Label::Truth),
-        Kind::Believed => reference_to(scope, cursor)?,
-        _ => {
-            cursor.take("view");
-            let name = cursor.phrase("the view's name")?;
-            refuse_word(&name, &["what"])?;
-            if name.text == TRUTH {
-                return Err(Error::new(name.at, Fault::Misread { name: name.text, why: "the truth doesn't have" }));
+    fn label(&self, section: &Section) -> Read<Label> {
+        let cursor = &mut Cursor::new(&section.heading);
+        let label = match section.kind {
+            Kind::Truth => return Ok(Label::Truth),
+            Kind::Believed => self.named(cursor)?,
+            _ => {
+                cursor.take("view");
+                let name = cursor.phrase(VIEW_NAME)?;
+                refuse_word(&name, &["what"])?;
+                refuse(&name, TRUTH, "the truth hasn't")?;
+                refuse(&name, "this", "isn't 'this'")?;
+                Label::Named(name.text)
             }
-            Label::Named(name.text)
-        }
-    };
-    cursor.finish("a colon")?;
-    Ok(label)
-}
-
-/// `the truth`, `what Ada believes Ben believes`, or a view's name.
-fn reference_to(scope: &Scope, cursor: &mut Cursor) -> Result<Label, Error> {
-    if !cursor.take("what") {
-        let name = cursor.phrase("a view: the truth, what … believes, or its name")?.text;
-        return Ok(if name == TRUTH { Label::Truth } else { Label::Named(name) });
-    }
-    let mut chain = Vec::new();
-    loop {
-        let name = cursor.phrase("a character")?;
-        if !cursor.take("believes") {
-            return cursor.expected("'believes'");
-        }
-        chain.push(scope.character(&name)?);
-        if cursor.word().is_none_or(|word| word == "and") {
-            return Ok(Label::Believed(chain));
-        }
-    }
-}
-
-fn body(scope: &Scope, view: &Section, labels: &[Label]) -> Result<Said, Error> {
-    let (facts, characters) = (scope.facts.len(), scope.characters.len());
-    let mut said = Said { values: vec![None; facts], plural: vec![false; facts], beliefs: vec![None; characters] };
-    for line in &view.body {
-        claims(scope, &mut Cursor::new(line), labels, &mut said)?;
-    }
-    Ok(said)
-}
-
-/// Claims with commas or `and` between them, to the end of the line.
-fn claims(scope: &Scope, cursor: &mut Cursor, labels: &[Label], said: &mut Said) -> Result<(), Error> {
-    loop {
-        claim(scope, cursor, labels, said)?;
-        if cursor.is_done() {
-            return Ok(());
-        }
-        if !cursor.take_next(&["and"]) {
-            return cursor.expected("'and', a comma or the end of the line");
-        }
-    }
-}
-
-/// `the letter is burnt` or `Ada believes the truth`
-fn claim(scope: &Scope, cursor: &mut Cursor, labels: &[Label], said: &mut Said) -> Result<(), Error> {
-    let name = cursor.phrase("a fact or a character")?;
-    let plural = cursor.word() == Some("are");
-    if cursor.take_is() {
-        let fact = scope.fact(&name)?;
-        said.plural[fact] = plural;
-        let value = scope.value(fact, cursor)?;
-        return once(&mut said.values[fact], value, &name);
-    }
-    if !cursor.take("believes") {
-        return cursor.expected("'is' or 'believes'");
-    }
-    let character = scope.character(&name)?;
-    let at = cursor.at();
-    let label = reference_to(scope, cursor)?;
-    if matches!(cursor.word(), Some("is" | "are")) {
-        return cursor.expected(OWN_SECTION);
-    }
-    let view = labels.iter().position(|known| *known == label).ok_or_else(|| {
-        let known = labels.iter().map(|label| label.text(scope.characters)).collect();
-        Error::new(at, Fault::Unknown { what: "view", name: label.text(scope.characters), known })
-    })?;
-    once(&mut said.beliefs[character], view, &name)
-}
-
-/// Notes what is said, unless it was said before.
-fn once<T>(place: &mut Option<(T, usize)>, said: T, name: &Phrase) -> Result<(), Error> {
-    if let Some((_, line)) = place {
-        return Err(Error::new(name.at, Fault::Again { what: format!("'{}'", name.text), line: *line }));
-    }
-    *place = Some((said, name.at.line));
-    Ok(())
-}
-
-/// A heading `what … believes` says whose belief its view is.
-fn tie(scope: &Scope, views: &[&Section], labels: &[Label], said: &mut [Said]) -> Result<(), Error> {
-    for (i, (label, view)) in labels.iter().zip(views).enumerate() {
-        let Some((holder, character)) = label.holder() else { continue };
-        let Some(holder) = labels.iter().position(|known| *known == holder) else {
-            return Err(Error::new(view.at, Fault::Untied(holder.text(scope.characters))));
         };
-        let name = Phrase { text: label.text(scope.characters), at: view.at };
-        let place = &mut said[holder].beliefs[character];
-        if place.is_none_or(|(told, _)| told != i) {
-            once(place, i, &name)?;
+        cursor.finish(COLON)?;
+        Ok(label)
+    }
+
+    /// `the truth`, `what Ada believes Ben believes`, or a view's name.
+    fn named(&self, cursor: &mut Cursor) -> Read<Label> {
+        if !cursor.take("what") {
+            let name = cursor.phrase(VIEW)?.text;
+            return Ok(if name == TRUTH { Label::Truth } else { Label::Named(name) });
+        }
+        let mut chain = Vec::new();
+        loop {
+            let name = cursor.phrase(BELIEVER)?;
+            if !cursor.take("believes") {
+                return cursor.expected(BELIEVES);
+            }
+            chain.push(self.scope.characters.find(&name)?);
+            if cursor.word().is_none_or(|word| word == "and") {
+                return Ok(Label::Believed(chain));
+            }
         }
     }
-    Ok(())
-}
 
-/// Who isn't named believes the view itself.
-fn nodes(scope: &Scope, truth: &Section, said: Vec<Said>) -> Result<Vec<Node>, Error> {
-    let mut nodes: Vec<Node> = Vec::new();
-    for (i, Said { values: told, beliefs, .. }) in said.into_iter().enumerate() {
-        let values = values(scope, truth, &told, nodes.first())?;
-        let beliefs = beliefs.into_iter().map(|belief| belief.map_or(i, |(view, _)| view)).collect();
-        nodes.push(Node { values, beliefs });
+    /// Which view is meant; `this` is the one at hand.
+    fn view(&self, this: usize, cursor: &mut Cursor) -> Read<usize> {
+        if cursor.take("this") {
+            return Ok(this);
+        }
+        let begin = cursor.clone();
+        let label = self.named(cursor)?;
+        if matches!(cursor.word(), Some("is" | "are")) {
+            return cursor.expected(OWN_SECTION);
+        }
+        let place = self.said.iter().position(|said| said.label.as_ref() == Some(&label));
+        place.ok_or_else(|| {
+            if !self.whole {
+                return Mistake::Follows;
+            }
+            let name = Phrase { text: label.text(&self.scope.characters.names), span: cursor.since(&begin) };
+            let known: Vec<String> = (0..self.said.len()).map(|view| self.name(view)).collect();
+            let mut problem = unknown("view", &name, &known);
+            problem.help += &format!(", or a section '{}:'", label.heading(&self.scope.characters.names));
+            problem.into()
+        })
     }
-    Ok(nodes)
+
+    /// Claims with commas or `and` between them, to the end of the line. What is wrong with one is told, and the next is
+    /// read if it is clear where it begins.
+    fn claims(&mut self, view: usize, line: &Line, found: &mut Found) {
+        let cursor = &mut Cursor::new(line);
+        loop {
+            let read = self.claim(view, cursor);
+            let read = found.kept(line, read);
+            if cursor.is_done() {
+                return;
+            }
+            if !cursor.take_next(&["and"]) {
+                if read.is_some() {
+                    found.kept::<()>(line, cursor.expected(NEXT_CLAIM));
+                }
+                self.said[view].unread = true;
+                return;
+            }
+        }
+    }
+
+    /// `the letter is burnt`, `Ada believes the truth`, or a short form for the others.
+    fn claim(&mut self, view: usize, cursor: &mut Cursor) -> Read<()> {
+        let begin = cursor.clone();
+        let about = match self.about(view, cursor) {
+            Ok(about) => about,
+            Err(mistake) => {
+                self.said[view].unread = true;
+                return Err(mistake);
+            }
+        };
+        let read = match about {
+            About::Fact(fact) => self.scope.value(fact, cursor),
+            _ => self.view(view, cursor),
+        };
+        let of_all = matches!(about, About::Rest { of_all: true } | About::Others { of_all: true });
+        let told = Told { what: read.as_ref().ok().copied(), at: cursor.since(&begin), of_all };
+        let said = &mut self.said[view];
+        let place = match about {
+            About::Fact(fact) => &mut said.values[fact],
+            About::Character(character) => &mut said.beliefs[character],
+            About::Rest { .. } => &mut said.rest,
+            About::Others { .. } => &mut said.others,
+        };
+        if let Some(before) = *place {
+            return Err(again(&self.words(about), told.at, before.at).into());
+        }
+        *place = Some(told);
+        read.map(|_| ())
+    }
+
+    fn words(&self, about: About) -> String {
+        match about {
+            About::Fact(fact) => format!("what '{}' is", self.scope.facts.names.names[fact]),
+            About::Character(character) => format!("what '{}' believes", self.scope.characters.names[character]),
+            About::Rest { .. } => "what the rest is as in".to_string(),
+            About::Others { .. } => "what everyone else believes".to_string(),
+        }
+    }
+
+    /// What a claim is about, up to what it says of it.
+    fn about(&mut self, view: usize, cursor: &mut Cursor) -> Read<About> {
+        for (words, of_all) in [("the rest is as in", false), ("everything is as in", true)] {
+            if cursor.take(words) {
+                return Ok(About::Rest { of_all });
+            }
+        }
+        for (words, of_all) in [("everyone else believes", false), ("everyone believes", true)] {
+            if cursor.take(words) {
+                return Ok(About::Others { of_all });
+            }
+        }
+        let name = cursor.phrase(SUBJECT)?;
+        let plural = cursor.word() == Some("are");
+        if cursor.take_is() {
+            let fact = self.scope.facts.names.find(&name)?;
+            self.said[view].plural[fact] = plural;
+            return Ok(About::Fact(fact));
+        }
+        if !cursor.take("believes") {
+            return cursor.expected(IS);
+        }
+        Ok(About::Character(self.scope.characters.find(&name)?))
+    }
+
+    /// A heading `what .. believes` says whose belief its view is.
+    fn tie(&mut self, found: &mut Found) {
+        for view in 0..self.said.len() {
+            let at = self.said[view].at;
+            let Some((holder, character)) = self.said[view].label.as_ref().and_then(Label::holder) else { continue };
+            let Some(place) = self.said.iter().position(|said| said.label.as_ref() == Some(&holder)) else {
+                if self.whole {
+                    found.problems.push(untied(at, &holder.text(&self.scope.characters.names)));
+                }
+                continue;
+            };
+            match self.said[place].beliefs[character] {
+                Some(told) if told.what.is_some_and(|told| told != view) => {
+                    found.problems.push(again(&self.words(About::Character(character)), at, told.at))
+                }
+                Some(_) => {}
+                None => {
+                    self.said[place].beliefs[character] = Some(Told { what: Some(view), at, of_all: false });
+                }
+            }
+        }
+    }
 }
 
-/// A fact that a view leaves out is as in the truth, the first node, which leaves none out.
-fn values(
-    scope: &Scope,
-    truth: &Section,
-    told: &[Option<(usize, usize)>],
-    first: Option<&Node>,
-) -> Result<Vec<usize>, Error> {
-    let value = |(fact, told): (usize, &Option<(usize, usize)>)| match (told, first) {
-        (Some((value, _)), _) => Ok(*value),
-        (None, Some(first)) => Ok(first.values[fact]),
-        (None, None) => Err(Error::new(truth.at, Fault::Unsaid(scope.facts[fact].name.clone()))),
-    };
-    told.iter().enumerate().map(value).collect()
+/// A heading such as `what A believes B believes:` without one for the view that holds the belief.
+fn untied(at: Span, holder: &str) -> Problem {
+    at.problem(format!("this is part of '{holder}', which has no section"), format!("write a section '{holder}:'"))
 }

@@ -21,13 +21,30 @@ fn p_without_names() {
     assert!(PAGE.contains(&quoted(&print::story(&story))));
 }
 
-/// The error that the page quotes.
-#[test]
-fn an_error() {
-    let story = include_str!("../../examples/letter.story").replacen("is in the desk", "is in the dessk", 1);
+/// What is told of a story with a text put in place of another.
+fn told(file: &str, story: &str, before: &str, after: &str) -> String {
+    let story = story.replacen(before, after, 1);
     let problems = story::read(story.as_bytes()).unwrap_err();
-    let shown = problems[0].show("error", "letter.story", &story);
-    assert!(PAGE.contains(&quoted(&shown)), "{shown}");
+    problems.iter().map(|problem| problem.show("error", file, &story)).collect()
+}
+
+/// The errors that the page quotes: a mistake, and a blank.
+#[test]
+fn errors() {
+    let letter = include_str!("../../examples/letter.story");
+    let mistake = told("letter.story", letter, "is in the desk", "is in the dessk");
+    assert!(PAGE.contains(&quoted(&mistake)), "{mistake}");
+    let blank = told("p.story", include_str!("../../examples/p.story"), "    everyone believes this\n", "");
+    assert!(PAGE.contains(&quoted(&blank)), "{blank}");
+}
+
+/// The view that the page quotes, with the marks of a short form.
+#[test]
+fn a_short_form() {
+    let story = story::read(include_bytes!("../../examples/shoes.story")).unwrap().story;
+    let text = print::story(&story);
+    let view = text.split("\n\n").find(|section| section.starts_with("what the teen believes:")).unwrap();
+    assert!(view.contains("# by line 17") && PAGE.contains(&quoted(view)), "{view}");
 }
 
 /// The repository's page shows the ending of the letter as the program prints it and as the examples tell it.

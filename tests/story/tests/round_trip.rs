@@ -153,9 +153,10 @@ fn long_chains() {
     pack.nodes = (0..7).map(|i| Node { values: vec![i as u8], beliefs: vec![(i + 1).min(6)] }).collect();
     let story = Story::of_pack(&generate::draft::bytes(&pack)).unwrap();
     let text = print::story(&again(&story));
-    assert!(text
-        .contains("\nwhat A believes A believes A believes A believes:\n    fact 0 is 4\n    A believes number 5\n"));
-    assert!(text.contains("\nview number 5:\n    fact 0 is 5\n    A believes number 6\n"));
+    let chain =
+        "\nwhat A believes A believes A believes A believes:\n    fact 0 is 4\n    everyone believes number 5\n";
+    assert!(text.contains(chain));
+    assert!(text.contains("\nview number 5:\n    fact 0 is 5\n    everyone believes number 6\n"));
 }
 
 const STORIES: [&str; 3] = [

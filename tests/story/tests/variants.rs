@@ -17,6 +17,9 @@ const MARKET: &str = include_str!("../../../examples/market.story");
 const LIE: &str = include_str!("../../../examples/lie.story");
 const SAFE: &str = include_str!("../../../examples/safe.story");
 
+/// How the stories of one view begin: nobody is mistaken.
+const EVERYONE: &str = "    everyone believes this\n";
+
 const NONE: &str = "refused 13 at 0\n";
 
 /// The story with texts put in place of others, each of which stands there exactly once.
@@ -67,7 +70,7 @@ fn letter() {
     assert!(explained(&story, &[0], 1, 1, (3, 1)) && !explained(&story, &[0], 1, 1, (2, 3)), "he comes home for three");
     assert!(explained(&story, &[0, 1], 2, 1, (2, 1)) && !explained(&story, &[0, 1], 2, 1, (1, 3)));
     assert_eq!(step(&story, &state(&story, &[0, 1, 2]), 3), Err(CONDITION), "the letter isn't in the desk");
-    let at_home = ("    the cousin is out\n\naction", "    the cousin is in the house\n\naction");
+    let at_home = ("    the cousin is out\n", "    the cousin is in the house\n");
     assert_eq!(ends(LETTER, &[at_home]), NONE);
     assert_eq!(ends(LETTER, &[("seen by the cousin if the cousin is in the house", "seen by the cousin")]), NONE);
     let moved = (
@@ -75,7 +78,11 @@ fn letter() {
         "    the letter is in the drawer\n    the desk is locked",
     );
     assert_eq!(ends(LETTER, &[moved]), NONE);
-    let view = ("\naction Ada moves", "\nwhat the cousin believes:\n    the letter is in the desk\n\naction Ada moves");
+    let view = (
+        EVERYONE,
+        "    everyone else believes this\nwhat the cousin believes:\n the letter is in the desk\n \
+                           the rest is as in the truth\n everyone believes this\n",
+    );
     assert_eq!(ends(LETTER, &[moved, view]), "1 1\n2 2\nauthor 0 5\n");
 }
 
@@ -92,7 +99,8 @@ fn alice() {
         2,
         "Bob believes Charlie believes Alice believes Bob is at the store"
     );
-    let secret = [("    by Bob\n    seen by everyone", "    by Bob\n    seen by Bob and Charlie")];
+    let secret =
+        [("    by Bob\n    seen by everyone", "    by Bob\n    seen by Bob and Charlie\n    seen by nobody else")];
     assert_eq!(ends(ALICE, &secret), NONE);
 }
 
@@ -130,11 +138,14 @@ fn market() {
     let only_the_potion = ("    1 if Tom is at the market\n", "");
     assert_eq!(ends(MARKET, &[only_the_potion]), NONE);
     assert_eq!(ends(MARKET, &[only_the_potion, knows]), found);
-    assert_eq!(ends(MARKET, &[("    2 if the takings are at least 1\n", "")]), NONE);
+    assert_eq!(ends(MARKET, &[("    2 if the takings are at least 1\n", "    nothing\n")]), NONE);
     assert_eq!(under(&changed(MARKET, &[]), (2, 1, 1)), found);
     let sees_tom = "    seen by the merchant if the merchant is at the cottage or the merchant is at the market\n";
     let arrives = "    then Tom is at the market\n    by Tom\n    seen by Tom\n";
-    assert_eq!(ends(MARKET, &[(&format!("{arrives}{sees_tom}"), arrives)]), NONE);
+    assert_eq!(
+        ends(MARKET, &[(&format!("{arrives}{sees_tom}"), &format!("{arrives}    seen by nobody else\n"))]),
+        NONE
+    );
 }
 
 #[test]
@@ -160,8 +171,9 @@ fn lie() {
     );
     assert_eq!(under(&stroll, (4, 3, 1)), "1 1\n2 3\nauthor 0 5\n");
     let mistaken = (
-        "\naction the heir says",
-        "\nwhat the heir believes:\n    the butler is in the garden\n\naction the heir says",
+        EVERYONE,
+        "    everyone else believes this\nwhat the heir believes:\n \
+                               the butler is in the garden\n the rest is as in the truth\n everyone believes this\n",
     );
     assert_eq!(ends(LIE, &[mistaken]), NONE);
     let careless = [("    2 if the will is with the butler\n", "    2 if the will is in the garden\n")];
