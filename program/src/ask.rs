@@ -4,7 +4,7 @@ use story::print::belief;
 use story::Names;
 
 use crate::list::actions;
-use crate::open::{open, Opened};
+use crate::open::open;
 use crate::said::{Refused, Said};
 
 /// What is asked for: a fact where a chain leads, or whether it has a value there.
@@ -15,18 +15,17 @@ struct Asked {
 }
 
 pub fn ask(file: &str, question: &str, after: &str) -> Result<Said, Refused> {
-    let Opened { mut stage, warnings, .. } = open(file)?;
+    let mut stage = open(file)?.stage;
     let Asked { chain, fact, value } = asked(stage.names(), question)?;
     let list = actions(&stage.names().actions, after)?;
     let chart = stage.after(&list)?;
     let found = stage.value(&chart, &chain, fact)?;
     let told = belief(stage.names(), &chain, fact, found);
-    let said = match value {
+    Ok(match value {
         None => Said::answer(told + "\n"),
         Some(value) if value == found => Said::answer(format!("yes: {told}\n")),
         Some(_) => Said::verdict(false, format!("no: {told}\n")),
-    };
-    Ok(said.warned(&warnings))
+    })
 }
 
 /// `Ada believes the cousin believes the letter`, and perhaps `is in the desk`

@@ -5,7 +5,7 @@ use pirwodd::{Chart, Limits};
 use crate::act::{self, Act};
 use crate::judge::worth;
 use crate::list::actions;
-use crate::open::{open, Opened};
+use crate::open::open;
 use crate::play::out_of_range;
 use crate::said::{Refused, Said};
 use crate::stage::Stage;
@@ -14,7 +14,7 @@ use crate::stage::Stage;
 const LONGEST_ENDING: usize = 8;
 
 pub fn attempt(file: &str, lists: &[&str], limits: Limits) -> Result<Said, Refused> {
-    let Opened { mut stage, warnings, .. } = open(file)?;
+    let mut stage = open(file)?.stage;
     let mut list = Vec::new();
     for part in lists {
         list.extend(actions(&stage.names().actions, part)?);
@@ -27,11 +27,11 @@ pub fn attempt(file: &str, lists: &[&str], limits: Limits) -> Result<Said, Refus
         out += &told;
         match after {
             Some(after) => chart = after,
-            None => return Ok(Said::verdict(false, out).warned(&warnings)),
+            None => return Ok(Said::verdict(false, out)),
         }
     }
     out += &verdict(&mut stage, &chart, list.len())?;
-    Ok(Said::answer(out).warned(&warnings))
+    Ok(Said::answer(out))
 }
 
 /// What is told of an action, and the state that it leaves, if it doesn't fail.

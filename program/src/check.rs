@@ -17,7 +17,8 @@ pub fn check(file: &str) -> Result<Said, Refused> {
     let mut stated = stage.story.stated();
     let known: HashSet<_> = stated.iter().map(key).collect();
     stated.extend(again::stated(&text, names).into_iter().filter(|belief| !known.contains(&key(belief))));
-    Ok(asked_back(file, names, &stage.pack, &stated)?.warned(&warnings))
+    let said = asked_back(file, names, &stage.pack, &stated)?;
+    Ok(Said { err: warnings, ..said })
 }
 
 fn key(belief: &Stated) -> (Vec<usize>, usize, usize) {

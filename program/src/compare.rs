@@ -4,14 +4,14 @@ use pirwodd::Comparison;
 use story::print::belief;
 
 use crate::list::actions;
-use crate::open::{open, Opened};
+use crate::open::open;
 use crate::said::{Refused, Said};
 
 pub fn compare(file: &str, first: &str, second: &str) -> Result<Said, Refused> {
-    let Opened { mut stage, warnings, .. } = open(file)?;
+    let mut stage = open(file)?.stage;
     let (first, second) = (actions(&stage.names().actions, first)?, actions(&stage.names().actions, second)?);
     let (one, other) = (stage.after(&first)?, stage.after(&second)?);
-    let said = match stage.compare(&one, &other)? {
+    Ok(match stage.compare(&one, &other)? {
         Comparison::Same => Said::answer("The same: no belief about beliefs of any depth tells them apart.\n"),
         Comparison::Differ { chain, fluent } => {
             let (chain, fact): (Vec<usize>, _) = (chain.iter().map(|who| who.0.into()).collect(), fluent.0.into());
@@ -19,6 +19,5 @@ pub fn compare(file: &str, first: &str, second: &str) -> Result<Said, Refused> {
             let [one, other] = values.map(|value| belief(stage.names(), &chain, fact, value));
             Said::verdict(false, format!("They differ:\n  after the first, {one}\n  after the second, {other}\n"))
         }
-    };
-    Ok(said.warned(&warnings))
+    })
 }

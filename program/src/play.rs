@@ -5,18 +5,17 @@ use pirwodd::{Ending, Limits, Refusal};
 use story::print::people;
 
 use crate::act::{self, Act};
-use crate::open::{open, Opened};
+use crate::open::open;
 use crate::said::{Refused, Said};
 use crate::stage::Stage;
 
 pub fn play(file: &str, limits: Limits) -> Result<Said, Refused> {
-    let Opened { mut stage, warnings, .. } = open(file)?;
-    let said = match stage.search(limits) {
-        Ok(ending) => Said::answer(told(&mut stage, &ending, limits)?),
-        Err(Refusal { number: NO_ENDING, .. }) => Said::verdict(false, none(limits)),
-        Err(refusal) => return Err(out_of_range(refusal)),
-    };
-    Ok(said.warned(&warnings))
+    let mut stage = open(file)?.stage;
+    match stage.search(limits) {
+        Ok(ending) => Ok(Said::answer(told(&mut stage, &ending, limits)?)),
+        Err(Refusal { number: NO_ENDING, .. }) => Ok(Said::verdict(false, none(limits))),
+        Err(refusal) => Err(out_of_range(refusal)),
+    }
 }
 
 /// A limit that the planner refuses, with what limits may be.

@@ -29,11 +29,6 @@ impl Said {
         let status = if yes { Status::Answered } else { Status::No };
         Said { status, ..Said::answer(text) }
     }
-
-    /// The same with warnings on standard error.
-    pub fn warned(self, warnings: &str) -> Said {
-        Said { err: warnings.to_string(), ..self }
-    }
 }
 
 /// Why there is no answer, in words.

@@ -4,13 +4,13 @@ use story::{dot, print, Story, Unreadable};
 
 use crate::arguments::Shown;
 use crate::list::actions;
-use crate::open::{open, Opened};
+use crate::open::open;
 use crate::said::{Refused, Said};
 use crate::stage::Stage;
 
 pub fn pack(file: &str) -> Result<Said, Refused> {
-    let Opened { stage, warnings, .. } = open(file)?;
-    Ok(Said::answer(stage.pack).warned(&warnings))
+    let stage = open(file)?.stage;
+    Ok(Said::answer(stage.pack))
 }
 
 pub fn text(file: &str, of: Shown) -> Result<Said, Refused> {
@@ -25,12 +25,12 @@ type OfStory = fn(&Story) -> String;
 type OfChart = fn(&Story, &[u8]) -> Result<String, Unreadable>;
 
 fn shown(file: &str, of: Shown, story: OfStory, chart: OfChart) -> Result<Said, Refused> {
-    let Opened { mut stage, warnings, .. } = open(file)?;
+    let mut stage = open(file)?.stage;
     let text = match state(&mut stage, of)? {
         None => story(&stage.story),
         Some(bytes) => chart(&stage.story, &bytes).map_err(|unreadable| Refused::new(unreadable.to_string()))?,
     };
-    Ok(Said::answer(text).warned(&warnings))
+    Ok(Said::answer(text))
 }
 
 /// The chart that is to be shown, if it is not the story; whether bytes are a chart is the planner's to say.

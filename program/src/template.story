@@ -1,21 +1,23 @@
-# A story to begin with. What stands behind a # is a remark: change the rest as you like.
-# `pirwodd check` says what is wrong with it, `pirwodd play` finds its ending.
+# A story to begin with. What stands behind a # is a remark; change the rest as you like.
+# `pirwodd check` says what is wrong with it, and `pirwodd play` finds its ending.
 
 # Who has beliefs and wants something: one to six.
 characters: Ada, the cousin
 
-# What can be so or not: a name and its values.
+# What can be one way or another: a name, and the values that it can have.
 facts:
     the letter: in the desk, in the drawer
     the cousin: out, in the house
 
-# How things are at the start.
+# How things really are at the start, and who believes what of it. Who is mistaken gets a section
+# of their own: `what the cousin believes:`, with all that is so there.
 the truth:
     the letter is in the desk
     the cousin is out
+    everyone believes this
 
-# What can happen. `when` it can be done, `then` what it changes, `by` whose reasons it needs,
-# `seen by` who notices it: anyone else goes on believing what was so before.
+# What can happen: `when` it can be done, `then` what it changes, `by` whose reasons it needs, and
+# `seen by` who notices. Who doesn't see it goes on believing what was so before.
 action Ada moves the letter to the drawer:
     when the letter is in the desk
     then the letter is in the drawer
@@ -29,12 +31,12 @@ action the cousin comes home:
     by the cousin
     seen by everyone
 
-# What is wanted, with its worth. The author's wish is what the story is to end with;
-# a character acts only towards a wish of its own, as far as it believes.
+# What the story is to come to, and what it is worth.
 author wants:
-    5 if the letter is in the drawer and the cousin believes the letter is in the desk
-     and the cousin is in the house
+    5 if the cousin is in the house and the letter is in the drawer
+     and the cousin believes the letter is in the desk
 
+# What each one wants. Nobody does anything that doesn't lead, as far as they believe, to a wish of theirs.
 Ada wants:
     2 if the letter is in the drawer
 

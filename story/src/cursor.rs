@@ -102,6 +102,14 @@ impl<'l, 'a> Cursor<'l, 'a> {
         self.words(wanted, |_| true)
     }
 
+    /// Takes the title of an action or a trigger: all words to the end, and commas between them.
+    pub fn sentence(&mut self, wanted: Wanted) -> Read<Phrase> {
+        let Some(span) = span(self.tokens).filter(|_| self.word().is_some()) else { return self.expected(wanted) };
+        let words: Vec<&str> = self.tokens.iter().map(|token| token.sign.text()).collect();
+        self.tokens = &[];
+        Ok(Phrase { text: words.join(" ").replace(" ,", ","), span })
+    }
+
     fn words(&mut self, wanted: Wanted, part: fn(&str) -> bool) -> Read<Phrase> {
         let taken = self.tokens.iter().take_while(|token| matches!(token.sign, Sign::Word(word) if part(word))).count();
         let (words, rest) = self.tokens.split_at(taken);

@@ -4,7 +4,7 @@ use crate::cursor::{Cursor, Phrase};
 use crate::faults::again;
 use crate::found::Found;
 use crate::problem::{Problem, Read, Span};
-use crate::wanted::{COLON, HEADING, TITLE};
+use crate::wanted::{HEADING, TITLE};
 use crate::words::{span, Line, Sign};
 
 #[derive(Clone, Copy, PartialEq, Eq, Debug)]
@@ -106,9 +106,7 @@ impl Section<'_> {
     pub fn title(&self) -> Read<Phrase> {
         let mut cursor = Cursor::new(&self.heading);
         cursor.any_word(TITLE)?;
-        let title = cursor.title(TITLE)?;
-        cursor.finish(COLON)?;
-        Ok(title)
+        cursor.sentence(TITLE)
     }
 }
 

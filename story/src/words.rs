@@ -103,12 +103,12 @@ fn line<'a>(source: &'a str, number: usize, found: &mut Found) -> Line<'a> {
 
 /// What words are made of.
 fn in_name(sign: char) -> bool {
-    sign.is_alphanumeric() || matches!(sign, '-' | '_' | '.' | '\'' | '’')
+    sign.is_alphanumeric() || matches!(sign, '-' | '_' | '.' | '\'' | '’' | '!' | '?')
 }
 
 fn stray(sign: char, at: Place) -> Problem {
     let help =
-        "write names with letters, digits and - _ . '; a comma, a colon and '#' before a remark may stand besides";
+        "write names with letters, digits and - _ . ' ! ?; a comma, a colon and '#' before a remark may stand besides";
     Span { at, width: 1 }.problem(format!("{sign:?} is no sign of this form"), help)
 }
 

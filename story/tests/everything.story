@@ -63,7 +63,7 @@ action nobody's doing:
     by nobody
     seen by nobody
 
-action a secret:
+action hush, Eve, a secret!:
     when never
     then Al is here
     by the old Dr. O'Neil-Çelik
