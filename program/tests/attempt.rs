@@ -2,7 +2,8 @@
 
 mod common;
 
-use common::{fed, p_with, pirwodd, refuses, says, P};
+use common::{examples, fed, p_with, pirwodd, refuses, says, P};
+use std::fs::read_to_string;
 
 const FIRST: &str = "\
 1. Ada moves the letter to the drawer
@@ -130,6 +131,20 @@ fn by_titles() {
                  1  the cousin comes home\n  2  the cousin breaks the desk open\n  \
                  3  the cousin takes the letter from the desk\n";
     assert_eq!((status, &out[..], &err[..]), (2, "", known));
+}
+
+/// Titles with commas and `!`, one by one and in a list.
+#[test]
+fn by_titles_with_commas() {
+    let text = read_to_string(examples().join("letter.story")).expect("a story");
+    let text = text.replace("action Ada moves the letter to the drawer:", "action Quick, Ada, the drawer!:");
+    let by_numbers = fed(&["try", "-", "0,1"], text.as_bytes());
+    assert!(by_numbers.0 == 0 && by_numbers.1.starts_with("1. Quick, Ada, the drawer!\n"), "{by_numbers:?}");
+    let (quick, home) = ("Quick, Ada, the drawer!", "the cousin comes home");
+    assert_eq!(fed(&["try", "-", quick, home], text.as_bytes()), by_numbers);
+    assert_eq!(fed(&["try", "-", &format!("{quick},{home}")], text.as_bytes()), by_numbers);
+    let moved = "the letter is in the drawer\n";
+    says(fed(&["ask", "-", "the letter", "--after", &format!("1, {quick}")], text.as_bytes()), 0, moved);
 }
 
 #[test]

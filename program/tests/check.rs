@@ -70,6 +70,19 @@ fn errors_of_a_text() {
     assert_eq!(fed(&["play", "-"], wrong.as_bytes()), (2, String::new(), shown));
 }
 
+/// Warnings go to standard error and change no status; only `check` tells them.
+#[test]
+fn warnings_of_a_text() {
+    let text = String::from_utf8(read(examples().join("alice.story")).expect("a file")).expect("text");
+    let Ok(Reading { warnings, .. }) = story::read(text.as_bytes()) else { panic!("a story") };
+    let shown: String = warnings.iter().map(|problem| problem.show("warning", "alice.story", &text)).collect();
+    assert!(shown.starts_with("alice.story:6:5: warning: "), "{shown}");
+    let (status, out, err) = pirwodd(&["check", "alice.story"]);
+    assert_eq!((status, err), (0, shown));
+    assert!(out.starts_with("alice.story: in order; "), "{out}");
+    assert_eq!(pirwodd(&["play", "alice.story"]).2, "");
+}
+
 #[test]
 fn packs_are_refused_by_the_planner() {
     refuses(

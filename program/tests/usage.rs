@@ -118,10 +118,12 @@ fn a_closed_pipe() {
     refuses(ran, "pirwodd: the answer can't be written: Broken pipe (os error 32)");
 }
 
-/// What can't be told to standard error is told by the exit status still.
+/// What can't be told to standard error is told by the exit status still, be it an error or a warning.
 #[test]
 fn errors_that_cannot_be_written() {
-    let full = File::options().write(true).open("/dev/full").expect("a full disk");
-    let output = program(&["play", "no.story"]).stderr(full).output().expect("the program is run");
-    assert_eq!((output.status.code(), &output.stdout[..]), (Some(2), &b""[..]));
+    for words in [["play", "no.story"], ["check", "alice.story"]] {
+        let full = File::options().write(true).open("/dev/full").expect("a full disk");
+        let output = program(&words).stderr(full).output().expect("the program is run");
+        assert_eq!((output.status.code(), &output.stdout[..]), (Some(2), &b""[..]), "{words:?}");
+    }
 }
