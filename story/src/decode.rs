@@ -1,5 +1,5 @@
-//! Packs and charts decoded from bytes, to be printed. The proved library is the judge of packs: here bytes that can't be
-//! printed are told by the place of the first number at fault, and no more.
+//! Packs and charts decoded from bytes, to be printed. The proved library is the judge of packs: here bytes that can't
+//! be printed are told by the place of the first number at fault, and no more.
 
 use std::fmt::{self, Display, Formatter};
 

@@ -36,8 +36,8 @@ pub struct Text<'a> {
     pub lost: bool,
 }
 
-/// Cuts lines into sections. What stands after a heading's colon is the first line under it. Lines behind a heading that
-/// can't be read are left out up to the next one.
+/// Cuts lines into sections. What stands after a heading's colon is the first line under it. Lines behind a heading
+/// that can't be read are left out up to the next one.
 pub fn sections<'a>((lines, end): (Vec<Line<'a>>, Span), found: &mut Found) -> Text<'a> {
     let mut text = Text { sections: Vec::new(), end, lost: false };
     let mut skipping = false;

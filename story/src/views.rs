@@ -176,8 +176,8 @@ impl Sections<'_> {
         })
     }
 
-    /// Claims with commas or `and` between them, to the end of the line. What is wrong with one is told, and the next is
-    /// read if it is clear where it begins.
+    /// Claims with commas or `and` between them, to the end of the line. What is wrong with one is told, and the next
+    /// is read if it is clear where it begins.
     fn claims(&mut self, view: usize, line: &Line, found: &mut Found) {
         let cursor = &mut Cursor::new(line);
         loop {

@@ -1,10 +1,10 @@
-//! Every error and every warning, word for word. `errors.txt` and `warnings.txt` have texts and what is told of each; here
-//! are those that are too long to be read.
+//! Every error and every warning, word for word. `errors.txt` and `warnings.txt` have texts and what is told of each;
+//! here are those that are too long to be read.
 
 use story::read;
 
-/// A whole story. In the files three dots at the beginning of a text stand for it, and what follows goes on with its last
-/// section.
+/// A whole story. In the files three dots at the beginning of a text stand for it, and what follows goes on with its
+/// last section.
 const BEGINNING: &str = "\
 characters: Ada, Ben
 facts:
@@ -86,9 +86,8 @@ const NOTHING: &str = " then nothing\n by nobody\n seen by nobody\n";
 fn counts() {
     let facts: String = (0..25).map(|i| format!(" f{i}: a\n")).collect();
     let truth: String = (0..25).map(|i| format!(" f{i} is a\n")).collect();
-    let text = format!(
-        "characters: A\nfacts:\n{facts}the truth:\n{truth} everyone believes this\nauthor wants: nothing\nA wants: nothing"
-    );
+    let wants = "author wants: nothing\nA wants: nothing\n";
+    let text = format!("characters: A\nfacts:\n{facts}{wants}the truth:\n{truth} everyone believes this\n");
     too_many(&text, "27:2", "24 facts");
     let views: String = (0..40).map(|i| format!("view v{i}:\n{REST}")).collect();
     too_many(&with(&views), "103:1", "32 views, the truth among them");
@@ -129,6 +128,7 @@ fn too_long() {
 #[test]
 fn carets() {
     let text = with("view é:\n\tletter is hier\n\teveryone believes this\n");
-    let expected = "x.story:11:12: error: there is no value 'hier'\n\tletter is hier\n\t          ^^^^\nhelp: write 'here' or 'there'\n";
+    let expected = "x.story:11:12: error: there is no value 'hier'\n\tletter is hier\n\t          ^^^^\n\
+                    help: write 'here' or 'there'\n";
     assert_eq!(told(&text), expected);
 }

@@ -1,4 +1,4 @@
-//! The text as it is laid out: every fact of every view, and a mark at what a short form fills. The pictures have it too.
+//! The text as it is laid out: every fact of every view, and a mark at what a short form fills. Pictures have it too.
 
 use story::{dot, print, read, Story};
 

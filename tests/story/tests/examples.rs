@@ -43,6 +43,17 @@ fn every_story_gives_its_pack() {
     }
 }
 
+/// What the stories are warned of: facts that are there to be believed, and that nothing looks at.
+#[test]
+fn warnings() {
+    let mut told = Vec::new();
+    for name in names(".story") {
+        let reading = story::read(&read(folder().join(name.clone() + ".story")).unwrap()).unwrap();
+        told.extend(reading.warnings.into_iter().map(|warning| format!("{name}: {}", warning.message)));
+    }
+    assert_eq!(told, ["alice: nothing looks at 'Alice'", "market: nothing looks at 'the merchant's wealth'"]);
+}
+
 #[test]
 fn every_pack_has_its_ending() {
     for name in names(".pack") {
