@@ -15,11 +15,11 @@ mod judge;
 pub mod list;
 mod mistakes;
 mod new;
-mod open;
+pub mod open;
 mod play;
 mod said;
 mod show;
-mod stage;
+pub mod stage;
 
 pub use said::{Refused, Said, Status};
 

@@ -2,7 +2,7 @@
 
 use std::io::Read;
 
-use pirwodd::{Planner, Refusal};
+use pirwodd::Planner;
 use story::{Reading, Story};
 
 use crate::said::Refused;
@@ -28,9 +28,18 @@ pub fn open(file: &str) -> Result<Opened, Refused> {
     let Reading { story, warnings } = story::read(&bytes).map_err(|problems| Refused(shown("error", &problems)))?;
     let warnings = shown("warning", &warnings);
     let pack = story.bytes();
+    Ok(Opened { stage: laid(file, story, pack)?, warnings, text: text.into_owned() })
+}
+
+/// A story laid before the planner by its pack. If that is refused, the line of the text is told that it is about.
+pub fn laid(file: &str, story: Story, pack: Vec<u8>) -> Result<Stage, Refused> {
     let mut planner = Planner::new();
-    let start = planner.start(&pack).map_err(|refusal| at_its_line(file, &story, refusal))?;
-    Ok(Opened { stage: Stage { planner, story, pack, start }, warnings, text: text.into_owned() })
+    let start = planner.start(&pack).map_err(|refusal| {
+        let place = usize::try_from(refusal.place).ok().and_then(|place| story.line_of(place));
+        let place = place.map_or(String::new(), |place| format!(":{place}"));
+        Refused::new(format!("{}{place}: {refusal}", name(file)))
+    })?;
+    Ok(Stage { planner, story, pack, start })
 }
 
 /// What a file is called in messages.
@@ -62,11 +71,4 @@ fn pack(file: &str, pack: Vec<u8>) -> Result<Opened, Refused> {
     let start = planner.start(&pack).map_err(|refusal| refused(refusal.to_string()))?;
     let story = Story::of_pack(&pack).map_err(|unreadable| refused(unreadable.to_string()))?;
     Ok(Opened { stage: Stage { planner, story, pack, start }, warnings: String::new(), text: String::new() })
-}
-
-/// A refusal of a story's pack, with the line of the text that it is about.
-fn at_its_line(file: &str, story: &Story, refusal: Refusal) -> Refused {
-    let place = usize::try_from(refusal.place).ok().and_then(|place| story.line_of(place));
-    let place = place.map_or(String::new(), |place| format!(":{place}"));
-    Refused::new(format!("{}{place}: {refusal}", name(file)))
 }

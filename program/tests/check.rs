@@ -4,6 +4,7 @@ mod common;
 
 use common::{examples, fed, pirwodd, refuses, says};
 use program::check::asked_back;
+use program::open::laid;
 use program::{Refused, Status};
 use std::fs::read;
 use story::{Reading, Story};
@@ -68,6 +69,19 @@ fn errors_of_a_text() {
     assert!(shown.contains(": error: "), "{shown}");
     assert_eq!(fed(&["check", "-"], wrong.as_bytes()), (2, String::new(), shown.clone()));
     assert_eq!(fed(&["play", "-"], wrong.as_bytes()), (2, String::new(), shown));
+}
+
+/// A refusal of a story's pack, which only a mistake of the reader could bring about, is told with the line of the text.
+#[test]
+fn a_refused_pack_of_a_story() {
+    let story = letter();
+    let mut pack = story.bytes();
+    pack[7] = 3; // the letter is nowhere
+    let line = story.line_of(7).expect("a line");
+    let Err(Refused(told)) = laid("letter.story", story, pack) else { panic!("it is refused") };
+    let why = "refused 4 at 7: in the pack, a character, fluent, value, node, whom or kind that isn't there";
+    assert_eq!(told, format!("pirwodd: letter.story:{line}: {why}"));
+    assert_eq!((line.line, line.column), (11, 5));
 }
 
 /// Warnings go to standard error and change no status; only `check` tells them.
