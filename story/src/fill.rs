@@ -84,13 +84,15 @@ fn blank_facts(views: &Sections, said: &Said) -> Option<Problem> {
     let facts = &views.scope.facts;
     let names: Vec<String> = blank.iter().map(|&fact| format!("'{}'", facts.names.names[fact])).collect();
     let is = |value: &String| format!("{} is {value}", facts.names.names[first]);
-    let ways: Vec<String> = facts.values[first].names.iter().map(is).collect();
-    let ways = if blank.len() > 1 { &ways[..ways.len().min(1)] } else { &ways };
+    let mut ways: Vec<String> = facts.values[first].names.iter().map(is).collect();
+    if blank.len() > 1 || ways.is_empty() {
+        ways = vec![ways.first().map_or_else(|| is(&"…".to_string()), String::clone)];
+    }
     let each = if blank.len() > 1 { "write a line for each, as in" } else { "write" };
     let short = if said.label == Some(Label::Truth) { "" } else { ", or 'the rest is as in the truth'" };
     let are = if blank.len() > 1 { "are" } else { "is" };
     let message = format!("'{}' doesn't say what {} {are}", said.heading, joined(&names, "and"));
-    Some(said.at.problem(message, format!("{each} {}{short}", one_of(ways))))
+    Some(said.at.problem(message, format!("{each} {}{short}", one_of(&ways))))
 }
 
 /// The characters of whom a view doesn't say what they believe.

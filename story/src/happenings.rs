@@ -63,7 +63,7 @@ fn happening(scope: &Scope, section: &Section, found: &mut Found) -> Happening {
         by: None,
         consenters: Vec::new(),
         sight: Sight::new(scope),
-        unread: false,
+        unread: section.cut,
     };
     for line in &section.body {
         let cursor = &mut Cursor::new(line);

@@ -104,7 +104,7 @@ impl Sections<'_> {
             rest: None,
             others: None,
             plural: vec![false; facts],
-            unread: false,
+            unread: section.cut,
         });
     }
 

@@ -84,7 +84,7 @@ fn rules(scope: &Scope, section: &Section, who: usize, found: &mut Found) -> Vec
         found.source.at(Part::Worth(who, rules.len()), at);
         rules.push(Rule { condition: condition.condition, worth });
     }
-    if section.body.is_empty() {
+    if section.body.is_empty() && !section.cut {
         let message = format!("'{}' doesn't say what", section.words());
         found.problems.push(section.span.problem(message, "write 'nothing', or lines such as '5 if …'"));
     }
