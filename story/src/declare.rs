@@ -113,7 +113,8 @@ fn body<'s, 'a>(
         known.whole = false;
         return &[];
     };
-    if section.body.is_empty() {
+    known.whole &= !section.cut;
+    if section.body.is_empty() && !section.cut {
         known.whole = false;
         let end = Line { tokens: Vec::new(), ..section.heading.clone() };
         found.kept::<()>(&section.heading, Cursor::new(&end).expected(wanted));

@@ -85,8 +85,8 @@ fn blank_facts(views: &Sections, said: &Said) -> Option<Problem> {
     let names: Vec<String> = blank.iter().map(|&fact| format!("'{}'", facts.names.names[fact])).collect();
     let is = |value: &String| format!("{} is {value}", facts.names.names[first]);
     let mut ways: Vec<String> = facts.values[first].names.iter().map(is).collect();
-    if blank.len() > 1 {
-        ways.truncate(1);
+    if blank.len() > 1 || ways.is_empty() {
+        ways = vec![ways.first().map_or_else(|| is(&"…".to_string()), String::clone)];
     }
     let each = if blank.len() > 1 { "write a line for each, as in" } else { "write" };
     let short = if said.label == Some(Label::Truth) { "" } else { ", or 'the rest is as in the truth'" };

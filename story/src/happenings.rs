@@ -1,14 +1,14 @@
-//! Actions, triggers and what everyone wants.
+//! Actions and triggers.
 
 use crate::cursor::Cursor;
 use crate::faults::again;
 use crate::found::Found;
-use crate::pack::{Action, Effect, Rule, Trigger, MOST_EFFECTS, MOST_RULES, MOST_WORTH};
+use crate::pack::{Action, Effect, Trigger, MOST_EFFECTS};
 use crate::problem::{Problem, Read, Span};
 use crate::scope::{room, Placed, Scope};
 use crate::sections::{Kind, Section};
 use crate::sight::{characters, Sight};
-use crate::wanted::{ACTION, END, IF, TRIGGER, WORTH};
+use crate::wanted::{ACTION, END, TRIGGER};
 use crate::write::{Owner, Part};
 
 /// What the lines of an action or a trigger say. Of each kind of line, where the first of them stands.
@@ -63,7 +63,7 @@ fn happening(scope: &Scope, section: &Section, found: &mut Found) -> Happening {
         by: None,
         consenters: Vec::new(),
         sight: Sight::new(scope),
-        unread: false,
+        unread: section.cut,
     };
     for line in &section.body {
         let cursor = &mut Cursor::new(line);
@@ -108,16 +108,18 @@ impl Happening {
             return Err(at.problem("there are 'then nothing' and effects besides", help).into());
         }
         self.nothing = nothing;
-        while !nothing {
+        if nothing {
+            return Ok(());
+        }
+        loop {
             room(self.effects.len(), "effects", MOST_EFFECTS, cursor)?;
             let begin = cursor.clone();
             let effect = scope.effect(cursor)?;
             self.effects.push((effect, cursor.since(&begin)));
             if !cursor.take_next(&["and"]) {
-                break;
+                return Ok(());
             }
         }
-        Ok(())
     }
 
     /// The kinds of lines that there are none of.
@@ -154,51 +156,4 @@ fn once(place: &mut Option<Span>, at: Span, what: &str) -> Read<()> {
     }
     *place = Some(at);
     Ok(())
-}
-
-/// `5 if …` or `1 otherwise`, a line each, or `nothing`. `who` is 0 for the author and character + 1 for a character.
-pub fn rules(scope: &Scope, section: &Section, who: usize, found: &mut Found) -> Vec<Rule> {
-    let mut rules = Vec::new();
-    for line in &section.body {
-        let cursor = &mut Cursor::new(line);
-        let at = cursor.here();
-        if cursor.take("nothing") {
-            let alone = section.body.len() == 1;
-            let both = || at.problem("there are 'nothing' and wishes besides", "leave 'nothing' out").into();
-            let read = cursor.finish(END).and_then(|()| if alone { Ok(()) } else { Err(both()) });
-            found.kept(line, read);
-            continue;
-        }
-        let read = room(rules.len(), "lines of what one wants", MOST_RULES, cursor)
-            .and_then(|()| rule(scope, cursor))
-            .and_then(|rule| cursor.finish(END).map(|()| rule));
-        let Some((worth, condition)) = found.kept(line, read) else { continue };
-        found.source.condition(Owner::Rule(who, rules.len()), &condition);
-        found.source.at(Part::Worth(who, rules.len()), at);
-        rules.push(Rule { condition: condition.condition, worth });
-    }
-    if section.body.is_empty() {
-        found.problems.push(unsaid(section, "what", "write 'nothing', or lines such as '5 if …'"));
-    }
-    rules
-}
-
-fn rule(scope: &Scope, cursor: &mut Cursor) -> Read<(usize, Placed)> {
-    let begin = cursor.clone();
-    let number = cursor.any_word(WORTH)?;
-    if !number.text.bytes().all(|byte| byte.is_ascii_digit()) {
-        return begin.expected(WORTH);
-    }
-    let Some(worth) = number.text.parse().ok().filter(|&worth| worth <= MOST_WORTH) else {
-        let message = format!("{} is more than a worth may be", number.text);
-        return Err(number.span.problem(message, format!("write a number of at most {MOST_WORTH}")).into());
-    };
-    let at = cursor.here();
-    if cursor.take("otherwise") {
-        return Ok((worth, Placed::always(at)));
-    }
-    if !cursor.take("if") {
-        return cursor.expected(IF);
-    }
-    Ok((worth, scope.condition(cursor)?))
 }

@@ -1,8 +1,10 @@
 //! Stories as text: packs made from it, and packs and charts printed as it and as pictures.
 //!
-//! `docs/STORIES.md` describes the text. In the order of reading: `pack`, `write` and `decode`, then `names`, `words`,
-//! `cursor`, `sections`, `declare`, `scope`, `views`, `happenings`, `read`, `source`, then `print` and `dot`.
+//! `docs/STORIES.md` describes the text. In the order of reading: `pack`, `write`, `decode` and `names`; then the way in,
+//! `problem`, `words`, `cursor`, `sections`, `declare`, `scope`, `views`, `claims`, `fill`, `happenings`, `sight`, `wishes`,
+//! `read`, `source`, `warnings`; then the ways out, `print`, `shown` and `dot`.
 
+mod claims;
 mod cursor;
 mod declare;
 mod faults;
@@ -12,10 +14,12 @@ mod happenings;
 mod rest;
 mod scope;
 mod sections;
+mod shown;
 mod sight;
 mod views;
 mod wanted;
 mod warnings;
+mod wishes;
 mod words;
 
 pub mod decode;

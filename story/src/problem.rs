@@ -29,7 +29,7 @@ impl Span {
 }
 
 /// An error or a warning.
-#[derive(Clone, PartialEq, Eq, PartialOrd, Ord, Debug)]
+#[derive(Clone, PartialEq, Eq, Debug)]
 pub struct Problem {
     pub at: Place,
     /// How many characters are meant, at least one.

@@ -1,17 +1,15 @@
 //! A text read as a story.
 
-use crate::cursor::Cursor;
 use crate::declare::{self, Known};
-use crate::faults::again;
 use crate::found::Found;
 use crate::happenings;
 use crate::names::{Fact, Names};
-use crate::pack::{Pack, Rule, LONGEST_PACK, MOST_ACTIONS, MOST_TRIGGERS};
-use crate::problem::{Problem, Read, Span};
+use crate::pack::{Pack, LONGEST_PACK, MOST_ACTIONS, MOST_TRIGGERS};
+use crate::problem::{Problem, Span};
 use crate::scope::Scope;
 use crate::sections::{sections, Kind, Section, Text};
 use crate::views::{views, Views};
-use crate::wanted::{COLON, WANTING};
+use crate::wishes::utilities;
 use crate::write::Part;
 use crate::{warnings, words, write, Story};
 
@@ -107,57 +105,4 @@ fn happenings_of<T>(
         all.push(read(section, i, found));
     }
     (names.names, all.into_iter().collect())
-}
-
-/// What the author wants, then what each character wants.
-fn utilities(scope: &Scope, text: &Text, found: &mut Found) -> Vec<Vec<Rule>> {
-    let mut all: Vec<Option<(Vec<Rule>, Span)>> = vec![None; 1 + scope.characters.names.len()];
-    let mut unread = text.lost || scope.characters.misread;
-    for section in text.of(Kind::Wants) {
-        let Some(who) = found.kept(&section.heading, who(scope, section)) else {
-            unread = true;
-            continue;
-        };
-        if let Some((_, before)) = all[who] {
-            found.problems.push(again(&format!("what {} wants", quoted(scope, who)), section.span, before));
-        }
-        found.source.at(Part::Wants(who), section.span);
-        all[who] = Some((happenings::rules(scope, section, who, found), section.span));
-    }
-    for (who, _) in all.iter().enumerate().filter(|(_, rules)| rules.is_none() && !unread) {
-        found.problems.push(unsaid(scope, text, who));
-    }
-    all.into_iter().map(|rules| rules.map_or(Vec::new(), |(rules, _)| rules)).collect()
-}
-
-/// Someone of whom no section says what they want.
-fn unsaid(scope: &Scope, text: &Text, who: usize) -> Problem {
-    let (name, at) = match who.checked_sub(1) {
-        Some(character) => (scope.characters.names[character].as_str(), scope.characters.spans[character]),
-        None => ("author", text.end),
-    };
-    let help = format!("write a section '{name} wants:' with lines such as '5 if …', or '{name} wants: nothing'");
-    at.problem(format!("the story doesn't say what {} wants", quoted(scope, who)), help)
-}
-
-/// Someone who wants something, in a sentence.
-fn quoted(scope: &Scope, who: usize) -> String {
-    let character = |character: usize| format!("'{}'", scope.characters.names[character]);
-    who.checked_sub(1).map_or("the author".to_string(), character)
-}
-
-/// Who it is that wants: 0 for the author and character + 1 for a character.
-fn who(scope: &Scope, section: &Section) -> Read<usize> {
-    let mut before = section.heading.clone();
-    before.tokens.pop();
-    if before.tokens.is_empty() {
-        return Cursor::new(&section.heading).expected(WANTING);
-    }
-    let mut cursor = Cursor::new(&before);
-    let name = cursor.title(WANTING)?;
-    cursor.finish(COLON)?;
-    if name.text == "author" || name.text == "the author" {
-        return Ok(0);
-    }
-    Ok(scope.characters.find(&name)? + 1)
 }

@@ -39,8 +39,8 @@ pub fn goes_deeper(pack: &Pack, trigger: usize) -> bool {
     let trigger = &pack.triggers[trigger];
     (0..pack.characters).any(|character| {
         let written = |fluent: usize| {
-            let own = trigger.effects.iter().filter(|effect| effect.whom == Some(character));
-            own.filter(|effect| effect.fluent == fluent).last().map(|effect| 1 << effect.value)
+            let last = trigger.effects.iter().rfind(|effect| effect.whom == Some(character) && effect.fluent == fluent);
+            last.map(|effect| 1 << effect.value)
         };
         trigger.condition.alternatives.iter().any(|tests| {
             let own = tests.iter().filter(|test| test.chain.is_empty());

@@ -26,6 +26,8 @@ pub struct Section<'a> {
     pub span: Span,
     pub heading: Line<'a>,
     pub body: Vec<Line<'a>>,
+    /// What follows can't be read, so that what seems to be blank may be said there.
+    pub cut: bool,
 }
 
 pub struct Text<'a> {
@@ -50,7 +52,8 @@ pub fn sections<'a>((lines, end): (Vec<Line<'a>>, Span), found: &mut Found) -> T
         match text.sections.last_mut() {
             Some(section) if !skipping && !seems_heading(&line, section.kind == Kind::Facts) => section.body.push(line),
             _ if skipping && !seems_heading(&line, false) => {}
-            _ => {
+            section => {
+                section.into_iter().filter(|_| !skipping).for_each(Section::end_unclearly);
                 found.kept::<()>(&line, Cursor::new(&line).expected(HEADING));
                 text.lost = true;
                 skipping = true;
@@ -66,7 +69,7 @@ fn opened(kind: Kind, mut line: Line<'_>, colon: usize) -> Section<'_> {
     let heading = Line { end, ..line };
     let span = span(&heading.tokens).unwrap_or(Span { at: end, width: 1 });
     let body = if rest.tokens.is_empty() { Vec::new() } else { vec![rest] };
-    Section { kind, span, heading, body }
+    Section { kind, span, heading, body, cut: false }
 }
 
 /// Whether a line has a colon and stands where headings do, at the beginning of a line. Facts have something behind
@@ -96,6 +99,13 @@ fn heading(line: &Line) -> Option<(Kind, usize)> {
 }
 
 impl Section<'_> {
+    /// Something at the beginning of a line follows that is no heading. It is no line of this section if these stand
+    /// further to the right.
+    fn end_unclearly(&mut self) {
+        let last = self.body.last().and_then(|line| line.tokens.first());
+        self.cut = last.is_none_or(|token| token.at.column == 1);
+    }
+
     /// The heading as it stands, but for its spaces.
     pub fn words(&self) -> String {
         let words: Vec<&str> = self.heading.tokens.iter().map(|token| token.sign.text()).collect();

@@ -77,10 +77,8 @@ impl Sight {
         let rest = if names.len() == self.named.len() { "" } else { " else" };
         let verb = if names.len() > 1 { "see" } else { "sees" };
         let what = format!("whether {} {verb} it", joined(&quoted, "and"));
-        let help = format!(
-            "write 'seen by {first}', 'seen by {first} if …', 'seen by nobody{rest}' or \
-                            'seen by everyone{rest}'"
-        );
+        let seen = format!("'seen by {first}', 'seen by {first} if …', 'seen by nobody{rest}'");
+        let help = format!("write {seen} or 'seen by everyone{rest}'");
         Some(unsaid(section, &what, &help))
     }
 

@@ -1,17 +1,17 @@
-//! The truth and the views: each section is a node. What each of them says is read here; `fill` completes it.
+//! The truth and the views: each section is a node. Their headings are read here, what they say in `claims`; `fill`
+//! completes it.
 
-use crate::cursor::{Cursor, Phrase};
+use crate::cursor::Cursor;
 use crate::declare::{refuse, refuse_word};
-use crate::faults::{again, too_many, unknown};
+use crate::faults::{again, too_many};
 use crate::fill;
 use crate::found::Found;
 use crate::names::{Label, TRUTH};
 use crate::pack::{Node, MOST_VIEWS};
-use crate::problem::{Mistake, Problem, Read, Span};
+use crate::problem::{Problem, Read, Span};
 use crate::scope::Scope;
 use crate::sections::{Kind, Section, Text};
-use crate::wanted::{BELIEVER, BELIEVES, COLON, IS, NEXT_CLAIM, OWN_SECTION, SUBJECT, VIEW, VIEW_NAME};
-use crate::words::Line;
+use crate::wanted::{BELIEVER, BELIEVES, COLON, VIEW, VIEW_NAME};
 use crate::write::Part;
 
 /// The nodes, the truth first and the others in the order of their sections, with their labels.
@@ -36,7 +36,7 @@ pub struct Said {
     pub rest: Option<Told>,
     /// `everyone else believes ..`
     pub others: Option<Told>,
-    plural: Vec<bool>,
+    pub plural: Vec<bool>,
     /// Something couldn't be read, so that what seems to be blank may be said there.
     pub unread: bool,
 }
@@ -49,14 +49,6 @@ pub struct Told {
     pub at: Span,
     /// Whether it speaks of all (`everything`, `everyone`), so that none may be named besides.
     pub of_all: bool,
-}
-
-/// What a claim is about.
-enum About {
-    Fact(usize),
-    Character(usize),
-    Rest { of_all: bool },
-    Others { of_all: bool },
 }
 
 /// The views as they are said.
@@ -112,7 +104,7 @@ impl Sections<'_> {
             rest: None,
             others: None,
             plural: vec![false; facts],
-            unread: false,
+            unread: section.cut,
         });
     }
 
@@ -135,7 +127,7 @@ impl Sections<'_> {
     }
 
     /// `the truth`, `what Ada believes Ben believes`, or a view's name.
-    fn named(&self, cursor: &mut Cursor) -> Read<Label> {
+    pub fn named(&self, cursor: &mut Cursor) -> Read<Label> {
         if !cursor.take("what") {
             let name = cursor.phrase(VIEW)?.text;
             return Ok(if name == TRUTH { Label::Truth } else { Label::Named(name) });
@@ -153,113 +145,6 @@ impl Sections<'_> {
         }
     }
 
-    /// Which view is meant; `this` is the one at hand.
-    fn view(&self, this: usize, cursor: &mut Cursor) -> Read<usize> {
-        if cursor.take("this") {
-            return Ok(this);
-        }
-        let begin = cursor.clone();
-        let label = self.named(cursor)?;
-        if matches!(cursor.word(), Some("is" | "are")) {
-            return cursor.expected(OWN_SECTION);
-        }
-        let place = self.said.iter().position(|said| said.label.as_ref() == Some(&label));
-        place.ok_or_else(|| {
-            if !self.whole {
-                return Mistake::Follows;
-            }
-            let name = Phrase { text: label.text(&self.scope.characters.names), span: cursor.since(&begin) };
-            let known: Vec<String> = (0..self.said.len()).map(|view| self.name(view)).collect();
-            let mut problem = unknown("view", &name, &known);
-            problem.help += &format!(", or a section '{}:'", label.heading(&self.scope.characters.names));
-            problem.into()
-        })
-    }
-
-    /// Claims with commas or `and` between them, to the end of the line. What is wrong with one is told, and the next
-    /// is read if it is clear where it begins.
-    fn claims(&mut self, view: usize, line: &Line, found: &mut Found) {
-        let cursor = &mut Cursor::new(line);
-        loop {
-            let read = self.claim(view, cursor);
-            let read = found.kept(line, read);
-            if cursor.is_done() {
-                return;
-            }
-            if !cursor.take_next(&["and"]) {
-                if read.is_some() {
-                    found.kept::<()>(line, cursor.expected(NEXT_CLAIM));
-                }
-                self.said[view].unread = true;
-                return;
-            }
-        }
-    }
-
-    /// `the letter is burnt`, `Ada believes the truth`, or a short form for the others.
-    fn claim(&mut self, view: usize, cursor: &mut Cursor) -> Read<()> {
-        let begin = cursor.clone();
-        let about = match self.about(view, cursor) {
-            Ok(about) => about,
-            Err(mistake) => {
-                self.said[view].unread = true;
-                return Err(mistake);
-            }
-        };
-        let read = match about {
-            About::Fact(fact) => self.scope.value(fact, cursor),
-            _ => self.view(view, cursor),
-        };
-        let of_all = matches!(about, About::Rest { of_all: true } | About::Others { of_all: true });
-        let told = Told { what: read.as_ref().ok().copied(), at: cursor.since(&begin), of_all };
-        let said = &mut self.said[view];
-        let place = match about {
-            About::Fact(fact) => &mut said.values[fact],
-            About::Character(character) => &mut said.beliefs[character],
-            About::Rest { .. } => &mut said.rest,
-            About::Others { .. } => &mut said.others,
-        };
-        if let Some(before) = *place {
-            return Err(again(&self.words(about), told.at, before.at).into());
-        }
-        *place = Some(told);
-        read.map(|_| ())
-    }
-
-    fn words(&self, about: About) -> String {
-        match about {
-            About::Fact(fact) => format!("what '{}' is", self.scope.facts.names.names[fact]),
-            About::Character(character) => format!("what '{}' believes", self.scope.characters.names[character]),
-            About::Rest { .. } => "what the rest is as in".to_string(),
-            About::Others { .. } => "what everyone else believes".to_string(),
-        }
-    }
-
-    /// What a claim is about, up to what it says of it.
-    fn about(&mut self, view: usize, cursor: &mut Cursor) -> Read<About> {
-        for (words, of_all) in [("the rest is as in", false), ("everything is as in", true)] {
-            if cursor.take(words) {
-                return Ok(About::Rest { of_all });
-            }
-        }
-        for (words, of_all) in [("everyone else believes", false), ("everyone believes", true)] {
-            if cursor.take(words) {
-                return Ok(About::Others { of_all });
-            }
-        }
-        let name = cursor.phrase(SUBJECT)?;
-        let plural = cursor.word() == Some("are");
-        if cursor.take_is() {
-            let fact = self.scope.facts.names.find(&name)?;
-            self.said[view].plural[fact] = plural;
-            return Ok(About::Fact(fact));
-        }
-        if !cursor.take("believes") {
-            return cursor.expected(IS);
-        }
-        Ok(About::Character(self.scope.characters.find(&name)?))
-    }
-
     /// A heading `what .. believes` says whose belief its view is.
     fn tie(&mut self, found: &mut Found) {
         for view in 0..self.said.len() {
@@ -272,9 +157,11 @@ impl Sections<'_> {
                 continue;
             };
             match self.said[place].beliefs[character] {
-                Some(told) if told.what.is_some_and(|told| told != view) => {
-                    found.problems.push(again(&self.words(About::Character(character)), at, told.at))
-                }
+                Some(told) if told.what.is_some_and(|told| told != view) => found.problems.push(again(
+                    &format!("what '{}' believes", self.scope.characters.names[character]),
+                    at,
+                    told.at,
+                )),
                 Some(_) => {}
                 None => {
                     self.said[place].beliefs[character] = Some(Told { what: Some(view), at, of_all: false });

@@ -108,7 +108,10 @@ fn beliefs_of_alice() {
 fn many_chains() {
     let mut text = "characters: A, B, C\nfacts: x: 0 to 31\nauthor wants: nothing\n".to_string();
     ["A", "B", "C"].iter().for_each(|who| text += &format!("{who} wants: nothing\n"));
-    let name = |view: usize| if view % 32 == 0 { "the truth".to_string() } else { format!("v{}", view % 32) };
+    let name = |view: usize| match view % 32 {
+        0 => "the truth".to_string(),
+        view => format!("v{view}"),
+    };
     for view in 0..32 {
         let heading = if view == 0 { name(0) } else { format!("view {}", name(view)) };
         let (a, b, c) = (name(view + 1), name(view + 2), name(view * 7 + 3));
