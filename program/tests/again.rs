@@ -89,7 +89,8 @@ fn what_is_not_said() {
 /// On the examples both readings say the same, and the second one leaves out no fact of any view that is reached.
 #[test]
 fn both_readings_agree() {
-    for name in ["p", "letter", "alice", "shoes", "market", "lie", "safe"] {
+    let everything = "../story/tests/everything"; // every form that the text has
+    for name in ["p", "letter", "alice", "shoes", "market", "lie", "safe", everything] {
         let text = read_to_string(examples().join(format!("{name}.story"))).expect(name);
         let story = read(&text);
         let first: HashSet<Belief> = story.stated().into_iter().map(belief).collect();
