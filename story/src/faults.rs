@@ -29,9 +29,10 @@ pub fn too_many(span: Span, what: &str, most: usize) -> Problem {
     span.problem(format!("there may be at most {most} {what}, and this is one more"), "leave one out")
 }
 
-/// A statement about all, although some are named.
-pub fn not_all(span: Span, named: &str, instead: &str) -> Problem {
-    span.problem(format!("this is said of all, and '{named}' is named besides"), format!("write '{instead}'"))
+/// A statement about all, although one is named.
+pub fn not_all(span: Span, (name, named): (&str, Span), instead: &str) -> Problem {
+    let message = format!("this is said of all, and '{name}' is named in line {}", named.at.line);
+    span.problem(message, format!("write '{instead}'"))
 }
 
 /// A statement about those who are left, although none are.

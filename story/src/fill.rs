@@ -69,8 +69,9 @@ fn shorts(views: &Sections, said: &Said, found: &mut Found) {
         (said.others, &said.beliefs, characters, "everyone else believes …"),
     ] {
         let Some(Told { at, of_all, .. }) = short else { continue };
-        match named.iter().position(Option::is_some) {
-            Some(first) if of_all => found.problems.push(not_all(at, &names[first], instead)),
+        let first = named.iter().zip(names).find_map(|(told, name)| Some((name.as_str(), told.as_ref()?.at)));
+        match first {
+            Some(first) if of_all => found.problems.push(not_all(at, first, instead)),
             _ if named.iter().all(Option::is_some) => found.warnings.push(none_left(at)),
             _ => {}
         }

@@ -85,11 +85,10 @@ impl Sight {
     /// `everyone` or `nobody` although some are named, `else` although none are left.
     pub fn check(&self, scope: &Scope, found: &mut Found) {
         let Some(Others { at, word, of_all, .. }) = &self.others else { return };
-        match self.named.iter().position(Option::is_some) {
-            Some(first) if *of_all => {
-                let name = &scope.characters.names[first];
-                found.problems.push(not_all(*at, name, &format!("seen by {word} else")));
-            }
+        let named = self.named.iter().zip(&scope.characters.names);
+        let first = named.into_iter().find_map(|(seen, name)| Some((name.as_str(), seen.as_ref()?.at)));
+        match first {
+            Some(first) if *of_all => found.problems.push(not_all(*at, first, &format!("seen by {word} else"))),
             _ if self.named.iter().all(Option::is_some) => found.warnings.push(none_left(*at)),
             _ => {}
         }

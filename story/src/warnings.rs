@@ -46,12 +46,13 @@ impl About<'_> {
 
     /// An act by nobody that changes what someone wants.
     fn by_nobody(&self, i: usize, action: &Action) -> Option<Problem> {
-        let pack = &self.story.pack;
-        let wishes = action.effects.iter().flat_map(|effect| {
-            let wanting = (0..pack.utilities.len()).filter(|&who| matters(effect, &pack.utilities[who]));
-            wanting.map(|who| (effect.fluent, who))
-        });
-        let (fact, who) = wishes.into_iter().next().filter(|_| action.consenters.is_empty())?;
+        if !action.consenters.is_empty() {
+            return None;
+        }
+        let (fact, who) = action.effects.iter().find_map(|effect| {
+            let who = self.story.pack.utilities.iter().position(|rules| matters(effect, rules))?;
+            Some((effect.fluent, who))
+        })?;
         let names = &self.story.names;
         let character = |character: usize| format!("'{}'", names.characters[character]);
         let who = who.checked_sub(1).map_or("the author".to_string(), character);
