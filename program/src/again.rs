@@ -1,4 +1,4 @@
-//! The beliefs that a text states, read a second time, by the words of its views alone. The reader of stories makes nodes
+//! The beliefs that a text states, read a second time by the words of its views alone. The reader of stories makes nodes
 //! of them; here none are made, so that a mistake of the one is not a mistake of the other.
 
 use std::collections::{HashSet, VecDeque};

@@ -1,8 +1,8 @@
 //! What a writer asks of a story, answered in words. All that is said of a story's states comes from the proved calls;
 //! a chart is decoded only to be printed, and to know which chains of beliefs are worth asking for.
 //!
-//! In the order of reading: `said`, `arguments`, `open`, `stage`, `list`, `judge`, `mistakes`, `act`, then a module for each
-//! command, with `again` for `check`.
+//! In the order of reading: `said`, `arguments`, `open`, `stage`, `list`, `judge`, `mistakes`, `act`, then a module for
+//! each command, with `again` for `check`.
 
 mod act;
 pub mod again;

@@ -1,4 +1,5 @@
-//! Lists of actions, by number or by title. Titles may have commas, so a list is cut at all commas and put together again.
+//! Lists of actions, by number or by title. Titles may have commas, so a list is cut at all of them and put together
+//! again.
 
 use std::cmp::Reverse;
 

@@ -33,8 +33,8 @@ struct Pair {
     so: usize,
 }
 
-/// All mistakes in a state, those of short chains first. For each believer every pair of nodes is met once, by the shortest
-/// chain.
+/// All mistakes in a state, those of short chains first. For each believer every pair of nodes is met once, by the
+/// shortest chain.
 pub fn mistakes(stage: &mut Stage, chart: &[u8]) -> Result<Vec<Mistake>, Refused> {
     let nodes = asked(stage, chart)?;
     let first = nodes[0].beliefs.iter().enumerate();
@@ -57,8 +57,8 @@ pub fn mistakes(stage: &mut Stage, chart: &[u8]) -> Result<Vec<Mistake>, Refused
     Ok(found)
 }
 
-/// The nodes of a chart: where chains lead is the chart's to say; the values there are asked for by Query, by the chain that
-/// meets a node first.
+/// The nodes of a chart: where chains lead is the chart's to say; the values there are asked for by Query, by the chain
+/// that meets a node first.
 fn asked(stage: &mut Stage, chart: &[u8]) -> Result<Vec<Node>, Refused> {
     let chart_nodes = decode::chart(&stage.story.pack, chart);
     let mut nodes = chart_nodes.map_err(|unreadable| Refused::new(unreadable.to_string()))?;
@@ -77,8 +77,8 @@ fn asked(stage: &mut Stage, chart: &[u8]) -> Result<Vec<Node>, Refused> {
     Ok(nodes)
 }
 
-/// The facts that a chain's first character is wrong about. Left out is what follows from the pair before it: somebody who is
-/// wrong about a fact and takes another to be of the same opinion.
+/// The facts that a chain's first character is wrong about. Left out is what follows from the pair before it: somebody
+/// who is wrong about a fact and takes another to be of the same opinion.
 fn at_pair(nodes: &[Node], chain: &[usize], pair: Pair, before: Option<Pair>) -> Vec<Mistake> {
     let values = |pair: Pair, fact: usize| (nodes[pair.believed].values[fact], nodes[pair.so].values[fact]);
     let mut found = Vec::new();

@@ -151,7 +151,8 @@ fn by_titles_with_commas() {
 fn limits() {
     refuses(
         pirwodd(&["try", "letter.story", "0", "-K", "7"]),
-        "pirwodd: refused 9: an action, character, fluent or limit is out of range (-T is 1 to 8, -K 1 to 6, -E 0 to 3)",
+        "pirwodd: refused 9: an action, character, fluent or limit is out of range \
+         (-T is 1 to 8, -K 1 to 6, -E 0 to 3)",
     );
     refuses(pirwodd(&["try", "letter.story", "0", "-T", "4"]), "pirwodd: try: -T is not one of its options");
 }

@@ -54,9 +54,8 @@ fn where_it_is_noticed() {
     other[7] = 2;
     let Err(Refused(told)) = asked_back("letter.story", &story.names, &other, &story.stated()) else { panic!() };
     let at = story.stated()[0].at;
-    let first = format!(
-        "letter.story:{at}: error: the text says 'the letter is in the desk', and its pack says 'the letter is with the cousin'"
-    );
+    let sides = "the text says 'the letter is in the desk', and its pack says 'the letter is with the cousin'";
+    let first = format!("letter.story:{at}: error: {sides}");
     assert_eq!(told.lines().next(), Some(&first[..]));
 }
 
@@ -71,7 +70,7 @@ fn errors_of_a_text() {
     assert_eq!(fed(&["play", "-"], wrong.as_bytes()), (2, String::new(), shown));
 }
 
-/// A refusal of a story's pack, which only a mistake of the reader could bring about, is told with the line of the text.
+/// A refusal of a story's pack, which only a mistake of the reader could bring about, is told with the text's line.
 #[test]
 fn a_refused_pack_of_a_story() {
     let story = letter();

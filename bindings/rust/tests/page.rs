@@ -1,4 +1,4 @@
-//! `docs/PACK.md` says what is so: its worked example is the pack of the examples, and its table of refusals is the library's.
+//! `docs/PACK.md` says what is so: its worked example is the pack of the examples, its table of refusals the library's.
 
 use pirwodd::{lent, Action, Fluent, Limits, Nesting, Planner, Refusal};
 
