@@ -62,7 +62,7 @@ fn reasons(stage: &mut Stage, chart: &[u8], action: usize, limits: Limits) -> Re
         all &= has;
     }
     if told.is_empty() {
-        told = act::line("needs nobody's reason");
+        told = act::line("nobody needs a reason");
     }
     Ok((told, all))
 }

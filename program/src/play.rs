@@ -61,9 +61,10 @@ fn told(stage: &mut Stage, ending: &Ending, limits: Limits) -> Result<String, Re
 /// Whose reasons an action needs.
 fn needs(stage: &Stage, action: usize) -> String {
     let consenters = &stage.story.pack.actions[action].consenters;
+    let who = people(stage.names(), consenters);
     match consenters.len() {
-        0 => "needs nobody's reason".to_string(),
-        1 => format!("needs a reason of {}", people(stage.names(), consenters)),
-        _ => format!("needs reasons of {}", people(stage.names(), consenters)),
+        0 => "nobody needs a reason".to_string(),
+        1 => format!("{who} needs a reason"),
+        _ => format!("{who} need reasons"),
     }
 }

@@ -96,7 +96,7 @@ fn nobody_has_to_have_a_reason_or_somebody_has_none() {
     );
     let free = p_with(19, 21, &[0]);
     let (status, told, _) = fed(&["try", "-", "0", "-E", "0"], &free);
-    assert!(status == 0 && told.starts_with("1. 0\n     needs nobody's reason\n"), "{told}");
+    assert!(status == 0 && told.starts_with("1. 0\n     nobody needs a reason\n"), "{told}");
 }
 
 /// 11 and 12, in words.

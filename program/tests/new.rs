@@ -17,7 +17,12 @@ fn a_story_that_is_in_order_and_has_an_ending() {
     assert!(status == 0 && checked.starts_with(&format!("{file}: in order; ")), "{checked}{warnings}");
     assert_eq!(warnings, "");
     assert_eq!(pirwodd(&["play", file]).0, 0);
-    assert_eq!(pirwodd(&["new", "-"]), (0, read_to_string(file).expect("a file"), String::new()));
+    let text = read_to_string(file).expect("a file");
+    for heading in ["characters:", "facts:", "the truth:", "action ", "author wants:", "Ada wants:"] {
+        let before = text.lines().take_while(|line| !line.starts_with(heading)).last();
+        assert!(before.is_some_and(|line| line.starts_with("# ")), "a remark says what this is for: {heading}");
+    }
+    assert_eq!(pirwodd(&["new", "-"]), (0, text, String::new()));
     remove_dir_all(folder).expect("a folder");
 }
 

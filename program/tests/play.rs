@@ -14,17 +14,17 @@ fn each_act_is_told() {
         "The shortest ending has 3 actions: the author goes from 0 to 5 (at most 4 actions, foresight 3, nesting 2).
 
 1. the heir says that the will lies in the garden
-     needs a reason of the heir
+     the heir needs a reason
      seen by the heir and the butler
      wrong afterwards:
        the butler believes the will is in the garden (the will is in the safe)
 2. the butler goes into the garden
-     needs a reason of the butler
+     the butler needs a reason
      seen by the heir and the butler
      wrong afterwards:
        the butler believes the will is in the garden (the will is in the safe)
 3. the heir takes the silver
-     needs a reason of the heir
+     the heir needs a reason
      seen by the heir; missed by the butler
      wrong afterwards:
        the butler believes the will is in the garden (the will is in the safe)
@@ -41,7 +41,7 @@ fn beliefs_about_beliefs() {
     let (_, market, _) = pirwodd(&["play", "market.story"]);
     let second = market.split_once("2. Tom buys the potion\n").expect("the second action").1;
     let lines: Vec<&str> = second.lines().map(str::trim_start).collect();
-    assert_eq!(lines[0], "needs reasons of Tom and the merchant");
+    assert_eq!(lines[0], "Tom and the merchant need reasons");
     let nested =
         "the merchant believes Tom believes the merchant's wealth is 3 (Tom believes the merchant's wealth is 2)";
     assert!(lines.contains(&nested), "{second}");
@@ -120,7 +120,7 @@ fn nobody() {
         "The shortest ending has 1 action: the author goes from 0 to 5 (at most 1 action, foresight 3, nesting 2).
 
 1. 0
-     needs nobody's reason
+     nobody needs a reason
      seen by nobody
      wrong afterwards:
        A believes fact 0 is 0 (fact 0 is 1)
