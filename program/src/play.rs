@@ -58,13 +58,13 @@ fn told(stage: &mut Stage, ending: &Ending, limits: Limits) -> Result<String, Re
     Ok(out)
 }
 
-/// Whose reasons an action needs.
+/// Whose reasons an action of an ending needs. They have them, or it would be none.
 fn needs(stage: &Stage, action: usize) -> String {
     let consenters = &stage.story.pack.actions[action].consenters;
     let who = people(stage.names(), consenters);
     match consenters.len() {
         0 => "nobody needs a reason".to_string(),
-        1 => format!("{who} needs a reason"),
-        _ => format!("{who} need reasons"),
+        1 => format!("{who} needs a reason and has one"),
+        _ => format!("{who} need reasons and have them"),
     }
 }

@@ -14,17 +14,17 @@ fn each_act_is_told() {
         "The shortest ending has 3 actions: the author goes from 0 to 5 (at most 4 actions, foresight 3, nesting 2).
 
 1. the heir says that the will lies in the garden
-     the heir needs a reason
+     the heir needs a reason and has one
      seen by the heir and the butler
      wrong afterwards:
        the butler believes the will is in the garden (the will is in the safe)
 2. the butler goes into the garden
-     the butler needs a reason
+     the butler needs a reason and has one
      seen by the heir and the butler
      wrong afterwards:
        the butler believes the will is in the garden (the will is in the safe)
 3. the heir takes the silver
-     the heir needs a reason
+     the heir needs a reason and has one
      seen by the heir; missed by the butler
      wrong afterwards:
        the butler believes the will is in the garden (the will is in the safe)
@@ -41,7 +41,7 @@ fn beliefs_about_beliefs() {
     let (_, market, _) = pirwodd(&["play", "market.story"]);
     let second = market.split_once("2. Tom buys the potion\n").expect("the second action").1;
     let lines: Vec<&str> = second.lines().map(str::trim_start).collect();
-    assert_eq!(lines[0], "Tom and the merchant need reasons");
+    assert_eq!(lines[0], "Tom and the merchant need reasons and have them");
     let nested =
         "the merchant believes Tom believes the merchant's wealth is 3 (Tom believes the merchant's wealth is 2)";
     assert!(lines.contains(&nested), "{second}");
