@@ -3,7 +3,6 @@
 use story::print::belief;
 use story::Names;
 
-use crate::list::actions;
 use crate::open::open;
 use crate::said::{Refused, Said};
 
@@ -17,14 +16,13 @@ struct Asked {
 pub fn ask(file: &str, question: &str, after: &str) -> Result<Said, Refused> {
     let mut stage = open(file)?.stage;
     let Asked { chain, fact, value } = asked(stage.names(), question)?;
-    let list = actions(&stage.names().actions, after)?;
-    let chart = stage.after(&list)?;
+    let chart = stage.after(after)?;
     let found = stage.value(&chart, &chain, fact)?;
     let told = belief(stage.names(), &chain, fact, found);
     Ok(match value {
         None => Said::answer(told + "\n"),
         Some(value) if value == found => Said::answer(format!("yes: {told}\n")),
-        Some(_) => Said::verdict(false, format!("no: {told}\n")),
+        Some(_) => Said::no(format!("no: {told}\n")),
     })
 }
 

@@ -4,7 +4,6 @@ use pirwodd::{Chart, Limits};
 
 use crate::act::{self, Act};
 use crate::judge::worth;
-use crate::list::actions;
 use crate::open::open;
 use crate::play::out_of_range;
 use crate::said::{Refused, Said};
@@ -17,7 +16,7 @@ pub fn attempt(file: &str, lists: &[&str], limits: Limits) -> Result<Said, Refus
     let mut stage = open(file)?.stage;
     let mut list = Vec::new();
     for part in lists {
-        list.extend(actions(&stage.names().actions, part)?);
+        list.extend(stage.listed(part)?);
     }
     let mut out = String::new();
     let mut chart = stage.start.clone();
@@ -27,7 +26,7 @@ pub fn attempt(file: &str, lists: &[&str], limits: Limits) -> Result<Said, Refus
         out += &told;
         match after {
             Some(after) => chart = after,
-            None => return Ok(Said::verdict(false, out)),
+            None => return Ok(Said::no(out)),
         }
     }
     out += &verdict(&mut stage, &chart, list.len())?;

@@ -13,7 +13,7 @@ pub fn play(file: &str, limits: Limits) -> Result<Said, Refused> {
     let mut stage = open(file)?.stage;
     match stage.search(limits) {
         Ok(ending) => Ok(Said::answer(told(&mut stage, &ending, limits)?)),
-        Err(Refusal { number: NO_ENDING, .. }) => Ok(Said::verdict(false, none(limits))),
+        Err(Refusal { number: NO_ENDING, .. }) => Ok(Said::no(none(limits))),
         Err(refusal) => Err(out_of_range(refusal)),
     }
 }

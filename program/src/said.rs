@@ -24,10 +24,9 @@ impl Said {
         Said { out: text.into(), err: String::new(), status: Status::Answered }
     }
 
-    /// An answer, with the status that goes with yes or no.
-    pub fn verdict(yes: bool, text: impl Into<Vec<u8>>) -> Said {
-        let status = if yes { Status::Answered } else { Status::No };
-        Said { status, ..Said::answer(text) }
+    /// An answer that is no.
+    pub fn no(text: impl Into<Vec<u8>>) -> Said {
+        Said { status: Status::No, ..Said::answer(text) }
     }
 }
 

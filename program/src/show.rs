@@ -3,7 +3,6 @@
 use story::{dot, print, Story, Unreadable};
 
 use crate::arguments::Shown;
-use crate::list::actions;
 use crate::open::open;
 use crate::said::{Refused, Said};
 use crate::stage::Stage;
@@ -37,10 +36,7 @@ fn shown(file: &str, of: Shown, story: OfStory, chart: OfChart) -> Result<Said, 
 fn state(stage: &mut Stage, of: Shown) -> Result<Option<Vec<u8>>, Refused> {
     match of {
         Shown::Story => Ok(None),
-        Shown::After(list) => {
-            let list = actions(&stage.names().actions, list)?;
-            Ok(Some(stage.after(&list)?.to_vec()))
-        }
+        Shown::After(list) => Ok(Some(stage.after(list)?.to_vec())),
         Shown::Chart(text) => {
             let bytes = hexadecimal(text).ok_or_else(|| {
                 Refused::new(format!("expected a chart's bytes in hexadecimal, two digits each, found '{text}'"))

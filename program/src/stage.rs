@@ -4,6 +4,7 @@ use pirwodd::{Action, Character, Chart, Comparison, Ending, Fluent, Limits, Plan
 use story::{Names, Story};
 
 use crate::act;
+use crate::list;
 use crate::said::Refused;
 
 pub struct Stage {
@@ -43,10 +44,15 @@ impl Stage {
         self.planner.compare(&self.pack, first, second)
     }
 
+    /// The actions of a list, by number or title.
+    pub fn listed(&self, list: &str) -> Result<Vec<usize>, Refused> {
+        list::actions(&self.names().actions, list)
+    }
+
     /// The state that a list of actions leaves, reasons or not.
-    pub fn after(&mut self, list: &[usize]) -> Result<Chart, Refused> {
+    pub fn after(&mut self, list: &str) -> Result<Chart, Refused> {
         let mut chart = self.start.clone();
-        for (i, &action) in list.iter().enumerate() {
+        for (i, action) in self.listed(list)?.into_iter().enumerate() {
             chart = match self.step(&chart, action) {
                 Ok(after) => after,
                 Err(refusal) => {
