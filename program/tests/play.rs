@@ -128,3 +128,18 @@ fn nobody() {
 ",
     );
 }
+
+/// Who saw an action is judged in the state before it, by tests of each kind; the action makes the fact 1.
+#[test]
+fn seen_is_judged_before() {
+    let [is, is_not, at_least] = [0, 1, 2];
+    let both = "seen by A and B\n";
+    let one = "seen by A; missed by B\n";
+    for (kind, value, seen) in
+        [(is, 0, both), (is, 1, one), (is_not, 0, one), (is_not, 1, both), (at_least, 0, both), (at_least, 1, one)]
+    {
+        let pack = p_with(23, 24, &[1, 1, 0, kind, 0, value]);
+        let (_, told, _) = fed(&["play", "-"], &pack);
+        assert!(told.contains(&format!("     {seen}")), "{kind} {value}: {told}");
+    }
+}
