@@ -4,21 +4,24 @@ use std::collections::HashSet;
 
 use pirwodd::{Character, Fluent, Planner};
 use story::print::belief;
-use story::{Names, Stated};
+use story::{Names, Stated, Story};
 
 use crate::again;
 use crate::open::{name, open, Opened};
 use crate::said::{Refused, Said};
 
-/// The text's beliefs are read twice, by the reader of stories and by their words alone, and all are asked back.
 pub fn check(file: &str) -> Result<Said, Refused> {
     let Opened { stage, warnings, text } = open(file)?;
-    let names = &stage.story.names;
-    let mut stated = stage.story.stated();
-    let known: HashSet<_> = stated.iter().map(key).collect();
-    stated.extend(again::stated(&text, names).into_iter().filter(|belief| !known.contains(&key(belief))));
-    let said = asked_back(file, names, &stage.pack, &stated)?;
+    let said = asked_back(file, stage.names(), &stage.pack, &stated(&stage.story, &text))?;
     Ok(Said { err: warnings, ..said })
+}
+
+/// The beliefs that a text states, each once: as the reader of stories has them, and as the words alone have them.
+pub fn stated(story: &Story, text: &str) -> Vec<Stated> {
+    let mut stated = story.stated();
+    let known: HashSet<_> = stated.iter().map(key).collect();
+    stated.extend(again::stated(text, &story.names).into_iter().filter(|belief| !known.contains(&key(belief))));
+    stated
 }
 
 fn key(belief: &Stated) -> (Vec<usize>, usize, usize) {

@@ -4,7 +4,7 @@ mod common;
 
 use common::examples;
 use program::again::stated;
-use program::check::asked_back;
+use program::check::{self, asked_back};
 use program::Refused;
 use std::collections::HashSet;
 use std::fs::read_to_string;
@@ -99,6 +99,21 @@ fn both_readings_agree() {
         let (facts, characters) = (story.names.facts.len(), story.names.characters.len());
         assert!(second.len() >= facts * (1 + characters), "the truth, and what each one believes: {name}");
     }
+}
+
+/// `check` takes both readings: where the reader erred, what the words say is asked for too.
+#[test]
+fn both_readings_are_asked_for() {
+    let text = read_to_string(examples().join("letter.story")).expect("a story");
+    let story = read(&text);
+    let right = check::stated(&story, &text);
+    assert_eq!(right.len(), story.stated().len(), "each once");
+    let other = text.replacen("the letter is in the desk", "the letter is in the drawer", 1);
+    let both = check::stated(&story, &other);
+    assert!(both.len() > right.len());
+    let Err(Refused(told)) = asked_back("letter.story", &story.names, &story.bytes(), &both) else { panic!() };
+    let sides = "the text says 'the letter is in the drawer', and its pack says 'the letter is in the desk'";
+    assert_eq!(told.lines().next(), Some(&format!("letter.story:11:5: error: {sides}")[..]));
 }
 
 /// A pack that says something else than the words of a text, as if the reader had erred: in the truth, or in a belief.

@@ -2,7 +2,7 @@
 
 mod common;
 
-use common::{examples, fed, p_with, pirwodd, refuses, says};
+use common::{examples, fed, p_with, pirwodd, refuses, says, P};
 use std::fs::read_to_string;
 
 /// Whose reasons, who saw it, who missed it, who is wrong: what comes from several calls, side by side.
@@ -69,6 +69,17 @@ fn wrong_beliefs_are_held_and_wrong() {
         }
     }
     assert!(asked > 40, "{asked}");
+}
+
+/// A takes B to know what is so, and B doesn't: that is a mistake of A's too, about a belief that leads back to the truth.
+#[test]
+fn who_is_taken_to_know() {
+    let nodes = [3, 0, 2, 3, 0, 2, 1, 1, 3, 3];
+    let pack = [&P[..4], &nodes, &P[8..15], &[0, 0, 0, 0], &P[24..]].concat();
+    let (_, told, _) = fed(&["try", "-", "0"], &pack);
+    let wrong = "     wrong afterwards:\n       B believes fact 0 is 1 (fact 0 is 0)\n       \
+                 A believes B believes fact 0 is 0 (B believes fact 0 is 1)\n\n";
+    assert!(told.contains(wrong), "{told}");
 }
 
 /// Every story of the examples: the actions and worths that its `.out` has.
