@@ -1,8 +1,9 @@
 //! Stories as text: packs made from it, and packs and charts printed as it and as pictures.
 //!
-//! `docs/STORIES.md` describes the text. In the order of reading: `pack`, `write`, `decode` and `names`; then the way in,
-//! `problem`, `words`, `cursor`, `sections`, `declare`, `scope`, `views`, `claims`, `fill`, `happenings`, `sight`, `wishes`,
-//! `read`, `source`, `warnings`; then the ways out, `print`, `shown` and `dot`.
+//! `docs/STORIES.md` describes the text. In the order of reading: `pack`, `write`, `decode` and `names`; the way in,
+//! `problem`, `found`, `words`, `cursor`, `sections`, `declare`, `scope`, `views`, `claims`, `fill`, `happenings`,
+//! `sight`, `wishes`, `read`, `source`, `warnings`, `rest`; the ways out, `print`, `shown` and `dot`. `wanted` and
+//! `faults` have the words for what is wrong.
 
 mod claims;
 mod cursor;

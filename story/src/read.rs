@@ -20,8 +20,8 @@ pub struct Reading {
     pub warnings: Vec<Problem>,
 }
 
-/// Reads a story from its text, or tells all that is wrong with it, in the order of its lines. What is read can be
-/// written as a pack.
+/// Reads a story from its text, or tells all that is wrong with it, in the order of its lines. Nothing that the text
+/// leaves blank is filled in. What is read can be written as a pack.
 pub fn read(bytes: &[u8]) -> Result<Reading, Vec<Problem>> {
     let text = words::text(bytes)?;
     let mut found = Found::default();

@@ -33,8 +33,8 @@ fn round(pack: &Pack, state: &mut Possible) -> bool {
     true
 }
 
-/// Whether a trigger writes into a belief what makes it hold there: it may then write into the belief in that one, and so
-/// on.
+/// Whether a trigger writes into a belief what makes it hold there: it may then write into the belief in that one, and
+/// so on.
 pub fn goes_deeper(pack: &Pack, trigger: usize) -> bool {
     let trigger = &pack.triggers[trigger];
     (0..pack.characters).any(|character| {

@@ -116,9 +116,8 @@ impl Sections<'_> {
             _ => {
                 cursor.take("view");
                 let name = cursor.phrase(VIEW_NAME)?;
-                refuse_word(&name, &["what"])?;
+                refuse_word(&name, &["what", "this"])?;
                 refuse(&name, TRUTH, "the truth hasn't")?;
-                refuse(&name, "this", "isn't 'this'")?;
                 Label::Named(name.text)
             }
         };

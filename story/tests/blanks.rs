@@ -116,8 +116,8 @@ fn each_is_refused_at_its_line() {
     assert!(blanks > 150, "{blanks}");
 }
 
-/// The statements of the views, actions and triggers of a text: each the numbers of its lines, with those that go on with
-/// it, and of its heading.
+/// The statements of the views, actions and triggers of a text: each the numbers of its lines, with those that go on
+/// with it, and of its heading.
 fn statements(text: &str) -> Vec<(Range<usize>, usize)> {
     let lines: Vec<&str> = text.lines().collect();
     let goes_on = |line: &str| line.starts_with("     and") || line.starts_with("      or");

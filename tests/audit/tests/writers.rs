@@ -36,7 +36,8 @@ fn stories_stand_alone() {
 
 #[test]
 fn dependencies_are_found() {
-    let package = "[package]\n[dependencies]\nreference = { path = \"../reference\" }\n[dev-dependencies]\nx = { path = \"x\" }\n";
+    let package =
+        "[package]\n[dependencies]\na = { path = \"../reference\" }\n[dev-dependencies]\nb = { path = \"b\" }\n";
     assert_eq!(dependencies(package, Path::new("tests/compare")), [Path::new("tests/compare/../reference")]);
     assert!(reached(vec![repository().join("tests/compare")]).iter().any(|folder| folder.ends_with("reference")));
 }
