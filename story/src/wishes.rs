@@ -15,15 +15,16 @@ pub fn utilities(scope: &Scope, text: &Text, found: &mut Found) -> Vec<Vec<Rule>
     let mut all: Vec<Option<(Vec<Rule>, Span)>> = vec![None; 1 + scope.characters.names.len()];
     let mut unread = text.lost || scope.characters.misread;
     for section in text.of(Kind::Wants) {
-        let Some(who) = found.kept(&section.heading, who(scope, section)) else {
-            unread = true;
-            continue;
-        };
+        let who = found.kept(&section.heading, who(scope, section));
+        unread |= who.is_none();
+        // What stands under a heading that can't be read is looked through, too.
+        let rules = rules(scope, section, who.unwrap_or(0), found);
+        let Some(who) = who else { continue };
         if let Some((_, before)) = all[who] {
             found.problems.push(again(&format!("what {} wants", quoted(scope, who)), section.span, before));
         }
         found.source.at(Part::Wants(who), section.span);
-        all[who] = Some((rules(scope, section, who, found), section.span));
+        all[who] = Some((rules, section.span));
     }
     for (who, _) in all.iter().enumerate().filter(|(_, rules)| rules.is_none() && !unread) {
         found.problems.push(unsaid(scope, text, who));

@@ -5,8 +5,9 @@ use std::fs::read_dir;
 use std::ops::Range;
 use std::path::PathBuf;
 
+use story::pack::{Condition, Effect};
 use story::print::{belief, condition, effect, people};
-use story::{read, Problem, Story};
+use story::{read, Names, Problem, Story};
 
 /// The examples, as they are written.
 fn examples() -> Vec<(String, String)> {
@@ -37,38 +38,38 @@ type Section = (String, Vec<(String, String)>);
 /// A story without a short form: every view has a name of its own, and whatever there is stands on a line of its own.
 fn in_full(story: &Story) -> Vec<Section> {
     let (pack, names) = (&story.pack, &story.names);
-    let name = |view: usize| if view == 0 { "the truth".to_string() } else { format!("number {view}") };
-    let mut sections: Vec<Section> = Vec::new();
-    for (view, node) in pack.nodes.iter().enumerate() {
-        let heading = if view == 0 { name(0) } else { format!("view {}", name(view)) };
-        let facts = node.values.iter().enumerate();
-        let facts = facts.map(|(fact, &value)| (belief(names, &[], fact, value), names.facts[fact].name.clone()));
-        let beliefs = names.characters.iter().zip(&node.beliefs);
-        let beliefs =
-            beliefs.map(|(who, &next)| (format!("{who} believes {}", name(next)), format!("'{who}' believes")));
-        sections.push((heading, facts.chain(beliefs).collect()));
-    }
+    let mut sections: Vec<Section> = (0..pack.nodes.len()).map(|view| view_in_full(story, view)).collect();
     for (action, title) in pack.actions.iter().zip(&names.actions) {
-        let then: Vec<String> = action.effects.iter().map(|told| effect(names, told)).collect();
-        let mut lines = vec![
-            (format!("when {}", condition(names, &action.condition)), "when it happens".to_string()),
-            (format!("then {}", then.join(" and ")), "what it changes".to_string()),
-            (format!("by {}", people(names, &action.consenters)), "who has to have a reason".to_string()),
-        ];
+        let mut lines = when_and_then(names, &action.condition, &action.effects);
+        lines.push((format!("by {}", people(names, &action.consenters)), "who has to have a reason".to_string()));
         for (who, seen) in names.characters.iter().zip(&action.observations) {
             lines.push((format!("seen by {who} if {}", condition(names, seen)), format!("whether '{who}' sees it")));
         }
         sections.push((format!("action {title}"), lines));
     }
     for (trigger, title) in pack.triggers.iter().zip(&names.triggers) {
-        let then: Vec<String> = trigger.effects.iter().map(|told| effect(names, told)).collect();
-        let when = (format!("when {}", condition(names, &trigger.condition)), "when it happens".to_string());
-        sections.push((
-            format!("trigger {title}"),
-            vec![when, (format!("then {}", then.join(" and ")), "what it changes".into())],
-        ));
+        sections.push((format!("trigger {title}"), when_and_then(names, &trigger.condition, &trigger.effects)));
     }
     sections
+}
+
+fn view_in_full(story: &Story, view: usize) -> Section {
+    let (node, names) = (&story.pack.nodes[view], &story.names);
+    let name = |view: usize| if view == 0 { "the truth".to_string() } else { format!("number {view}") };
+    let heading = if view == 0 { name(0) } else { format!("view {}", name(view)) };
+    let facts = node.values.iter().enumerate();
+    let facts = facts.map(|(fact, &value)| (belief(names, &[], fact, value), names.facts[fact].name.clone()));
+    let beliefs = names.characters.iter().zip(&node.beliefs);
+    let beliefs = beliefs.map(|(who, &next)| (format!("{who} believes {}", name(next)), format!("'{who}' believes")));
+    (heading, facts.chain(beliefs).collect())
+}
+
+fn when_and_then(names: &Names, when: &Condition, then: &[Effect]) -> Vec<(String, String)> {
+    let then: Vec<String> = then.iter().map(|told| effect(names, told)).collect();
+    vec![
+        (format!("when {}", condition(names, when)), "when it happens".to_string()),
+        (format!("then {}", then.join(" and ")), "what it changes".to_string()),
+    ]
 }
 
 /// What is declared and what is wanted, in which nothing is taken out here.
