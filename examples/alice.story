@@ -11,10 +11,13 @@ the truth:
     Alice is at home
     Bob is at the office
     Charlie is at the office
+    everyone else believes this
 
 what Alice believes:
     Bob is at the store
     Charlie is at the store
+    the rest is as in the truth
+    everyone believes this
 
 action Bob goes home:
     when Bob is at the office
@@ -30,6 +33,8 @@ action Charlie goes home:
 
 author wants:
     5 if Alice believes Bob is at home and Alice believes Charlie is at home
+
+Alice wants: nothing
 
 Bob wants:
     1 if Bob is at home

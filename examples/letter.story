@@ -11,6 +11,7 @@ the truth:
     the letter is in the desk
     the desk is locked
     the cousin is out
+    everyone believes this
 
 action Ada moves the letter to the drawer:
     when the letter is in the desk and the desk is locked
@@ -30,12 +31,14 @@ action the cousin breaks the desk open:
     then the desk is broken open
     by the cousin
     seen by the cousin
+    seen by nobody else
 
 action the cousin takes the letter from the desk:
     when the cousin is in the house and the desk is broken open and the letter is in the desk
     then the letter is with the cousin
     by the cousin
     seen by the cousin
+    seen by nobody else
 
 author wants:
     5 if the desk is broken open and the letter is in the drawer

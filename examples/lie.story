@@ -11,6 +11,7 @@ the truth:
     the will is in the safe
     the butler is in the house
     the silver is in the house
+    everyone believes this
 
 action the heir says that the will lies in the garden:
     when the butler is in the house
@@ -29,12 +30,14 @@ action the butler digs up the will:
     then the will is with the butler
     by the butler
     seen by the butler
+    seen by nobody else
 
 action the heir takes the silver:
     when the butler is in the garden and the silver is in the house
     then the silver is with the heir
     by the heir
     seen by the heir
+    seen by nobody else
 
 author wants:
     5 if the silver is with the heir and the will is in the safe

@@ -24,9 +24,13 @@ the truth:
 what Tom believes:
     the merchant is at the cottage
     the merchant's wealth is 2
+    the rest is as in the truth
+    everyone believes this
 
 # The merchant knows how things are, and takes Tom to know it too.
 what the merchant believes:
+    everything is as in the truth
+    everyone believes this
 
 action Tom walks to the market:
     when Tom is at the cottage

@@ -11,6 +11,7 @@ the truth:
     the inspector is in the hall
     the key is in the library
     the safe is shut
+    everyone believes this
 
 action the inspector goes into the library:
     when the inspector is in the hall

@@ -14,9 +14,13 @@ the truth:
 
 what the teen believes:
     the mom is at work
+    the rest is as in the truth
+    everyone believes this
 
 what the mom believes:
     the teen is at school
+    the rest is as in the truth
+    everyone believes this
 
 action the teen goes to the mall:
     when the teen is at home
@@ -37,3 +41,5 @@ author wants:
 
 the teen wants:
     3 if the shoes are with the teen
+
+the mom wants: nothing

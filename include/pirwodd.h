@@ -5,8 +5,8 @@
  *
  *     cc -Iinclude program.c target/staticlib/libexport.a
  *
- * What packs and charts are, and what each call means, is document 01's; crates/export/specs/Exports.antt states what is
- * proved of these functions, for any bytes, numbers and lengths.
+ * docs/PACK.md says what packs and charts are, byte by byte; crates/export/specs/Exports.antt states what is proved of these
+ * functions, for any bytes, numbers and lengths.
  *
  * LENT MEMORY. Each slice is a pointer and then its length, in bytes (for a report: in numbers). Pointers are not NULL, even
  * where the length is 0; a report is aligned as uint64_t is. What is written to must not overlap with anything else that is

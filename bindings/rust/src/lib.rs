@@ -36,3 +36,6 @@ mod terms;
 pub use planner::Planner;
 pub use refusal::Refusal;
 pub use terms::{Action, Character, Chart, Comparison, Ending, Fluent, Foresight, Limits, Nesting, Story};
+
+/// The version of this crate, and so of the library that it is linked with.
+pub const VERSION: &str = env!("CARGO_PKG_VERSION");

@@ -1,4 +1,4 @@
-//! Refusals: their numbers, and what document 01 says of each.
+//! Refusals: their numbers, and what `docs/PACK.md` says of each.
 
 use std::error::Error;
 use std::fmt;
@@ -60,7 +60,7 @@ impl Refusal {
         self.number > IN_CHART
     }
 
-    /// What document 01 says of the number, without where it is.
+    /// What the number says, without where it is.
     pub fn reason(self) -> &'static str {
         match if self.in_chart() { self.number - IN_CHART } else { self.number } {
             ENDS => "bytes that end in a number",

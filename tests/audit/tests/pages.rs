@@ -4,11 +4,12 @@ use audit::pages::{is_there, named};
 use audit::{believed, layers, repository};
 use std::fs;
 
-const PAGES: [&str; 6] = [
+const PAGES: [&str; 7] = [
     "README.md",
     "docs/ARCHITECTURE.md",
     "docs/CONTRACTS.md",
     "docs/DECISIONS.md",
+    "docs/PACK.md",
     "tests/README.md",
     "tests/FIGURES.md",
 ];

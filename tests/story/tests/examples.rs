@@ -4,11 +4,11 @@ use std::fs::{read, read_dir, read_to_string};
 use std::path::PathBuf;
 
 use reference::call::{Ask, Call, Outcome};
-use reference::ending::ending;
+use reference::calls::search_pack;
+use reference::ending::{ending, FORESIGHT, NESTING, STORY};
 use reference::implementation::Implementation;
 use reference::plain;
 use reference::tuned::Engine;
-use story::command::run;
 use story::dot;
 
 fn folder() -> PathBuf {
@@ -36,11 +36,22 @@ fn every_story_has_all_its_files() {
 #[test]
 fn every_story_gives_its_pack() {
     for name in names(".story") {
-        let story = story::read(&read(folder().join(name.clone() + ".story")).unwrap()).unwrap();
+        let story = story::read(&read(folder().join(name.clone() + ".story")).unwrap()).unwrap().story;
         assert_eq!(story.bytes(), read(folder().join(name.clone() + ".pack")).unwrap(), "{name}");
         let picture = read_to_string(folder().join(name.clone() + ".dot")).unwrap();
         assert_eq!(dot::story(&story), picture, "{name}");
     }
+}
+
+/// What the stories are warned of: facts that are there to be believed, and that nothing looks at.
+#[test]
+fn warnings() {
+    let mut told = Vec::new();
+    for name in names(".story") {
+        let reading = story::read(&read(folder().join(name.clone() + ".story")).unwrap()).unwrap();
+        told.extend(reading.warnings.into_iter().map(|warning| format!("{name}: {}", warning.message)));
+    }
+    assert_eq!(told, ["alice: nothing looks at 'Alice'", "market: nothing looks at 'the merchant's wealth'"]);
 }
 
 #[test]
@@ -66,28 +77,18 @@ fn every_page_quotes_its_ending() {
     }
 }
 
-/// The program's commands on the examples.
-#[test]
-fn commands() {
-    let file = |path: &str| read(folder().join(path));
-    let said = |words: &[&str]| String::from_utf8(run(words, file).unwrap()).unwrap();
-    let told = "1. Ada moves the letter to the drawer\n2. the cousin comes home\n3. the cousin breaks the desk open\n\
-                The author goes from 0 to 5.\n";
-    assert_eq!(said(&["tell", "letter.story"]), told);
-    assert_eq!(said(&["tell", "p.pack"]), "1. 0\nThe author goes from 0 to 5.\n");
-    assert_eq!(said(&["tell", "safe.story"]), "There is no ending of up to 4 actions.\n");
-    assert_eq!(run(&["pack", "p.story"], file).unwrap(), file("p.pack").unwrap());
-    assert_eq!(said(&["dot", "p.story"]), String::from_utf8(file("p.dot").unwrap()).unwrap());
-    assert!(said(&["text", "p.pack"]).starts_with("characters: A, B\n"));
-    assert!(said(&["dot", "p.story", "02010102000202"]).contains("n0 -> n1 [label=\"Ben\"];"));
-}
-
-/// The pages that quote the ending in words quote what the program tells.
+/// The pages that quote the ending in words quote what is found, with the names of the actions.
 #[test]
 fn pages_in_words() {
     for name in ["letter", "lie"] {
-        let story = story::read(&read(folder().join(format!("{name}.story"))).unwrap()).unwrap();
-        let quoted: String = story::command::tell(&story).lines().map(|line| format!("    {line}\n")).collect();
+        let story = story::read(&read(folder().join(format!("{name}.story"))).unwrap()).unwrap().story;
+        let pack = reference::pack::read(&story.bytes()).unwrap();
+        let ending = search_pack(&pack, STORY, FORESIGHT, NESTING).unwrap();
+        let mut quoted = String::new();
+        for (i, &action) in ending.actions.iter().enumerate() {
+            quoted += &format!("    {}. {}\n", i + 1, story.names.actions[action]);
+        }
+        quoted += &format!("    The author goes from {} to {}.\n", ending.before, ending.after);
         assert!(read_to_string(folder().join(format!("{name}.md"))).unwrap().contains(&quoted), "{name}");
     }
 }

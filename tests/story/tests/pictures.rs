@@ -2,8 +2,9 @@
 
 use std::collections::{HashMap, HashSet};
 
+use reference::chart;
 use reference::generate;
-use reference::graph::Node;
+use story::pack::Node;
 use story::{dot, Story};
 
 /// The part of Graphviz's language that pictures use, read.
@@ -113,11 +114,13 @@ fn generated_packs() {
     let mut pictures = 0;
     for seed in 0..3_000 {
         let Ok(story) = Story::of_pack(&generate::call(seed).pack) else { continue };
-        let (pack, names) = (&story.pack, &story.names);
+        let pack = &story.pack;
         let whole = check(&dot::story(&story), &pack.nodes, pack.characters);
         let expected = pack.nodes.len() + pack.domains.len() + pack.actions.len() + pack.triggers.len();
         assert_eq!(whole.boxes.len(), expected);
-        assert_eq!(check(&dot::chart(names, &pack.nodes), &pack.nodes, pack.characters).boxes.len(), pack.nodes.len());
+        let chart = chart::bytes(&reference::pack::read(&story.bytes()).unwrap().nodes);
+        let picture = dot::chart(&story, &chart).unwrap();
+        assert_eq!(check(&picture, &pack.nodes, pack.characters).boxes.len(), pack.nodes.len());
         pictures += 1;
     }
     assert!(pictures > 2_000, "{pictures}");
@@ -126,7 +129,7 @@ fn generated_packs() {
 /// Every effect and every test of a story has its arrow.
 #[test]
 fn arrows() {
-    let story = story::read(include_bytes!("../../../examples/lie.story")).unwrap();
+    let story = story::read(include_bytes!("../../../examples/lie.story")).unwrap().story;
     let picture = picture(&dot::story(&story));
     let arrow = |from: &str, to: &str, label: &str| (from.to_string(), to.to_string(), label.to_string());
     let mut arrows = picture.arrows.clone();

@@ -3,11 +3,12 @@
 use reference::calls::search_pack;
 use reference::ending::{lines, FORESIGHT, NESTING, STORY};
 use reference::happening::step;
+use reference::pack::{self, Pack};
 use reference::planner::Planner;
 use reference::refusal::{CONDITION, ROUNDS};
 use reference::state::State;
 use reference::{chart, text};
-use story::{read, Story};
+use story::read;
 
 const LETTER: &str = include_str!("../../../examples/letter.story");
 const ALICE: &str = include_str!("../../../examples/alice.story");
@@ -16,21 +17,25 @@ const MARKET: &str = include_str!("../../../examples/market.story");
 const LIE: &str = include_str!("../../../examples/lie.story");
 const SAFE: &str = include_str!("../../../examples/safe.story");
 
+/// How the stories of one view begin: nobody is mistaken.
+const EVERYONE: &str = "    everyone believes this\n";
+
 const NONE: &str = "refused 13 at 0\n";
 
 /// The story with texts put in place of others, each of which stands there exactly once.
-fn changed(story: &str, changes: &[(&str, &str)]) -> Story {
+fn changed(story: &str, changes: &[(&str, &str)]) -> Pack {
     let mut story = story.to_string();
     for (before, after) in changes {
         assert_eq!(story.matches(before).count(), 1, "{before}");
         story = story.replace(before, after);
     }
-    read(story.as_bytes()).unwrap_or_else(|error| panic!("{error}\n{story}"))
+    let reading = read(story.as_bytes()).unwrap_or_else(|problems| panic!("{problems:?}\n{story}"));
+    pack::read(&reading.story.bytes()).unwrap()
 }
 
 /// What `ending` would print under these limits.
-fn under(story: &Story, (most, foresight, nesting): (usize, usize, usize)) -> String {
-    let found = search_pack(&story.pack, most, foresight, nesting);
+fn under(story: &Pack, (most, foresight, nesting): (usize, usize, usize)) -> String {
+    let found = search_pack(story, most, foresight, nesting);
     let found = found.as_ref().map(|ending| (&ending.actions[..], ending.before, ending.after));
     lines(found.map_err(|refusal| *refusal))
 }
@@ -40,20 +45,20 @@ fn ends(story: &str, changes: &[(&str, &str)]) -> String {
 }
 
 /// The state after some actions.
-fn state(story: &Story, actions: &[usize]) -> State {
-    let start = State::new(&story.pack.nodes, 0);
-    actions.iter().fold(start, |state, &action| step(&story.pack, &state, action).unwrap())
+fn state(story: &Pack, actions: &[usize]) -> State {
+    let start = State::new(&story.nodes, 0);
+    actions.iter().fold(start, |state, &action| step(story, &state, action).unwrap())
 }
 
 /// Its chart, in hexadecimal.
-fn after(story: &Story, actions: &[usize]) -> String {
+fn after(story: &Pack, actions: &[usize]) -> String {
     text::hex(&chart::write(&state(story, actions)))
 }
 
 /// Whether an action after some others is explained to a character, under a foresight and a nesting limit.
-fn explained(story: &Story, actions: &[usize], action: usize, character: usize, limits: (usize, usize)) -> bool {
+fn explained(story: &Pack, actions: &[usize], action: usize, character: usize, limits: (usize, usize)) -> bool {
     let (foresight, nesting) = limits;
-    Planner::new(&story.pack, foresight).explained(character, action, &state(story, actions), nesting)
+    Planner::new(story, foresight).explained(character, action, &state(story, actions), nesting)
 }
 
 #[test]
@@ -64,8 +69,8 @@ fn letter() {
     assert!(explained(&story, &[], 0, 0, (1, 1)), "Ada moves the letter for its own sake");
     assert!(explained(&story, &[0], 1, 1, (3, 1)) && !explained(&story, &[0], 1, 1, (2, 3)), "he comes home for three");
     assert!(explained(&story, &[0, 1], 2, 1, (2, 1)) && !explained(&story, &[0, 1], 2, 1, (1, 3)));
-    assert_eq!(step(&story.pack, &state(&story, &[0, 1, 2]), 3), Err(CONDITION), "the letter isn't in the desk");
-    let at_home = ("    the cousin is out\n\naction", "    the cousin is in the house\n\naction");
+    assert_eq!(step(&story, &state(&story, &[0, 1, 2]), 3), Err(CONDITION), "the letter isn't in the desk");
+    let at_home = ("    the cousin is out\n", "    the cousin is in the house\n");
     assert_eq!(ends(LETTER, &[at_home]), NONE);
     assert_eq!(ends(LETTER, &[("seen by the cousin if the cousin is in the house", "seen by the cousin")]), NONE);
     let moved = (
@@ -73,7 +78,11 @@ fn letter() {
         "    the letter is in the drawer\n    the desk is locked",
     );
     assert_eq!(ends(LETTER, &[moved]), NONE);
-    let view = ("\naction Ada moves", "\nwhat the cousin believes:\n    the letter is in the desk\n\naction Ada moves");
+    let view = (
+        EVERYONE,
+        "    everyone else believes this\nwhat the cousin believes:\n the letter is in the desk\n \
+                           the rest is as in the truth\n everyone believes this\n",
+    );
     assert_eq!(ends(LETTER, &[moved, view]), "1 1\n2 2\nauthor 0 5\n");
 }
 
@@ -90,7 +99,8 @@ fn alice() {
         2,
         "Bob believes Charlie believes Alice believes Bob is at the store"
     );
-    let secret = [("    by Bob\n    seen by everyone", "    by Bob\n    seen by Bob and Charlie")];
+    let secret =
+        [("    by Bob\n    seen by everyone", "    by Bob\n    seen by Bob and Charlie\n    seen by nobody else")];
     assert_eq!(ends(ALICE, &secret), NONE);
 }
 
@@ -120,7 +130,7 @@ fn market() {
             ("     and the stalls are seen and Tom believes the stalls are seen\n", ""),
         ],
     );
-    assert_eq!(step(&literal.pack, &state(&literal, &[]), 0), Err(ROUNDS));
+    assert_eq!(step(&literal, &state(&literal, &[]), 0), Err(ROUNDS));
     assert_eq!(under(&literal, (4, 3, 2)), NONE);
     let found = "1 0\n2 2\nauthor 0 5\n";
     let knows =
@@ -128,11 +138,14 @@ fn market() {
     let only_the_potion = ("    1 if Tom is at the market\n", "");
     assert_eq!(ends(MARKET, &[only_the_potion]), NONE);
     assert_eq!(ends(MARKET, &[only_the_potion, knows]), found);
-    assert_eq!(ends(MARKET, &[("    2 if the takings are at least 1\n", "")]), NONE);
+    assert_eq!(ends(MARKET, &[("    2 if the takings are at least 1\n", "    nothing\n")]), NONE);
     assert_eq!(under(&changed(MARKET, &[]), (2, 1, 1)), found);
     let sees_tom = "    seen by the merchant if the merchant is at the cottage or the merchant is at the market\n";
     let arrives = "    then Tom is at the market\n    by Tom\n    seen by Tom\n";
-    assert_eq!(ends(MARKET, &[(&format!("{arrives}{sees_tom}"), arrives)]), NONE);
+    assert_eq!(
+        ends(MARKET, &[(&format!("{arrives}{sees_tom}"), &format!("{arrives}    seen by nobody else\n"))]),
+        NONE
+    );
 }
 
 #[test]
@@ -158,8 +171,9 @@ fn lie() {
     );
     assert_eq!(under(&stroll, (4, 3, 1)), "1 1\n2 3\nauthor 0 5\n");
     let mistaken = (
-        "\naction the heir says",
-        "\nwhat the heir believes:\n    the butler is in the garden\n\naction the heir says",
+        EVERYONE,
+        "    everyone else believes this\nwhat the heir believes:\n \
+                               the butler is in the garden\n the rest is as in the truth\n everyone believes this\n",
     );
     assert_eq!(ends(LIE, &[mistaken]), NONE);
     let careless = [("    2 if the will is with the butler\n", "    2 if the will is in the garden\n")];
