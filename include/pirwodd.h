@@ -1,11 +1,11 @@
 /*
  * The six calls of Pirwodd, for C.
  *
- * `rt staticlib export` makes the archive target/staticlib/libexport.a; a program is linked with it and with nothing else:
+ * `rt staticlib pirwodd` makes the archive target/staticlib/libpirwodd.a; a program is linked with it and with nothing else:
  *
- *     cc -Iinclude program.c target/staticlib/libexport.a
+ *     cc -Iinclude program.c target/staticlib/libpirwodd.a
  *
- * docs/PACK.md says what packs and charts are, byte by byte; crates/export/specs/Exports.antt states what is proved of these
+ * docs/PACK.md says what packs and charts are, byte by byte; crates/pirwodd/specs/Exports.antt states what is proved of these
  * functions, for any bytes, numbers and lengths.
  *
  * LENT MEMORY. Each slice is a pointer and then its length, in bytes (for a report: in numbers). Pointers are not NULL, even

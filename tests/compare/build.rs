@@ -4,7 +4,7 @@ use std::path::PathBuf;
 use std::{env, process};
 
 /// The archives: the calls, and the reader of packs and charts by itself.
-const ARCHIVES: [&str; 2] = ["export", "probe"];
+const ARCHIVES: [&str; 2] = ["pirwodd", "probe"];
 
 fn main() {
     let here = PathBuf::from(env::var_os("CARGO_MANIFEST_DIR").expect("cargo names the package's folder"));

@@ -15,7 +15,7 @@ pub struct Module {
 
 /// The modules whose names a public contract may use: those with promises, and what these reach.
 pub fn reached(repository: &Path) -> Result<Vec<Module>> {
-    let mut open = vec![module(repository, "export", "Exports")];
+    let mut open = vec![module(repository, "pirwodd", "Exports")];
     for (of, file, _) in CALLS {
         open.push(promises(repository, of, file)?);
     }

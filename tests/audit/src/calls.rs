@@ -21,7 +21,7 @@ pub struct Head {
     pub text: String,
 }
 
-/// The heads of the six calls, and of all that `export` exports.
+/// The heads of the six calls, and of all that `pirwodd` exports.
 pub fn heads(repository: &Path) -> Result<Vec<Head>> {
     let mut heads = Vec::new();
     for (of, module, name) in CALLS {
@@ -30,12 +30,12 @@ pub fn heads(repository: &Path) -> Result<Vec<Head>> {
         let begin = text.find(&format!("pub fn {name}(")).ok_or_else(|| Error::other(format!("no {name}")))?;
         heads.push(Head { name: format!("{of}::{module}::{name}"), text: head(&text[begin..]) });
     }
-    for file in files(&repository.join("crates/export/src"), ".rt")? {
+    for file in files(&repository.join("crates/pirwodd/src"), ".rt")? {
         let text = fs::read_to_string(&file)?;
         for (begin, _) in text.match_indices("pub extern \"C\" fn ") {
             let text = head(&text[begin..]);
             let name = text.trim_start_matches("pub extern \"C\" fn ").split('(').next().unwrap_or("").to_string();
-            heads.push(Head { name: format!("export::{name}"), text });
+            heads.push(Head { name: format!("pirwodd::{name}"), text });
         }
     }
     Ok(heads)

@@ -44,7 +44,7 @@ fn well(name: &str) -> Folder {
         gate.say(&format!("said/stamp/{of}"), "");
     }
     gate.say("said/log/ending.out", ENDING).say("said/log/ending.res", "built\n");
-    gate.say("said/libprobe", ARCHIVE).say("said/libexport", ARCHIVE);
+    gate.say("said/libprobe", ARCHIVE).say("said/libpirwodd", ARCHIVE);
     gate.say("said/ci", "fn f: proved\nrt: pack proved (1 s)\nrt: ok\n7 passed, 0 failed\n");
     gate.say("said/status", "0").say("said/fmt", "0").say("said/audit", "0");
     gate.say("said/apart", "test result: ok. 2 passed; 0 failed\ntest result: ok. 3 passed; 0 failed\n");
@@ -84,7 +84,7 @@ fn it_passes_where_all_is_well() {
 
 #[test]
 fn an_archive_with_an_axiom() {
-    for archive in ["probe", "export"] {
+    for archive in ["probe", "pirwodd"] {
         let counted = ARCHIVE.replace("functions=1 ", "functions=1 axioms=1 ");
         let named = format!("axioms libc: libc::close (1 of the 50 declared)\n{ARCHIVE}");
         for said in [counted, named] {
@@ -97,10 +97,10 @@ fn an_archive_with_an_axiom() {
 #[test]
 fn an_archive_that_tells_nothing() {
     let library = "logic=proved functions=1 sum=0\n";
-    well("untold").say("said/libexport", library).fails("export: no word that its archive is proved");
+    well("untold").say("said/libpirwodd", library).fails("pirwodd: no word that its archive is proved");
     let without = ARCHIVE.replace("library chart: modules loaded=1 checked=0\n", "");
     let gate = well("unreached");
-    gate.say("said/libexport", &without).say("said/libprobe", &without).fails("chart is in no archive");
+    gate.say("said/libpirwodd", &without).say("said/libprobe", &without).fails("chart is in no archive");
 }
 
 #[test]

@@ -3,7 +3,7 @@
 use audit::{layers, repository};
 
 fn foreign(of: &str, line: &str) -> usize {
-    let crates: Vec<String> = ["pack", "chart", "export"].map(String::from).into();
+    let crates: Vec<String> = ["pack", "chart", "pirwodd"].map(String::from).into();
     layers::foreign(&crates, of, line).len()
 }
 
@@ -17,17 +17,17 @@ fn another_layers_proofs_are_found() {
     assert_eq!(foreign("chart", "use Rattle.pack.proofs.Judging.{judged}"), 1);
     assert_eq!(foreign("chart", "use Rattle.pack.proofs.Judging as judging"), 1);
     assert_eq!(foreign("chart", "new: ghost use Rattle.pack.proofs.judge.utility.Proof.{spec};"), 1);
-    assert_eq!(foreign("chart", "  both (Rattle.pack.proofs.A.x) Rattle.export.proofs.B.y"), 2);
+    assert_eq!(foreign("chart", "  both (Rattle.pack.proofs.A.x) Rattle.pirwodd.proofs.B.y"), 2);
     assert_eq!(foreign("pack", "use Rattle.pack.proofs.Judging as judging"), 0);
 }
 
 #[test]
 fn another_layers_inner_promises_are_found() {
-    assert_eq!(foreign("export", "ghost use Rattle.chart.specs.Inner.Pairs.{Met};"), 1);
-    assert_eq!(foreign("export", "use Rattle.chart.specs.Inner.Pairs as pairs"), 1);
+    assert_eq!(foreign("pirwodd", "ghost use Rattle.chart.specs.Inner.Pairs.{Met};"), 1);
+    assert_eq!(foreign("pirwodd", "use Rattle.chart.specs.Inner.Pairs as pairs"), 1);
     assert_eq!(foreign("chart", "use Rattle.chart.specs.Inner.Pairs as pairs"), 0);
-    assert_eq!(foreign("export", "use Rattle.chart.specs.Contracts.Pairs as pairs"), 0);
-    assert_eq!(foreign("export", "use Rattle.chart.specs.Laws.Inner as laws"), 0);
+    assert_eq!(foreign("pirwodd", "use Rattle.chart.specs.Contracts.Pairs as pairs"), 0);
+    assert_eq!(foreign("pirwodd", "use Rattle.chart.specs.Laws.Inner as laws"), 0);
 }
 
 #[test]
@@ -42,5 +42,5 @@ fn what_the_toolchain_makes_may_be_cited() {
 #[test]
 fn the_crates_are_listed() {
     let crates = layers::crates(&repository()).expect("crates.txt");
-    assert_eq!(crates, ["pack", "chart", "transition", "planner", "probe", "export", "ending"]);
+    assert_eq!(crates, ["pack", "chart", "transition", "planner", "probe", "pirwodd", "ending"]);
 }

@@ -46,7 +46,7 @@ fn what_is_to_be_believed_is_said() {
     let all: usize = specs.iter().map(|module| module.lines).sum();
     let said = format!("{all} lines in {} files", specs.len());
     assert!(page.contains(&said), "README.md does not say: {said}");
-    for of in ["pack", "chart", "transition", "planner", "export"] {
+    for of in ["pack", "chart", "transition", "planner", "pirwodd"] {
         let own = specs.iter().filter(|module| module.path.to_string_lossy().contains(&format!("/{of}/specs/")));
         let row = format!("| `{of}` | {} |", own.map(|module| module.lines).sum::<usize>());
         assert!(page.contains(&row), "README.md does not say: {row}");

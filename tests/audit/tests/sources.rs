@@ -46,7 +46,7 @@ fn definitions_are_reached() {
         "pack/specs/Number.antt",
         "pack/specs/Grammar.antt",
         "pack/specs/State.antt",
-        "export/specs/Exports.antt",
+        "pirwodd/specs/Exports.antt",
     ] {
         assert!(has(end), "{end} is not reached");
     }
@@ -65,7 +65,7 @@ fn use_lines_are_read() {
 #[test]
 fn wrong_programs_have_their_edits() {
     let page = std::fs::read_to_string(repository().join("docs/CONTRACTS.md")).expect("the page");
-    let of = ["pack", "chart", "transition", "planner", "export", "ending"];
+    let of = ["pack", "chart", "transition", "planner", "pirwodd", "ending"];
     let cited: Vec<&str> = page.split('`').skip(1).step_by(2).collect();
     let mut there = Vec::new();
     for name in of {
