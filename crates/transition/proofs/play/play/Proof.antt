@@ -25,20 +25,58 @@ returns c =
     let z = at-sweep .sweep in
     λ p T n x. step-refused x l (s .ensures p T n (step-setting x l) (x .there) (x .read .some)) (at-if1 .if1 .taken) (z .ensures) (z .kept .0 ∙ s .kept .1 .1 .1 .0 ∙ l .long)
 
+-- where the action plays: the places before the count of rows is read
+abbrev at-played : tie.After-slice-known6 → tie.Else1
+at-played c = c .before
+
+abbrev at-stepped : tie.Else1 → tie.After-step-slot
+at-stepped c = c .before .before .before
+
+abbrev at-copied : tie.After-step-slot → tie.After-copy-table
+at-copied c = c .before .before .before .before .before
+
+abbrev at-start : tie.After-copy-table → tie.Start
+at-start c = c .before .before .before .before .before .before .before
+
+slice-read-wide : tie.Need-slice-read-wide
+slice-read-wide c =
+    let at-step-slot = at-stepped (at-played c) in
+    let at-copy-table = at-copied at-step-slot in
+    let (p, (T, (n, x))) = at-start at-copy-table .pre in
+    omega (arith, x .work-room, at-step-slot .step-slot .kept .1 .1 .1 .0, at-copy-table .copy-table .ensures .long)
+
 write-chart-requires : tie.Need-write-chart-requires
 write-chart-requires c κs =
-    let (p, (T, (n, x))) = c .before .before .before .before .before .before .before .before .before .before .before .before .before .before .before .before .before .before .before .pre in
-    let l = c .before .before .before .before .before .before .before .before .before .before .before .before .copy-table .ensures in
-    let s = c .before .before .before .before .before .before .before .step-slot in
-    step-writes x l (s .ensures p T n (step-setting x l) (x .there) (x .read .some)) (omega (arith, c .before .before .before .before .if1 .left)) (sym (c .before .before .wide .ensures)) (s .kept .1 .1 .1 .0 ∙ l .long)
+    let at-wide = c .before .before in
+    let at-if1 = at-played (at-wide .before) in
+    let at-step-slot = at-stepped at-if1 in
+    let at-copy-table = at-copied at-step-slot in
+    let (p, (T, (n, x))) = at-start at-copy-table .pre in
+    let l = at-copy-table .copy-table .ensures in
+    let s = at-step-slot .step-slot in
+    step-writes x l (s .ensures p T n (step-setting x l) (x .there) (x .read .some)) (omega (arith, at-if1 .if1 .left)) (sym (at-wide .wide .ensures)) (s .kept .1 .1 .1 .0 ∙ l .long)
+
+sweep-requires-2 : tie.Need-sweep-requires-2
+sweep-requires-2 c κs =
+    let at-wide = c .before .before .before .before .before .before in
+    let at-step-slot = at-stepped (at-played (at-wide .before)) in
+    let at-copy-table = at-copied at-step-slot in
+    let (p, (T, (n, x))) = at-start at-copy-table .pre in
+    omega (arith, x .work-room, at-step-slot .step-slot .kept .1 .1 .1 .0, at-copy-table .copy-table .ensures .long)
 
 returns-2 : tie.Need-returns-2
 returns-2 c =
-    let l = c .before .before .before .before .before .before .before .before .before .before .before .before .before .before .before .before .before .before .before .copy-table .ensures in
-    let s = c .before .before .before .before .before .before .before .before .before .before .before .before .before .before .step-slot in
-    let o = c .before .before .before .before .before .before .write-chart in
-    let z = c .before .before .sweep2 in
-    λ p T n x. step-left x l (s .ensures p T n (step-setting x l) (x .there) (x .read .some)) (omega (arith, c .before .before .before .before .before .before .before .before .before .before .before .if1 .left)) (sym (c .before .before .before .before .before .before .before .before .before .wide .ensures)) (o .ensures) (o .kept .1 .1 .0) (z .ensures) (z .kept .0 ∙ s .kept .1 .1 .1 .0 ∙ l .long)
+    let at-sweep = c .before .before in
+    let at-write-chart = at-sweep .before .before .before .before in
+    let at-wide = at-write-chart .before .before .before in
+    let at-if1 = at-played (at-wide .before) in
+    let at-step-slot = at-stepped at-if1 in
+    let at-copy-table = at-copied at-step-slot in
+    let l = at-copy-table .copy-table .ensures in
+    let s = at-step-slot .step-slot in
+    let o = at-write-chart .write-chart in
+    let z = at-sweep .sweep2 in
+    λ p T n x. step-left x l (s .ensures p T n (step-setting x l) (x .there) (x .read .some)) (omega (arith, at-if1 .if1 .left)) (sym (at-wide .wide .ensures)) (o .ensures) (o .kept .1 .1 .0) (z .ensures) (z .kept .0 ∙ s .kept .1 .1 .1 .0 ∙ l .long)
 
 pub play-spec : {M : Type 1} → statement M
 play-spec =
@@ -58,10 +96,10 @@ play-spec =
     omega (arith, x .work-room, at-step-slot .step-slot .kept .1 .1 .1 .0, at-copy-table .copy-table .ensures .long))
     (λ c. search needs)
     returns
-    (λ c. let (p, (T, (n, x))) = c .before .before .before .before .before .before .before .before .before .before .before .before .before .before .before .before .pre in omega (arith, x .work-room, c .before .before .before .before .step-slot .kept .1 .1 .1 .0, c .before .before .before .before .before .before .before .before .before .copy-table .ensures .long))
+    slice-read-wide
     (λ c κs. search needs)
     write-chart-requires
-    (λ c κs. let (p, (T, (n, x))) = c .before .before .before .before .before .before .before .before .before .before .before .before .before .before .before .before .before .before .before .before .before .before .before .pre in omega (arith, x .work-room, c .before .before .before .before .before .before .before .before .before .before .before .step-slot .kept .1 .1 .1 .0, c .before .before .before .before .before .before .before .before .before .before .before .before .before .before .before .before .copy-table .ensures .long))
+    sweep-requires-2
     (λ c. search needs)
     (λ c. search needs)
     returns-2)
