@@ -70,9 +70,10 @@ pub fn meet_first(work: &mut [u8], x: usize, y: usize)
 pub fn meet_beliefs(work: &mut [u8], t: Table, done: usize, count: usize) -> usize
     requires { ⌜ Paired (now work) (t .nodes) (t .width) (t .fluents) (t .characters) (t .rows) marksAt metAt
         × Sound (now work) (t .nodes) (t .width) (t .fluents) (t .characters) (t .rows) × (done < count) ⌝ }
-    requires { ⌜ PairsIn (now work) (t .nodes) (t .width) (t .fluents) (t .characters) (t .rows) marksAt metAt count done 0 ⌝ }
-    ensures { λ r. ⌜ Followed (now (work .entry)) (now (work .exit)) (t .nodes) (t .width) (t .fluents) (t .characters) (t .rows)
-        marksAt metAt done count r ⌝ }
+    requires { ⌜ PairsIn (now work) (t .nodes) (t .width) (t .fluents) (t .characters) (t .rows) marksAt metAt
+        count done 0 ⌝ }
+    ensures { λ r. ⌜ Followed (now (work .entry)) (now (work .exit)) (t .nodes) (t .width) (t .fluents)
+        (t .characters) (t .rows) marksAt metAt done count r ⌝ }
 {
     let e = MET + done * 5;
     let a = t.rows + wide(work[e]) * t.width + t.fluents;
@@ -88,7 +89,8 @@ pub fn meet_beliefs(work: &mut [u8], t: Table, done: usize, count: usize) -> usi
     met
 }
 
-// The first of the values that is another in the two rows of the entry from e on; how many there are where all are the same.
+// The first of the values that is another in the two rows of the entry from e on; how many there are where all are
+// the same.
 pub fn other_value(work: &[u8], t: Table, e: usize) -> usize
     requires { ⌜ (e + 2 ≤ length (now work))
         × (t .rows + getD (now work) e 0 * t .width + t .fluents ≤ length (now work))
@@ -107,8 +109,8 @@ pub fn seek(work: &mut [u8], t: Table) -> usize
     requires { ⌜ Paired (now work) (t .nodes) (t .width) (t .fluents) (t .characters) (t .rows) marksAt metAt
         × Sound (now work) (t .nodes) (t .width) (t .fluents) (t .characters) (t .rows) ⌝ }
     requires { ⌜ PairsIn (now work) (t .nodes) (t .width) (t .fluents) (t .characters) (t .rows) marksAt metAt 1 0 0 ⌝ }
-    ensures { λ k. ⌜ Sought (now (work .entry)) (now (work .exit)) (t .nodes) (t .width) (t .fluents) (t .characters) (t .rows)
-        marksAt metAt k ⌝ }
+    ensures { λ k. ⌜ Sought (now (work .entry)) (now (work .exit)) (t .nodes) (t .width) (t .fluents)
+        (t .characters) (t .rows) marksAt metAt k ⌝ }
 {
     let mut count = 1;
     let mut done = 0;

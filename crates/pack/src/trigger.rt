@@ -12,7 +12,8 @@ use crate::refusal::LIMIT;
 ghost use Prim.Native.Nat.{_+_, _≤_};
 ghost use lib.ListN.{length};
 ghost use Rattle.pack.specs.Contracts.Answer.{dims};
-ghost use Rattle.pack.specs.Contracts.Places.{placesRoom, Within, Ready, TriggerRead, TriggersRead, TriggersAfter};
+ghost use Rattle.pack.specs.Contracts.Places.{placesRoom, Within, Ready, TriggerRead};
+ghost use Rattle.pack.specs.Contracts.Places.{TriggersRead, TriggersAfter};
 
 // A trigger: a condition and effects. Its places are marked from base on.
 pub fn read_trigger(

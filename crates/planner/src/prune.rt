@@ -65,8 +65,8 @@ pub fn moves(pack: &[u8], places: &[u16], m: Move, fluent: usize) -> bool
 // Whether the test at a place could pass in row 0 after a move.
 pub fn could_pass(pack: &[u8], places: &[u16], m: Move, at: usize, work: &[u8], t: Table) -> bool
     requires { ⌜ Lookable testAt (now pack) (now places) (m .triggers) (m .action) at (now work) t ⌝ }
-    ensures { λ r. ⌜ Looked testAt still.couldPass (now (pack .entry)) (now (places .entry)) (m .triggers) (m .action) at
-        (now (work .entry)) t r ⌝ }
+    ensures { λ r. ⌜ Looked testAt still.couldPass (now (pack .entry)) (now (places .entry)) (m .triggers)
+        (m .action) at (now (work .entry)) t r ⌝ }
 {
     if chain_of(pack, at) != 0 {
         return true;
@@ -80,8 +80,8 @@ pub fn could_pass(pack: &[u8], places: &[u16], m: Move, at: usize, work: &[u8], 
 // Whether all tests of the alternative at a place could.
 pub fn could_all(pack: &[u8], places: &[u16], m: Move, at: usize, work: &[u8], t: Table) -> bool
     requires { ⌜ Lookable alternativeAt (now pack) (now places) (m .triggers) (m .action) at (now work) t ⌝ }
-    ensures { λ r. ⌜ Looked alternativeAt still.couldAll (now (pack .entry)) (now (places .entry)) (m .triggers) (m .action) at
-        (now (work .entry)) t r ⌝ }
+    ensures { λ r. ⌜ Looked alternativeAt still.couldAll (now (pack .entry)) (now (places .entry)) (m .triggers)
+        (m .action) at (now (work .entry)) t r ⌝ }
 {
     let mut n = at + 1;
     let mut left = wide(pack[at]);
@@ -98,8 +98,8 @@ pub fn could_all(pack: &[u8], places: &[u16], m: Move, at: usize, work: &[u8], t
 // Whether the condition at a place could hold.
 pub fn could_hold(pack: &[u8], places: &[u16], m: Move, at: usize, work: &[u8], t: Table) -> bool
     requires { ⌜ Lookable conditionAt (now pack) (now places) (m .triggers) (m .action) at (now work) t ⌝ }
-    ensures { λ r. ⌜ Looked conditionAt still.couldHold (now (pack .entry)) (now (places .entry)) (m .triggers) (m .action) at
-        (now (work .entry)) t r ⌝ }
+    ensures { λ r. ⌜ Looked conditionAt still.couldHold (now (pack .entry)) (now (places .entry)) (m .triggers)
+        (m .action) at (now (work .entry)) t r ⌝ }
 {
     let mut n = at + 1;
     let mut left = wide(pack[at]);

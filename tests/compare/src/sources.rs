@@ -18,15 +18,15 @@ pub struct Off {
     pub edits: &'static [Edit],
 }
 
-const STEPS: Edit = ("planner/known.rs", "if step_is(work, at, name, root, action) {", "if false {");
+const STEPS: Edit = ("planner/steps.rs", "if step_is(work, at, id, root, action) {", "if false {");
 const EXPLAINED: Edit = ("planner/explain.rs", "if known == 4 {", "if known == 9 {");
 const UNEXPLAINED: Edit = ("planner/explain.rs", "if known == 5 {", "if known == 9 {");
 const A_LIST: Edit = ("planner/explain.rs", "if known == 1 {", "if known == 9 {");
 const NO_LIST: Edit = ("planner/explain.rs", "if known == 2 {", "if known == 9 {");
 const AUTHORS: Edit = ("planner/search.rs", "if recall(work, p, slot, key) == 3 {", "if false {");
 const REPEATS: Edit = ("planner/search.rs", "if repeats(work, p, slot, done) {", "if false {");
-const CONDITIONS: Edit = ("planner/look.rs", "if !may {", "if false {");
-const LOOK: Edit = ("planner/look.rs", "if 0 < left {", "if true {");
+const CONDITIONS: Edit = ("planner/prune.rs", "if !may {", "if false {");
+const LOOK: Edit = ("planner/prune.rs", "if 0 < h.left {", "if true {");
 
 pub const NOTHING_OFF: Off = Off { name: "nothing", edits: &[] };
 

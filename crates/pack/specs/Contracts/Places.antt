@@ -5,7 +5,8 @@ use mathlib.Core.List.{List}
 use lib.ListN.{length, getD}
 use Rattle.pack.specs.Reading.{done, Reader, mapped, many}
 use Rattle.pack.specs.Number.{between, counted}
-use Rattle.pack.specs.Grammar.{longestPack, Dimensions, conditionAt, effectsAt, consentersAt, actionAt, triggerAt, rulesAt}
+use Rattle.pack.specs.Grammar.{longestPack, Dimensions, conditionAt, effectsAt, consentersAt}
+use Rattle.pack.specs.Grammar.{actionAt, triggerAt, rulesAt}
 use Rattle.pack.specs.Contracts.Said.{said, shown, forget, whenPassed, whenIs, after}
 use Rattle.pack.specs.Contracts.Answer.{dimsOf}
 use Rattle.pack.specs.declared.number.Number.{Number}
