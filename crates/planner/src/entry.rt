@@ -13,12 +13,11 @@ ghost use Rattle.planner.specs.Inner.Lists.{slotTable};
 ghost use Rattle.planner.specs.Inner.Memory.{Before, Place, Storable, KeyPut, Recalled, Remembered};
 ghost use Rattle.planner.specs.Inner.Memory.{goalKey, deedKey, keyAt};
 
-// A list that is looked for: whose, at which nesting its actions are to be explained, how many are left to it, and
-// above which utility it is to end.
+// What a list is looked for: whose it is, at which nesting its actions are to be explained, and above which utility it
+// is to end.
 pub struct Goal {
     pub who: usize,
     pub nesting: Nesting,
-    pub left: usize,
     pub base: usize,
 }
 
@@ -40,14 +39,14 @@ pub struct Key {
     pub base: usize,
 }
 
-// The key of what is known of a goal.
-pub fn goal_key(g: Goal) -> Key
-    ensures { λ r. ⌜ r ≡ goalKey g ⌝ }
+// The key of what is known of the lists of so many actions to a goal.
+pub fn goal_key(g: Goal, left: usize) -> Key
+    ensures { λ r. ⌜ r ≡ goalKey g left ⌝ }
 {
     Key {
         who: g.who,
         nesting: g.nesting.0,
-        number: g.left,
+        number: left,
         base: g.base,
     }
 }

@@ -93,17 +93,15 @@ pub fn explains(
         q,
     );
     let nesting = Nesting(d.nesting.0 - 1);
-    let left = p.foresight.0 - 1;
     let goal = Goal {
         who: d.who,
         nesting,
-        left,
         base,
     };
-    extends(pack, places, p, work, next, goal)
+    extends(pack, places, p, work, next, goal, p.foresight.0 - 1)
 }
 
-// Whether some list of at most so many actions as are left to a goal leads to it from the state in a slot.
+// Whether some list of at most `left` actions leads to a goal from the state in a slot.
 pub fn extends(
     pack: &[u8],
     places: &[u16],
@@ -111,13 +109,14 @@ pub fn extends(
     work: &mut [u8],
     slot: usize,
     g: Goal,
+    left: usize,
 ) -> bool
     requires { ⌜ Prepared (now pack) (now places) p (now work) (slotTable p (now work) slot) (slot + slotRoom)
         × (g .who < p .characters) × (0 < p .foresight .0) × (p .foresight .0 ≤ 6)
-        × Free slot (1 + g .left + p .foresight .0 * g .nesting .0) ⌝ }
+        × Free slot (1 + left + p .foresight .0 * g .nesting .0) ⌝ }
     ensures { λ r. ⌜ Answers (now (pack .entry)) (now (places .entry)) p slot (now (work .entry))
         (now (work .exit)) r
-        (λ th s. Above th (p .foresight .0) (g .nesting .0) (g .who) (g .base) (suc (g .left)) s) ⌝ }
+        (λ th s. Above th (p .foresight .0) (g .nesting .0) (g .who) (g .base) (suc left) s) ⌝ }
 {
     let t = table_in(work, p, slot);
     let worth = utility(
@@ -130,10 +129,10 @@ pub fn extends(
     if g.base < worth {
         return true;
     }
-    if g.left == 0 {
+    if left == 0 {
         return false;
     }
-    let key = goal_key(g);
+    let key = goal_key(g, left);
     let known = recall(work, p, slot, key);
     if known == 1 {
         return false;
@@ -141,15 +140,7 @@ pub fn extends(
     if known == 2 {
         return true;
     }
-    let nesting = g.nesting;
-    let left = g.left - 1;
-    let rest = Goal {
-        who: g.who,
-        nesting,
-        left,
-        base: g.base,
-    };
-    let found = extends_by(pack, places, p, work, slot, rest);
+    let found = extends_by(pack, places, p, work, slot, g, left - 1);
     remember(work, p, slot, mark_of(found), key);
     found
 }
@@ -169,23 +160,24 @@ pub fn extends_by(
     work: &mut [u8],
     slot: usize,
     g: Goal,
+    left: usize,
 ) -> bool
     requires { ⌜ Prepared (now pack) (now places) p (now work) (slotTable p (now work) slot) (slot + slotRoom)
         × (g .who < p .characters) × (0 < p .foresight .0) × (p .foresight .0 ≤ 6)
-        × Free slot (2 + g .left + p .foresight .0 * g .nesting .0) ⌝ }
+        × Free slot (2 + left + p .foresight .0 * g .nesting .0) ⌝ }
     ensures { λ r. ⌜ Answers (now (pack .entry)) (now (places .entry)) p slot (now (work .entry))
         (now (work .exit)) r
-        (λ th s. AboveBySome th (p .foresight .0) (g .nesting .0) (g .who) (g .base) (suc (g .left)) s) ⌝ }
+        (λ th s. AboveBySome th (p .foresight .0) (g .nesting .0) (g .who) (g .base) (suc left) s) ⌝ }
 {
     let whose = g.who + 1;
     let hope = Hope {
         whose,
-        left: g.left,
+        left,
         base: g.base,
     };
     let mut x = next_promising(pack, places, p, work, slot, 0, hope);
     while x < p.actions {
-        let found = via(pack, places, p, work, slot, x, g);
+        let found = via(pack, places, p, work, slot, x, g, left);
         if found {
             return true;
         }
@@ -203,13 +195,14 @@ pub fn via(
     slot: usize,
     x: usize,
     g: Goal,
+    left: usize,
 ) -> bool
     requires { ⌜ Prepared (now pack) (now places) p (now work) (slotTable p (now work) slot) (slot + slotRoom)
         × (g .who < p .characters) × (x < p .actions) × (0 < p .foresight .0) × (p .foresight .0 ≤ 6)
-        × Free slot (2 + g .left + p .foresight .0 * g .nesting .0) ⌝ }
+        × Free slot (2 + left + p .foresight .0 * g .nesting .0) ⌝ }
     ensures { λ r. ⌜ Answers (now (pack .entry)) (now (places .entry)) p slot (now (work .entry))
         (now (work .exit)) r
-        (λ th s. AboveBy th (p .foresight .0) (g .nesting .0) (g .who) (g .base) (suc (g .left)) x s) ⌝ }
+        (λ th s. AboveBy th (p .foresight .0) (g .nesting .0) (g .who) (g .base) (suc left) x s) ⌝ }
 {
     let nesting = g.nesting;
     let deed = Deed {
@@ -225,7 +218,7 @@ pub fn via(
     if number != 0 {
         return false;
     }
-    extends(pack, places, p, work, slot + SLOT, g)
+    extends(pack, places, p, work, slot + SLOT, g, left)
 }
 
 // Whether the deed's action is explained to each of its consenters other than the one whose deed it is.

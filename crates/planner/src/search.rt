@@ -66,8 +66,8 @@ pub struct Ended {
     pub after: usize,
 }
 
-// The author's utility at the end of the earliest list of exactly so many actions as are left to the goal, from the
-// state in the slot behind `done` others, that ends above base; the list is put down from `done` on. Or 0.
+// The author's utility at the end of the earliest list of exactly `left` actions, from the state in the slot behind
+// `done` others, that leads to a goal; the list is put down from `done` on. Or 0.
 pub fn completes(
     pack: &[u8],
     places: &[u16],
@@ -76,35 +76,28 @@ pub fn completes(
     list: &mut [u8],
     done: usize,
     g: Goal,
+    left: usize,
 ) -> usize
-    requires { ⌜ Underway (g .nesting .0) (g .base) (now pack) (now places) p (now work) done (g .left)
+    requires { ⌜ Underway (g .nesting .0) (g .base) (now pack) (now places) p (now work) done left
         × (0 < p .foresight .0) × (p .foresight .0 ≤ 6)
-        × Free (done * slotRoom) (1 + g .left + p .foresight .0 * g .nesting .0)
-        × (done + g .left ≤ length (now list)) ⌝ }
-    ensures { λ r. ⌜ Finds (g .nesting .0) (g .base) (now (pack .entry)) (now (places .entry)) p done (g .left)
+        × Free (done * slotRoom) (1 + left + p .foresight .0 * g .nesting .0)
+        × (done + left ≤ length (now list)) ⌝ }
+    ensures { λ r. ⌜ Finds (g .nesting .0) (g .base) (now (pack .entry)) (now (places .entry)) p done left
         (now (list .entry)) (now (list .exit)) (now (work .entry)) (now (work .exit)) r
         (λ th. Ends th (p .foresight .0) (g .nesting .0) (g .base)) ⌝ }
 {
     let slot = done * SLOT;
-    if g.left == 0 {
+    if left == 0 {
         return ends(pack, places, p, work, slot, g.base);
     }
     if repeats(work, p, slot, done) {
         return 0;
     }
-    let key = goal_key(g);
+    let key = goal_key(g, left);
     if recall(work, p, slot, key) == 3 {
         return 0;
     }
-    let nesting = g.nesting;
-    let left = g.left - 1;
-    let rest = Goal {
-        who: g.who,
-        nesting,
-        left,
-        base: g.base,
-    };
-    let after = completes_after(pack, places, p, work, list, done, rest);
+    let after = completes_after(pack, places, p, work, list, done, g, left - 1);
     if after == 0 {
         remember(work, p, slot, 3, key);
     }
@@ -148,12 +141,13 @@ pub fn completes_after(
     list: &mut [u8],
     done: usize,
     g: Goal,
+    left: usize,
 ) -> usize
-    requires { ⌜ Underway (g .nesting .0) (g .base) (now pack) (now places) p (now work) done (suc (g .left))
+    requires { ⌜ Underway (g .nesting .0) (g .base) (now pack) (now places) p (now work) done (suc left)
         × (0 < p .foresight .0) × (p .foresight .0 ≤ 6)
-        × Free (done * slotRoom) (2 + g .left + p .foresight .0 * g .nesting .0)
-        × (done + suc (g .left) ≤ length (now list)) ⌝ }
-    ensures { λ r. ⌜ Finds (g .nesting .0) (g .base) (now (pack .entry)) (now (places .entry)) p done (suc (g .left))
+        × Free (done * slotRoom) (2 + left + p .foresight .0 * g .nesting .0)
+        × (done + suc left ≤ length (now list)) ⌝ }
+    ensures { λ r. ⌜ Finds (g .nesting .0) (g .base) (now (pack .entry)) (now (places .entry)) p done (suc left)
         (now (list .entry)) (now (list .exit)) (now (work .entry)) (now (work .exit)) r
         (λ th. Ends th (p .foresight .0) (g .nesting .0) (g .base)) ⌝ }
 {
@@ -161,12 +155,12 @@ pub fn completes_after(
     let actions = p.actions;
     let hope = Hope {
         whose: 0,
-        left: g.left,
+        left,
         base: g.base,
     };
     let mut x = next_promising(pack, places, p, work, slot, 0, hope);
     while x < actions {
-        let after = completes_by(pack, places, p, work, list, done, x, g);
+        let after = completes_by(pack, places, p, work, list, done, x, g, left);
         if after != 0 {
             return after;
         }
@@ -196,12 +190,13 @@ pub fn completes_by(
     done: usize,
     x: usize,
     g: Goal,
+    left: usize,
 ) -> usize
-    requires { ⌜ Underway (g .nesting .0) (g .base) (now pack) (now places) p (now work) done (suc (g .left))
+    requires { ⌜ Underway (g .nesting .0) (g .base) (now pack) (now places) p (now work) done (suc left)
         × (x < p .actions) × (0 < p .foresight .0) × (p .foresight .0 ≤ 6)
-        × Free (done * slotRoom) (2 + g .left + p .foresight .0 * g .nesting .0)
-        × (done + suc (g .left) ≤ length (now list)) ⌝ }
-    ensures { λ r. ⌜ Finds (g .nesting .0) (g .base) (now (pack .entry)) (now (places .entry)) p done (suc (g .left))
+        × Free (done * slotRoom) (2 + left + p .foresight .0 * g .nesting .0)
+        × (done + suc left ≤ length (now list)) ⌝ }
+    ensures { λ r. ⌜ Finds (g .nesting .0) (g .base) (now (pack .entry)) (now (places .entry)) p done (suc left)
         (now (list .entry)) (now (list .exit)) (now (work .entry)) (now (work .exit)) r
         (λ th. EndsBy th (p .foresight .0) (g .nesting .0) (g .base) x) ⌝ }
 {
@@ -220,15 +215,15 @@ pub fn completes_by(
     if number != 0 {
         return 0;
     }
-    let after = completes(pack, places, p, work, list, done + 1, g);
+    let after = completes(pack, places, p, work, list, done + 1, g, left);
     if after != 0 {
         list[done] = x as u8;
     }
     after
 }
 
-// The shortest list of at least one action, and at most so many as are left to the goal, from the state in the first
-// slot; and of those the earliest. Lists are looked for by their length: one, two, and so on.
+// The shortest list of 1 to `most` actions from the state in the first slot that leads to a goal, and of those the
+// earliest. Lists are looked for by their length: one, two, and so on.
 pub fn deepen(
     pack: &[u8],
     places: &[u16],
@@ -236,22 +231,16 @@ pub fn deepen(
     work: &mut [u8],
     list: &mut [u8],
     g: Goal,
+    most: usize,
 ) -> Ended
     requires { ⌜ Outset (g .base) (now pack) (now places) p (now work) × (0 < p .foresight .0)
-        × (p .foresight .0 ≤ 6) × (g .nesting .0 ≤ 3) × (g .left ≤ 8) × (8 ≤ length (now list)) ⌝ }
-    ensures { λ r. ⌜ ShortestFrom (g .left) (g .nesting .0) (g .base) (now (pack .entry)) (now (places .entry)) p
+        × (p .foresight .0 ≤ 6) × (g .nesting .0 ≤ 3) × (most ≤ 8) × (8 ≤ length (now list)) ⌝ }
+    ensures { λ r. ⌜ ShortestFrom most (g .nesting .0) (g .base) (now (pack .entry)) (now (places .entry)) p
         (now (list .entry)) (now (list .exit)) (now (work .entry)) (now (work .exit)) r ⌝ }
 {
     let mut n = 1;
-    while n <= g.left {
-        let nesting = g.nesting;
-        let of_n = Goal {
-            who: g.who,
-            nesting,
-            left: n,
-            base: g.base,
-        };
-        let after = completes(pack, places, p, work, list, 0, of_n);
+    while n <= most {
+        let after = completes(pack, places, p, work, list, 0, g, n);
         if after != 0 {
             return Ended { count: n, after };
         }
@@ -299,10 +288,9 @@ pub fn search_nodes(
     let goal = Goal {
         who: AUTHOR,
         nesting: e,
-        left: s.0,
         base,
     };
-    let found = deepen(pack, places, p, work, list, goal);
+    let found = deepen(pack, places, p, work, list, goal, s.0);
     clear(work, 0, WORK_ROOM);
     if found.count == 0 {
         return Found::Refused(NO_ENDING, 0);

@@ -66,9 +66,9 @@ pub record StepFact (p : Theory) (h : Context) (work : List ℕ) (n root a next 
       × ((s : State) × Plays p (table.stateOf (keptTable h work n) work root) a s
       × Starts (h .characters) s (table.tableOf (keptTable h work next) work))
 
--- what is known of a goal, and of a deed, is found by these
-abbrev pub goalKey : Goal → Key
-goalKey g = record { who = g .who; nesting = g .nesting .0; number = g .left; base = g .base }
+-- what is known of the lists of so many actions to a goal, and of a deed, is found by these
+abbrev pub goalKey : Goal → ℕ → Key
+goalKey g left = record { who = g .who; nesting = g .nesting .0; number = left; base = g .base }
 
 abbrev pub deedKey : Deed → Key
 deedKey d = record { who = d .who; nesting = d .nesting .0; number = d .action; base = 0 }

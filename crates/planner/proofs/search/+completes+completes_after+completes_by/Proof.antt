@@ -43,13 +43,13 @@ use Rattle.planner.proofs.search.+completes+completes_after+completes_b
 use Rattle.planner.proofs.search.+completes+completes_after+completes_by.Tie.{close}
 
 abbrev μ-completes : Measures 4 completes-kinds.ps ℕ
-μ-completes κs a = 3 * a .1 .1 .1 .1 .1 .1 .0 .left
+μ-completes κs a = 3 * a .1 .1 .1 .1 .1 .1 .1 .0
 
 abbrev μ-completes-after : Measures 4 completes-after-kinds.ps ℕ
-μ-completes-after κs a = 3 * a .1 .1 .1 .1 .1 .1 .0 .left + 2
+μ-completes-after κs a = 3 * a .1 .1 .1 .1 .1 .1 .1 .0 + 2
 
 abbrev μ-completes-by : Measures 4 completes-by-kinds.ps ℕ
-μ-completes-by κs a = 3 * a .1 .1 .1 .1 .1 .1 .1 .0 .left + 1
+μ-completes-by κs a = 3 * a .1 .1 .1 .1 .1 .1 .1 .1 .0 + 1
 
 abbrev completes-at : ℕ → In 4 completes-kinds.ps
 completes-at t = and 4 completes-kinds.ps (is 4 completes-kinds.ps μ-completes t) completes.Pre
@@ -100,7 +100,7 @@ completes-mul-slot t c = omega (arith, c .before .before .before .before .pre .1
 
 completes-ends-requires : (t : ℕ) → completes-lts.Need-ends-requires (completes-calls t) (completes-at t) completes.Post
 completes-ends-requires t c κs =
-    let start = c .before .before .before .before .before .before .before in
+    let start = c .before .before .before .before .before .before in
     let P = start .pre .1 in
     let (th, (T, (y, mem, trail))) = P .0 in
     ((th, (T, y)), omega (arith, P .3))
@@ -111,16 +111,16 @@ completes-same-length t c = search needs
 completes-returns : (t : ℕ) → completes-lts.Need-returns (completes-calls t) (completes-at t) completes.Post
 completes-returns t c =
     let at-if1 = c .before .before in
-    let start = at-if1 .before .before .before .before .before .before in
+    let start = at-if1 .before .before .before .before .before in
     let a = start .args in
-    let none : 0 ≡ a .g .left = omega (arith, at-if1 .if1 .taken) in
+    let none : 0 ≡ a .left = omega (arith, at-if1 .if1 .taken) in
     λ th T y mem trail.
     let e = c .ends .ensures th T y in
     best-same none (best-end th (a .p .foresight .0) (a .g .nesting .0) (a .g .base) (meaning (a .p .characters) T 0) (a .list .now) (a .work .now) mem (e .0) (e .1))
 
 completes-repeats-requires : (t : ℕ) → completes-lts.Need-repeats-requires (completes-calls t) (completes-at t) completes.Post
 completes-repeats-requires t c κs =
-    let start = c .before .before .before .before .before .before .before in
+    let start = c .before .before .before .before .before .before in
     let P = start .pre .1 in
     let (th, (T, (y, mem, trail))) = P .0 in
     (stage-before y (omega (arith, P .3)), refl, trail .written)
@@ -130,7 +130,7 @@ completes-same-length-2 t c = search needs
 
 completes-returns-2 : (t : ℕ) → completes-lts.Need-returns-2 (completes-calls t) (completes-at t) completes.Post
 completes-returns-2 t c =
-    let start = c .before .before .before .before .before .before .before .before .before in
+    let start = c .before .before .before .before .before .before .before .before in
     let a = start .args in
     let again = c .before .repeats .ensures .0 (c .if2 .taken) in
     λ th T y mem trail. best-none _ (λ q l. refl) (λ q l. refl) mem (trail-repeats th (a .p .foresight .0) (a .g .nesting .0) (a .g .base) (meaning (a .p .characters) T 0) (a .done * 961) trail (stage-state y 0) again)
@@ -141,7 +141,7 @@ completes-goal-key-requires t c κs = search needs
 completes-recall-requires : (t : ℕ) → completes-lts.Need-recall-requires (completes-calls t) (completes-at t) completes.Post
 completes-recall-requires t c κs =
     let at-if1 = c .before .before .before .before .before in
-    let start = at-if1 .before .before .before .before .before .before in
+    let start = at-if1 .before .before .before .before .before in
     let P = start .pre .1 in
     let (th, (T, (y, mem, trail))) = P .0 in
     stage-before y (omega (arith, P .3))
@@ -154,7 +154,7 @@ completes-returns-3 t c =
     let at-recall = c .before .before .before in
     let key = at-recall .before .before .goal-key .ensures in
     let at-if1 = at-recall .before .before .before .before .before .before in
-    let start = at-if1 .before .before .before .before .before .before in
+    let start = at-if1 .before .before .before .before .before in
     let P = start .pre .1 in
     let a = start .args in
     let r = at-recall .recall in
@@ -162,35 +162,35 @@ completes-returns-3 t c =
     let (m, fact) = r .ensures .told th (a .p .foresight .0) (a .done * 961 + 961) (omega (arith, P .3)) (y .slotted) mem in
     best-none _ (λ q l. r .ensures .only .low q (omega (arith, l, P .3))) (r .ensures .only .high) m (known y key fact .none (c .if3 .taken))
 
-completes-sub-left : (t : ℕ) → completes-lts.Need-sub-left (completes-calls t) (completes-at t) completes.Post
-completes-sub-left t c =
+completes-sub-completes-after : (t : ℕ) → completes-lts.Need-sub-completes-after (completes-calls t) (completes-at t) completes.Post
+completes-sub-completes-after t c =
     let at-repeats = c .before .before .before .before .before .before .before .before .before in
     let at-if1 = at-repeats .before .before in
     omega (arith, at-if1 .if1 .left)
 
 completes-completes-after-requires : (t : ℕ) → completes-lts.Need-completes-after-requires (completes-calls t) (completes-at t) completes.Post
 completes-completes-after-requires t c κs =
-    let at-recall = c .before .before .before .before .before .before .before in
+    let at-recall = c .before .before .before .before .before in
     let at-if1 = at-recall .before .before .before .before .before .before in
-    let start = at-if1 .before .before .before .before .before .before in
+    let start = at-if1 .before .before .before .before .before in
     let (m, P) = start .pre in
     let a = start .args in
     let (th, (T, (y, mem, trail))) = P .0 in
     let r = at-recall .recall in
-    let up : a .g .left ≡ suc (a .g .left - 1) = omega (arith, at-if1 .if1 .left) in
+    let up : a .left ≡ suc (a .left - 1) = omega (arith, at-if1 .if1 .left) in
     (omega (arith, m, at-if1 .if1 .left), ((th, (T, ((slot-same (a .done * 961) y (λ q l. r .ensures .only .low q (omega (arith, l, P .3))) (r .kept .0)), (r .ensures .told th (a .p .foresight .0) (a .done * 961 + 961) (omega (arith, P .3)) (y .slotted) mem .0), (trail-same th (a .p .foresight .0) (a .g .nesting .0) (a .g .base) (meaning (a .p .characters) T 0) (λ q l. r .ensures .only .low q (omega (arith, l, P .3))) (subst (λ (n : ℕ). Trail th (a .p .foresight .0) (a .g .nesting .0) (a .g .base) (a .p) (a .work .now) (a .done) n (meaning (a .p .characters) T 0)) up trail))))), P .1, P .2, omega (arith, P .3, at-if1 .if1 .left), omega (arith, P .4, at-if1 .if1 .left)))
 
 completes-remember-requires : (t : ℕ) → completes-lts.Need-remember-requires (completes-calls t) (completes-at t) completes.Post
 completes-remember-requires t c κs =
     let at-completes-after = c .before .before .before .before .before .before in
-    let at-recall = at-completes-after .before .before .before .before .before .before .before .before in
+    let at-recall = at-completes-after .before .before .before .before .before .before in
     let at-if1 = at-recall .before .before .before .before .before .before in
-    let start = at-if1 .before .before .before .before .before .before in
+    let start = at-if1 .before .before .before .before .before in
     let P = start .pre .1 in
     let a = start .args in
     let (th, (T, (y, mem, trail))) = P .0 in
     let r = at-recall .recall in
-    let up : a .g .left ≡ suc (a .g .left - 1) = omega (arith, at-if1 .if1 .left) in
+    let up : a .left ≡ suc (a .left - 1) = omega (arith, at-if1 .if1 .left) in
     let d = at-completes-after .completes-after in
     let b = d .ensures th T (slot-same (a .done * 961) y (λ q l. r .ensures .only .low q (omega (arith, l, P .3))) (r .kept .0)) (r .ensures .told th (a .p .foresight .0) (a .done * 961 + 961) (omega (arith, P .3)) (y .slotted) mem .0) (trail-same th (a .p .foresight .0) (a .g .nesting .0) (a .g .base) (meaning (a .p .characters) T 0) (λ q l. r .ensures .only .low q (omega (arith, l, P .3))) (subst (λ (n : ℕ). Trail th (a .p .foresight .0) (a .g .nesting .0) (a .g .base) (a .p) (a .work .now) (a .done) n (meaning (a .p .characters) T 0)) up trail)) in
     stage-before (slot-same (a .done * 961) (slot-same {now = r .last .0} (a .done * 961) y (λ q l. r .ensures .only .low q (omega (arith, l, P .3))) (r .kept .0)) (b .low) (d .kept .1 .1 .1 .0)) (omega (arith, P .3))
@@ -199,7 +199,7 @@ completes-same-length-4 : (t : ℕ) → completes-lts.Need-same-length-4 (comple
 completes-same-length-4 t c =
     let at-remember = c .before .before in
     let at-completes-after = at-remember .before .before .before .before .before .before .before in
-    let at-recall = at-completes-after .before .before .before .before .before .before .before .before in
+    let at-recall = at-completes-after .before .before .before .before .before .before in
     at-remember .remember .kept .0 ∙ at-completes-after .completes-after .kept .1 .1 .1 .0 ∙ at-recall .recall .kept .0
 
 completes-same-length-5 : (t : ℕ) → completes-lts.Need-same-length-5 (completes-calls t) (completes-at t) completes.Post
@@ -213,17 +213,17 @@ completes-returns-4 t c =
     let at-remember = c .before .before in
     let at-if4 = at-remember .before .before in
     let at-completes-after = at-if4 .before .before .before .before .before in
-    let at-recall = at-completes-after .before .before .before .before .before .before .before .before in
+    let at-recall = at-completes-after .before .before .before .before .before .before in
     let key = at-recall .before .before .goal-key .ensures in
     let at-if1 = at-recall .before .before .before .before .before .before in
-    let start = at-if1 .before .before .before .before .before .before in
+    let start = at-if1 .before .before .before .before .before in
     let P = start .pre .1 in
     let a = start .args in
     let r = at-recall .recall in
     let d = at-completes-after .completes-after in
     let rem = at-remember .remember .ensures in
     let zero : d .result ≡ 0 = omega (arith, at-if4 .if4 .taken) in
-    let up : a .g .left ≡ suc (a .g .left - 1) = omega (arith, at-if1 .if1 .left) in
+    let up : a .left ≡ suc (a .left - 1) = omega (arith, at-if1 .if1 .left) in
     λ th T y mem trail.
     let b = best-from (λ q l. r .ensures .only .low q (omega (arith, l, P .3))) (r .ensures .only .high) (best-same (sym up) (d .ensures th T (slot-same (a .done * 961) y (λ q l. r .ensures .only .low q (omega (arith, l, P .3))) (r .kept .0)) (r .ensures .told th (a .p .foresight .0) (a .done * 961 + 961) (omega (arith, P .3)) (y .slotted) mem .0) (trail-same th (a .p .foresight .0) (a .g .nesting .0) (a .g .base) (meaning (a .p .characters) T 0) (λ q l. r .ensures .only .low q (omega (arith, l, P .3))) (subst (λ (n : ℕ). Trail th (a .p .foresight .0) (a .g .nesting .0) (a .g .base) (a .p) (a .work .now) (a .done) n (meaning (a .p .characters) T 0)) up trail)))) in
     let z′ = slot-same (a .done * 961) (slot-same {now = r .last .0} (a .done * 961) y (λ q l. r .ensures .only .low q (omega (arith, l, P .3))) (r .kept .0)) (d .ensures th T (slot-same (a .done * 961) y (λ q l. r .ensures .only .low q (omega (arith, l, P .3))) (r .kept .0)) (r .ensures .told th (a .p .foresight .0) (a .done * 961 + 961) (omega (arith, P .3)) (y .slotted) mem .0) (trail-same th (a .p .foresight .0) (a .g .nesting .0) (a .g .base) (meaning (a .p .characters) T 0) (λ q l. r .ensures .only .low q (omega (arith, l, P .3))) (subst (λ (n : ℕ). Trail th (a .p .foresight .0) (a .g .nesting .0) (a .g .base) (a .p) (a .work .now) (a .done) n (meaning (a .p .characters) T 0)) up trail)) .low) (d .kept .1 .1 .1 .0) in
@@ -232,7 +232,7 @@ completes-returns-4 t c =
 completes-same-length-6 : (t : ℕ) → completes-lts.Need-same-length-6 (completes-calls t) (completes-at t) completes.Post
 completes-same-length-6 t c =
     let at-completes-after = c .before .before .before .before .before in
-    let at-recall = at-completes-after .before .before .before .before .before .before .before .before in
+    let at-recall = at-completes-after .before .before .before .before .before .before in
     at-completes-after .completes-after .kept .1 .1 .1 .0 ∙ at-recall .recall .kept .0
 
 completes-same-length-7 : (t : ℕ) → completes-lts.Need-same-length-7 (completes-calls t) (completes-at t) completes.Post
@@ -243,23 +243,23 @@ completes-same-length-7 t c =
 completes-returns-5 : (t : ℕ) → completes-lts.Need-returns-5 (completes-calls t) (completes-at t) completes.Post
 completes-returns-5 t c =
     let at-completes-after = c .before .before .before .before .before in
-    let at-recall = at-completes-after .before .before .before .before .before .before .before .before in
+    let at-recall = at-completes-after .before .before .before .before .before .before in
     let at-if1 = at-recall .before .before .before .before .before .before in
-    let start = at-if1 .before .before .before .before .before .before in
+    let start = at-if1 .before .before .before .before .before in
     let P = start .pre .1 in
     let a = start .args in
     let r = at-recall .recall in
     let d = at-completes-after .completes-after in
-    let up : a .g .left ≡ suc (a .g .left - 1) = omega (arith, at-if1 .if1 .left) in
+    let up : a .left ≡ suc (a .left - 1) = omega (arith, at-if1 .if1 .left) in
     λ th T y mem trail.
     best-from (λ q l. r .ensures .only .low q (omega (arith, l, P .3))) (r .ensures .only .high) (best-same (sym up) (d .ensures th T (slot-same (a .done * 961) y (λ q l. r .ensures .only .low q (omega (arith, l, P .3))) (r .kept .0)) (r .ensures .told th (a .p .foresight .0) (a .done * 961 + 961) (omega (arith, P .3)) (y .slotted) mem .0) (trail-same th (a .p .foresight .0) (a .g .nesting .0) (a .g .base) (meaning (a .p .characters) T 0) (λ q l. r .ensures .only .low q (omega (arith, l, P .3))) (subst (λ (n : ℕ). Trail th (a .p .foresight .0) (a .g .nesting .0) (a .g .base) (a .p) (a .work .now) (a .done) n (meaning (a .p .characters) T 0)) up trail))))
 
 abbrev completes-after-Inv-loop : completes-after-lts.InvT-loop
-completes-after-Inv-loop pack places p work₀ list₀ done g slot actions hope x₀ work list x = (length work ≡ length work₀) × (list ≡ list₀) × Below work₀ work (done * 961 + 961) × Above work₀ work workRoom
-    × ((th : Theory) (T : List Node) → Stage th T pack places p work₀ (slotTable p work₀ (done * 961)) (done * 961 + 961) → Memory th (p .foresight .0) p (done * 961 + 961) work₀ → Trail th (p .foresight .0) (g .nesting .0) (g .base) p work₀ done (suc (g .left)) (meaning (p .characters) T 0) → Memory th (p .foresight .0) p (done * 961 + 961) work × ((y : ℕ) → y < x → (l : List ℕ) (v : ℕ) → length l ≡ suc (g .left) → ¬ EndsBy th (p .foresight .0) (g .nesting .0) (g .base) y (meaning (p .characters) T 0) l v))
+completes-after-Inv-loop pack places p work₀ list₀ done g left slot actions hope x₀ work list x = (length work ≡ length work₀) × (list ≡ list₀) × Below work₀ work (done * 961 + 961) × Above work₀ work workRoom
+    × ((th : Theory) (T : List Node) → Stage th T pack places p work₀ (slotTable p work₀ (done * 961)) (done * 961 + 961) → Memory th (p .foresight .0) p (done * 961 + 961) work₀ → Trail th (p .foresight .0) (g .nesting .0) (g .base) p work₀ done (suc left) (meaning (p .characters) T 0) → Memory th (p .foresight .0) p (done * 961 + 961) work × ((y : ℕ) → y < x → (l : List ℕ) (v : ℕ) → length l ≡ suc left → ¬ EndsBy th (p .foresight .0) (g .nesting .0) (g .base) y (meaning (p .characters) T 0) l v))
 
 abbrev completes-after-μ-loop : completes-after-lts.MeasureT-loop
-completes-after-μ-loop pack places p work₀ list₀ done g slot actions hope x₀ work list x = p .actions - x
+completes-after-μ-loop pack places p work₀ list₀ done g left slot actions hope x₀ work list x = p .actions - x
 
 completes-after-mul-slot : (t : ℕ) → completes-after-lts.Need-mul-slot (completes-after-calls t) (completes-after-at t) completes-after.Post completes-after-Inv-loop completes-after-μ-loop
 completes-after-mul-slot t c = omega (arith, c .before .before .before .before .pre .1 .3)
@@ -309,7 +309,7 @@ completes-after-returns t c =
     λ th T y mem trail.
     let s = meaning (a .p .characters) T 0 in
     let b = best-first th (a .p .foresight .0) (a .g .nesting .0) (a .g .base) s low high (rest th T y mem trail .1) (omega (arith, c .if1 .taken)) (v .ensures th T (slot-same (a .done * 961) y low long) (rest th T y mem trail .0) (trail-same th (a .p .foresight .0) (a .g .nesting .0) (a .g .base) s (λ q l. low q (omega (arith, l))) trail)) in
-    subst (λ (was : List ℕ). Best (Memory th (a .p .foresight .0) (a .p) (a .done * 961 + 961)) (Ends th (a .p .foresight .0) (a .g .nesting .0) (a .g .base) s) (suc (a .g .left)) was (v .last .1 .1 .1 .1 .0) (a .done) (a .done * 961 + 961) (a .work .now) (v .last .1 .1 .1 .0) (v .result)) same b
+    subst (λ (was : List ℕ). Best (Memory th (a .p .foresight .0) (a .p) (a .done * 961 + 961)) (Ends th (a .p .foresight .0) (a .g .nesting .0) (a .g .base) s) (suc (a .left)) was (v .last .1 .1 .1 .1 .0) (a .done) (a .done * 961 + 961) (a .work .now) (v .last .1 .1 .1 .0) (v .result)) same b
 
 completes-after-add-next-promising : (t : ℕ) → completes-after-lts.Need-add-next-promising (completes-after-calls t) (completes-after-at t) completes-after.Post completes-after-Inv-loop completes-after-μ-loop
 completes-after-add-next-promising t c =
@@ -360,8 +360,8 @@ completes-after-loop-again t c =
           let b = v .ensures th T (slot-same (a .done * 961) y low long) (rest th T y mem trail .0) (trail-same th (a .p .foresight .0) (a .g .nesting .0) (a .g .base) (meaning (a .p .characters) T 0) (λ q l. low q (omega (arith, l))) trail) in
           let z = slot-same (a .done * 961) y (λ q l. b .low q l ∙ low q l) (v .kept .1 .1 .1 .0 ∙ long) in (
             b .memory,
-            below-far (λ x. (l : List ℕ) (w : ℕ) → length l ≡ suc (a .g .left) → ¬ EndsBy th (a .p .foresight .0) (a .g .nesting .0) (a .g .base) x (meaning (a .p .characters) T 0) l w)
-                (below-more (λ x. (l : List ℕ) (w : ℕ) → length l ≡ suc (a .g .left) → ¬ EndsBy th (a .p .foresight .0) (a .g .nesting .0) (a .g .base) x (meaning (a .p .characters) T 0) l w) (at-loop .loop .x) (rest th T y mem trail .1) (b .none zero .1))
+            below-far (λ x. (l : List ℕ) (w : ℕ) → length l ≡ suc (a .left) → ¬ EndsBy th (a .p .foresight .0) (a .g .nesting .0) (a .g .base) x (meaning (a .p .characters) T 0) l w)
+                (below-more (λ x. (l : List ℕ) (w : ℕ) → length l ≡ suc (a .left) → ¬ EndsBy th (a .p .foresight .0) (a .g .nesting .0) (a .g .base) x (meaning (a .p .characters) T 0) l w) (at-loop .loop .x) (rest th T y mem trail .1) (b .none zero .1))
                 (λ j f l. best-hopeless th (a .p .foresight .0) (a .g .nesting .0) (a .g .base) (meaning (a .p .characters) T 0) j (stage-skipped z (omega (arith, P .3)) (c .next-promising2 .ensures) j f l)),
           ),
     )
@@ -380,7 +380,7 @@ completes-after-returns-2 t c =
     let (long, same, low, high, rest) = at-loop .loop .inv in
     λ th T y mem trail.
     let s = meaning (a .p .characters) T 0 in
-    subst (λ (now : List ℕ). Best (Memory th (a .p .foresight .0) (a .p) (a .done * 961 + 961)) (Ends th (a .p .foresight .0) (a .g .nesting .0) (a .g .base) s) (suc (a .g .left)) (a .list .now) now (a .done) (a .done * 961 + 961) (a .work .now) (at-loop .loop .work) 0) (sym same)
+    subst (λ (now : List ℕ). Best (Memory th (a .p .foresight .0) (a .p) (a .done * 961 + 961)) (Ends th (a .p .foresight .0) (a .g .nesting .0) (a .g .base) s) (suc (a .left)) (a .list .now) now (a .done) (a .done * 961 + 961) (a .work .now) (at-loop .loop .work) 0) (sym same)
     (best-none (a .list .now) low high (rest th T y mem trail .0) (best-no th (a .p .foresight .0) (a .g .nesting .0) (a .g .base) s (λ x g. rest th T y mem trail .1 x (omega (arith, g, y .theorized .found .actions, c .loop-test .left)))))
 
 completes-by-mul-slot : (t : ℕ) → completes-by-lts.Need-mul-slot (completes-by-calls t) (completes-by-at t) completes-by.Post
@@ -581,7 +581,7 @@ pub +completes+completes-after+completes-by-spec : {M : Type 1} → statement M
     (completes-recall-requires t)
     (completes-same-length-3 t)
     (completes-returns-3 t)
-    (completes-sub-left t)
+    (completes-sub-completes-after t)
     (completes-completes-after-requires t)
     (completes-remember-requires t)
     (completes-same-length-4 t)

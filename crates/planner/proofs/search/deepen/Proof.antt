@@ -23,50 +23,50 @@ use Rattle.planner.proofs.search.deepen.Statement.{statement}
 use Rattle.planner.proofs.search.deepen.Tie as tie
 
 abbrev Inv-loop : tie.InvT-loop
-Inv-loop pack places p work₀ list₀ g n₀ work list n =
+Inv-loop pack places p work₀ list₀ g most n₀ work list n =
     (0 < n) × (length work ≡ length work₀) × (list ≡ list₀) × Below work₀ work 961 × Above work₀ work workRoom
     × ((th : Theory) (T : List Node) → Stage th T pack places p work₀ (slotTable p work₀ 0) 961 → Memory th (p .foresight .0) p 961 work₀ → Written (p .characters) T → authorUtility th (meaning (p .characters) T 0) ≤ g .base → Memory th (p .foresight .0) p 961 work × ((l : List ℕ) (v : ℕ) → 0 < length l → length l < n → ¬ Ends th (p .foresight .0) (g .nesting .0) (g .base) (meaning (p .characters) T 0) l v))
 
 abbrev μ-loop : tie.MeasureT-loop
-μ-loop pack places p work₀ list₀ g n₀ work list n = g .left + 1 - n
+μ-loop pack places p work₀ list₀ g most n₀ work list n = most + 1 - n
 
 loop-holds : tie.Need-loop-holds Inv-loop μ-loop
 loop-holds c = (omega arith, refl, refl, λ q l. refl, λ q l. refl, λ th T y mem wr le. (mem, λ l v h k. absurd (omega (arith, h, k))))
 
 completes-requires : tie.Need-completes-requires Inv-loop μ-loop
 completes-requires c κs =
-    let at-if1 = c .before .before .before in
-    let at-loop = at-if1 .before .before in
+    let turn = c .before .before in
+    let at-loop = turn .before in
     let start = at-loop .before .before .before .before .before in
     let P = start .pre in
     let a = start .args in
     let (th, (T, (y, mem, wr, le))) = P .0 in
     let (some, long, same, low, high, rest) = at-loop .loop .inv in
-    let few = at-if1 .if1 .taken in
+    let few = turn .loop-test .taken in
     ((th, (T, (slot-same 0 y low long, rest th T y mem wr le .0, trail-outset (a .p .foresight .0) (a .g .nesting .0) (a .g .base) y low long wr le (rest th T y mem wr le .1)))), P .1, P .2, omega (arith, few, P .4, mul-le-mul-left (a .p .foresight .0) (P .3), mul-le-mul-right 3 (P .2)), omega (arith, few, P .4, P .5, ap length same))
 
 returns : tie.Need-returns Inv-loop μ-loop
 returns c =
     let at-completes = c .before .before .before .before .before in
-    let at-if1 = at-completes .before .before .before .before in
-    let at-loop = at-if1 .before .before in
+    let turn = at-completes .before .before .before in
+    let at-loop = turn .before in
     let start = at-loop .before .before .before .before .before in
     let a = start .args in
     let d = at-completes .completes in
     let (some, long, same, low, high, rest) = at-loop .loop .inv in
-    λ th T y mem wr le. subst (λ (was : List ℕ). Shortest (Ends th (a .p .foresight .0) (a .g .nesting .0) (a .g .base) (meaning (a .p .characters) T 0)) (a .g .left) was (d .last .1 .1 .1 .1 .0) (a .work .now) (d .last .1 .1 .1 .0) (record { count = at-loop .loop .n; after = d .result })) same
-    (shortest-found low high some (omega (arith, at-if1 .if1 .taken)) (rest th T y mem wr le .1) (omega (arith, c .if2 .taken)) (d .ensures th T (slot-same 0 y low long) (rest th T y mem wr le .0) (trail-outset (a .p .foresight .0) (a .g .nesting .0) (a .g .base) y low long wr le (rest th T y mem wr le .1))))
+    λ th T y mem wr le. subst (λ (was : List ℕ). Shortest (Ends th (a .p .foresight .0) (a .g .nesting .0) (a .g .base) (meaning (a .p .characters) T 0)) (a .most) was (d .last .1 .1 .1 .1 .0) (a .work .now) (d .last .1 .1 .1 .0) (record { count = at-loop .loop .n; after = d .result })) same
+    (shortest-found low high some (omega (arith, turn .loop-test .taken)) (rest th T y mem wr le .1) (omega (arith, c .if1 .taken)) (d .ensures th T (slot-same 0 y low long) (rest th T y mem wr le .0) (trail-outset (a .p .foresight .0) (a .g .nesting .0) (a .g .base) y low long wr le (rest th T y mem wr le .1))))
 
 loop-again : tie.Need-loop-again Inv-loop μ-loop
 loop-again c =
     let at-completes = c .before .before .before .before .before in
-    let at-loop = at-completes .before .before .before .before .before .before in
+    let at-loop = at-completes .before .before .before .before in
     let start = at-loop .before .before .before .before .before in
     let a = start .args in
     let d = at-completes .completes in
     let (some, long, same, low, high, rest) = at-loop .loop .inv in
     let (th, (T, (y, mem, wr, le))) = start .pre .0 in
-    let zero : d .result ≡ 0 = omega (arith, c .if2 .left) in
+    let zero : d .result ≡ 0 = omega (arith, c .if1 .left) in
     let b = d .ensures th T (slot-same 0 y low long) (rest th T y mem wr le .0) (trail-outset (a .p .foresight .0) (a .g .nesting .0) (a .g .base) y low long wr le (rest th T y mem wr le .1)) in (
       omega arith,
       d .kept .1 .1 .1 .0 ∙ long,
@@ -78,36 +78,36 @@ loop-again c =
 
 returns-2 : tie.Need-returns-2 Inv-loop μ-loop
 returns-2 c =
-    let at-loop = c .before .before in
+    let at-loop = c .before in
     let (some, long, same, low, high, rest) = at-loop .loop .inv in
-    λ th T y mem wr le. shortest-none low high (omega (arith, c .if1 .left)) same (rest th T y mem wr le .1)
+    λ th T y mem wr le. shortest-none low high (omega (arith, c .loop-test .left)) same (rest th T y mem wr le .1)
 
 same-length : tie.Need-same-length Inv-loop μ-loop
 same-length c =
     let at-completes = c .before .before .before .before .before in
-    let at-loop = at-completes .before .before .before .before .before .before in
+    let at-loop = at-completes .before .before .before .before in
     at-completes .completes .kept .1 .1 .1 .0 ∙ at-loop .loop .inv .1
 
 same-length-2 : tie.Need-same-length-2 Inv-loop μ-loop
 same-length-2 c =
     let at-completes = c .before .before .before .before .before in
-    let at-loop = at-completes .before .before .before .before .before .before in
+    let at-loop = at-completes .before .before .before .before in
     at-completes .completes .kept .1 .1 .1 .1 .0 ∙ ap length (at-loop .loop .inv .2)
 
 add-n : tie.Need-add-n Inv-loop μ-loop
 add-n c =
-    let at-if1 = c .before .before .before .before .before .before .before .before .before in
-    let start = at-if1 .before .before .before .before .before .before .before in
-    omega (arith, at-if1 .if1 .taken, start .pre .4)
+    let turn = c .before .before .before .before .before .before .before .before in
+    let start = turn .before .before .before .before .before .before in
+    omega (arith, turn .loop-test .taken, start .pre .4)
 
 same-length-3 : tie.Need-same-length-3 Inv-loop μ-loop
 same-length-3 c =
-    let at-loop = c .before .before in
+    let at-loop = c .before in
     at-loop .loop .inv .1
 
 same-length-4 : tie.Need-same-length-4 Inv-loop μ-loop
 same-length-4 c =
-    let at-loop = c .before .before in
+    let at-loop = c .before in
     ap length (at-loop .loop .inv .2)
 
 pub deepen-spec : {M : Type 1} → statement M
