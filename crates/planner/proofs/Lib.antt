@@ -2,6 +2,7 @@
 pub mod TrueMemory
 pub mod Explanations
 pub mod Pruning
+pub mod Reckoning
 pub mod Bounds
 pub mod ExplainedCall
 pub mod StartSlot

@@ -6,9 +6,9 @@ use mathlib.Core.List.{List, [], _∷_}
 use native.Mathlib.Decide.{decLt}
 use native.Mathlib.Omega.{arith}
 use lib.ListN.{length, getD}
-use lib.Dec.{eqb, ltb}
+use lib.Dec.{ltb, leb}
 use borrow.Author.Count.{below-more}
-use borrow.Author.Tests.{eq-eqb, ne-eqb, lt-ltb, le-ltb}
+use borrow.Author.Tests.{lt-ltb, le-ltb, le-leb, lt-leb}
 use Rattle.pack.specs.Syntax.{Effect, Trigger, Test, Condition, Rule, Node, Theory}
 use Rattle.pack.specs.State.{State, meaning}
 use Rattle.pack.specs.Reading.{Reading, done, Reader, pick}
@@ -24,14 +24,16 @@ use Rattle.pack.specs.declared.table.Table.{Table}
 use Rattle.pack.specs.Laws.Judged.{Left, Next, left-start, left-one, left-next, left-last, left-none, counted-starts, RuleParts, rule-parts}
 use Rattle.pack.specs.Laws.OneByte.{test-bytes}
 use Rattle.pack.specs.Laws.Rows.{upto-length, rows-at, value-at, cell-in}
-use Rattle.transition.specs.Happening.{nothing, act, actionOf, Plays}
+use Rattle.transition.specs.Happening.{nothing, actionOf, Plays}
 use Rattle.transition.specs.Contracts.Play.{Theorized}
 use Rattle.transition.specs.Laws.ChangedRows as changing
-use Rattle.transition.specs.Laws.Still.{writes, triggerWrites, plays-acted, acted-left, couldAt, couldPass, couldAll, couldHold, couldExceed, no-exceed}
+use Rattle.transition.specs.Laws.Still.{writes, triggerWrites}
+use Rattle.planner.specs.Inner.Reach.{someBelow, none-below, some-below, metBy, couldAt, couldPass, couldAll, couldHold, couldExceed, no-exceed, start-barred, play-barred}
 use Rattle.planner.specs.declared.limits.Context.{Context}
 use Rattle.planner.specs.Inner.Lists.{slotTable}
 use Rattle.planner.specs.Inner.Explain.{Stage}
-use Rattle.planner.specs.Inner.Look.{Triggered, Moved, Looking, Lookable, Looked, Tryable, Hopeless, Trying, Skipped}
+use Rattle.planner.specs.declared.prune.Course.{Course}
+use Rattle.planner.specs.Inner.Look.{Triggered, Moved, marked, among, Casting, Cast, Brought, Looking, Lookable, Looked, Trial, Tryable, Hopeless, Trying, Skipped}
 
 -- flags
 pub unequal : true ≡ false → ⊥
@@ -150,39 +152,39 @@ module _ (pack places : List ℕ) (triggers fluent : ℕ) where
   all-still h u p n x = sym (triggers-still (p .triggers) fluent (λ j l. u p n x j (omega (arith, x .found .triggers))))
 
 -- What could pass, hold and exceed, by one more
-module _ (m : ℕ → Bool) (s : State) where
-  pub all-none : couldAll m s [] ≡ true
+module _ (may : Test → Bool) where
+  pub all-none : couldAll may [] ≡ true
   unfolding couldAll
   all-none = refl
 
-  pub all-by : (x : Test) (rest : List Test) {b c : Bool} → b ≡ couldPass m s x → b ≡ c → couldAll m s (x ∷ rest) ≡ (c && couldAll m s rest)
+  pub all-by : (x : Test) (rest : List Test) {b c : Bool} → b ≡ may x → b ≡ c → couldAll may (x ∷ rest) ≡ (c && couldAll may rest)
   unfolding couldAll
-  all-by x rest q e = ap (λ (b : Bool). b && couldAll m s rest) (sym q ∙ e)
+  all-by x rest q e = ap (λ (b : Bool). b && couldAll may rest) (sym q ∙ e)
 
-  pub some-none : couldHold m s [] ≡ false
+  pub some-none : couldHold may [] ≡ false
   unfolding couldHold
   some-none = refl
 
-  pub some-by : (x : List Test) (rest : Condition) {b c : Bool} → b ≡ couldAll m s x → b ≡ c → couldHold m s (x ∷ rest) ≡ (c || couldHold m s rest)
+  pub some-by : (x : List Test) (rest : Condition) {b c : Bool} → b ≡ couldAll may x → b ≡ c → couldHold may (x ∷ rest) ≡ (c || couldHold may rest)
   unfolding couldHold
-  some-by x rest q e = ap (λ (b : Bool). b || couldHold m s rest) (sym q ∙ e)
+  some-by x rest q e = ap (λ (b : Bool). b || couldHold may rest) (sym q ∙ e)
 
-  pub exceed-none : (base : ℕ) → couldExceed m s base [] ≡ false
+  pub exceed-none : (base : ℕ) → couldExceed may base [] ≡ false
   unfolding couldExceed
   exceed-none base = refl
 
   module _ (base : ℕ) (x : Rule) (rest : List Rule) where
-    pub exceed-by : base < x .utility → {b c : Bool} → b ≡ couldHold m s (x .condition) → b ≡ c → couldExceed m s base (x ∷ rest) ≡ (c || couldExceed m s base rest)
+    pub exceed-by : base < x .utility → {b c : Bool} → b ≡ couldHold may (x .condition) → b ≡ c → couldExceed may base (x ∷ rest) ≡ (c || couldExceed may base rest)
     unfolding couldExceed
-    exceed-by l q e = ap (λ (b : Bool). (b && couldHold m s (x .condition)) || couldExceed m s base rest) (lt-ltb base (x .utility) l) ∙ ap (λ (b : Bool). b || couldExceed m s base rest) (sym q ∙ e)
+    exceed-by l q e = ap (λ (b : Bool). (b && couldHold may (x .condition)) || couldExceed may base rest) (lt-ltb base (x .utility) l) ∙ ap (λ (b : Bool). b || couldExceed may base rest) (sym q ∙ e)
 
-    pub exceed-not : {b : Bool} → b ≡ couldHold m s (x .condition) → b ≡ false → couldExceed m s base (x ∷ rest) ≡ couldExceed m s base rest
+    pub exceed-not : {b : Bool} → b ≡ couldHold may (x .condition) → b ≡ false → couldExceed may base (x ∷ rest) ≡ couldExceed may base rest
     unfolding couldExceed
-    exceed-not q e = ap (λ (b : Bool). (ltb base (x .utility) && b) || couldExceed m s base rest) (sym q ∙ e) ∙ ap (λ (b : Bool). b || couldExceed m s base rest) (never-both (ltb base (x .utility)))
+    exceed-not q e = ap (λ (b : Bool). (ltb base (x .utility) && b) || couldExceed may base rest) (sym q ∙ e) ∙ ap (λ (b : Bool). b || couldExceed may base rest) (never-both (ltb base (x .utility)))
 
-    pub exceed-low : x .utility ≤ base → couldExceed m s base (x ∷ rest) ≡ couldExceed m s base rest
+    pub exceed-low : x .utility ≤ base → couldExceed may base (x ∷ rest) ≡ couldExceed may base rest
     unfolding couldExceed
-    exceed-low l = ap (λ (b : Bool). (b && couldHold m s (x .condition)) || couldExceed m s base rest) (le-ltb base (x .utility) l)
+    exceed-low l = ap (λ (b : Bool). (b && couldHold may (x .condition)) || couldExceed may base rest) (le-ltb base (x .utility) l)
 
 -- a rule: its condition, and its number behind it
 module _ (pack : List ℕ) (n : ℕ) (p : Theory) (v : Rule) (g : Gives (ruleAt (dimensions p)) pack n v) where
@@ -202,186 +204,243 @@ module _ (t : Table) (work : List ℕ) (some : 0 < t .nodes) {f : ℕ} (below : 
   unfolding meaning rowAt cells
   own-there = omega (arith, below, ap (λ (x : Node). length (x .values)) (rows-at work (t .width) (t .fluents) (t .characters) (t .rows) (t .nodes) 0 some), upto-length (λ i. getD work ((t .rows + 0 * t .width) + i) 0) (t .fluents))
 
+-- The actions of a course
+module _ {p : Theory} {pack places : List ℕ} {c : Course} {ahead : List ℕ} (x : Casting p pack places c ahead) where
+  pub cast-few : (c .to ≤ 32) × (327 ≤ length places)
+  cast-few = (omega (arith, x .there, x .theorized .found .mostActions), x .theorized .marked)
+
+  cast-gives : (a : ℕ) → a < c .to → Gives (effectsAt (dimensions p)) pack (getD places (9 * a + 1) 0) (actionOf p a .effects)
+  cast-gives a l = x .theorized .found .action a (omega (arith, l, x .there)) nothing .effects
+
+  pub cast-effects : (a : ℕ) → a < c .to → Readable effectsAt pack (getD places (9 * a + 1) 0)
+  cast-effects a l = let g = cast-gives a l in record { over = dimensions p; small = x .theorized .small; value = actionOf p a .effects; end = g .end; reads = g .reads }
+
+-- those of them below i leave no value that the test is met by
+module _ (pack places : List ℕ) (c : Course) (ahead : List ℕ) (at fluent value : ℕ) where
+  abbrev One : Theory → Test → ℕ → Bool
+  One p x a = among c ahead a && metBy x (leftOf fluent (actionOf p a .effects) value)
+
+  abbrev pub Unbrought : ℕ → Type 0
+  Unbrought i = (p : Theory) → Casting p pack places c ahead → (x : Test) → Gives (testAt (dimensions p)) pack at x → (j : ℕ) → j < i → One p x j ≡ false
+
+  pub unbrought-start : Unbrought (c .from)
+  unbrought-start p y x g j l = ap (λ (b : Bool). (b && marked (getD ahead j 0) (c .within)) && metBy x (leftOf fluent (actionOf p j .effects) value)) (lt-leb (c .from) j l)
+
+  pub brought-none : {i : ℕ} → c .to ≤ i → Unbrought i → Brought pack places c ahead at fluent value false
+  brought-none h u p y x g = sym (none-below (One p x) (c .to) (λ j l. u p y x g j (omega (arith, l, h))))
+
+  module _ (i : ℕ) (from : c .from ≤ i) (to : i < c .to) where
+    one-is : (p : Theory) (x : Test) {b : Bool} → b ≡ marked (getD ahead i 0) (c .within) → One p x i ≡ (b && metBy x (leftOf fluent (actionOf p i .effects) value))
+    one-is p x q = ap (λ (b : Bool). (b && marked (getD ahead i 0) (c .within)) && metBy x (leftOf fluent (actionOf p i .effects) value)) (le-leb (c .from) i from) ∙ ap (λ (b : Bool). b && metBy x (leftOf fluent (actionOf p i .effects) value)) (sym q)
+
+    pub unbrought-unmarked : {b : Bool} → b ≡ marked (getD ahead i 0) (c .within) → b ≡ false → Unbrought i → Unbrought (i + 1)
+    unbrought-unmarked q e u p y x g = below-more (λ (j : ℕ). One p x j ≡ false) i (u p y x g) (one-is p x q ∙ ap (λ (b : Bool). b && metBy x (leftOf fluent (actionOf p i .effects) value)) e)
+
+    module _ {b : Bool} (q : b ≡ marked (getD ahead i 0) (c .within)) (e : b ≡ true) {w : ℕ} (leaves : Tells effectsAt (λ (es : List Effect). leftOf fluent es value) pack (getD places (9 * i + 1) 0) w) {r : Bool} (met : Tells testAt (λ (x : Test). compares (x .kind) w (x .value)) pack at r) where
+      told-met : (p : Theory) → Casting p pack places c ahead → (x : Test) → Gives (testAt (dimensions p)) pack at x → One p x i ≡ r
+      told-met p y x g =
+          let h = cast-gives y i to in
+          one-is p x q ∙ ap (λ (b : Bool). b && metBy x (leftOf fluent (actionOf p i .effects) value)) e
+          ∙ ap (metBy x) (sym (leaves (dimensions p) (y .theorized .small) (actionOf p i .effects) (h .end) (h .reads)))
+          ∙ sym (met (dimensions p) (y .theorized .small) x (g .end) (g .reads))
+
+      pub unbrought-unmet : r ≡ false → Unbrought i → Unbrought (i + 1)
+      unbrought-unmet f u p y x g = below-more (λ (j : ℕ). One p x j ≡ false) i (u p y x g) (told-met p y x g ∙ f)
+
+      pub brought-one : r ≡ true → Brought pack places c ahead at fluent value true
+      brought-one f p y x g = sym (some-below (One p x) (c .to) i to (told-met p y x g ∙ f))
+
 -- A test, an alternative, a condition, rules
-module _ (pack places : List ℕ) (triggers a : ℕ) (work : List ℕ) (t : Table) where
+module _ (pack places : List ℕ) (c : Course) (ahead work : List ℕ) (t : Table) where
   abbrev Seen : Type 0
-  Seen = (p : Theory) × Looking p pack places triggers a work t
+  Seen = (p : Theory) × Looking p pack places c ahead work t
 
   abbrev S : State
   S = stateOf t work 0
 
-  -- what triggers write is open; the state is the one that the action makes
-  abbrev Open : Theory → ℕ → Bool
-  Open p = triggerWrites (p .triggers)
-
-  abbrev Made : Theory → State
-  Made p = act (actionOf p a) S
+  -- what could pass after some of the actions
+  abbrev May : Theory → Test → Bool
+  May p = couldPass p (among c ahead) (c .to) S
 
   abbrev pub testRun : Run Test Seen
-  testRun = record { part = λ k. testAt (dimensions (k .0)); limit = 9; tells = λ k. couldAll (Open (k .0)) (Made (k .0)) }
+  testRun = record { part = λ k. testAt (dimensions (k .0)); limit = 9; tells = λ k. couldAll (May (k .0)) }
 
   abbrev pub alternativeRun : Run (List Test) Seen
-  alternativeRun = record { part = λ k. alternativeAt (dimensions (k .0)); limit = 9; tells = λ k. couldHold (Open (k .0)) (Made (k .0)) }
+  alternativeRun = record { part = λ k. alternativeAt (dimensions (k .0)); limit = 9; tells = λ k. couldHold (May (k .0)) }
 
   abbrev pub ruleRun : ℕ → Run Rule Seen
-  ruleRun base = record { part = λ k. ruleAt (dimensions (k .0)); limit = 9; tells = λ k. couldExceed (Open (k .0)) (Made (k .0)) base }
+  ruleRun base = record { part = λ k. ruleAt (dimensions (k .0)); limit = 9; tells = λ k. couldExceed (May (k .0)) base }
 
-  small : {p : Theory} → Looking p pack places triggers a work t → Small (dimensions p)
-  small x = x .acting .theorized .small
+  small : {p : Theory} → Looking p pack places c ahead work t → Small (dimensions p)
+  small x = x .casting .theorized .small
 
-  pub look-triggered : {A : Type 0} {part : Dimensions → Reader A} {at : ℕ} → Lookable part pack places triggers a at work t → Triggered pack places triggers
-  look-triggered x = (x .theory, (x .looking .acting .actions, x .looking .acting .theorized))
+  pub look-triggered : {A : Type 0} {part : Dimensions → Reader A} {at : ℕ} → Lookable part pack places c ahead at work t → Triggered pack places (c .triggers)
+  look-triggered x = (x .theory, (x .looking .casting .actions, x .looking .casting .theorized))
 
-  -- the action's effects
-  own-effects : {p : Theory} → Looking p pack places triggers a work t → Gives (effectsAt (dimensions p)) pack (getD places (9 * a + 1) 0) (actionOf p a .effects)
-  own-effects x = x .acting .theorized .found .action a (x .acting .there) nothing .effects
-
-  pub look-few : {A : Type 0} {part : Dimensions → Reader A} {at : ℕ} → Lookable part pack places triggers a at work t → (a < 32) × (327 ≤ length places)
-  look-few x = let y = x .looking .acting in (omega (arith, y .there, y .theorized .found .mostActions), y .theorized .marked)
-
-  pub look-effects : {A : Type 0} {part : Dimensions → Reader A} {at : ℕ} → Lookable part pack places triggers a at work t → Readable effectsAt pack (getD places (9 * a + 1) 0)
-  look-effects x = let g = own-effects (x .looking) in record { over = dimensions (x .theory); small = small (x .looking); value = actionOf (x .theory) a .effects; end = g .end; reads = g .reads }
+  pub look-cast : {A : Type 0} {part : Dimensions → Reader A} {at : ℕ} → Lookable part pack places c ahead at work t → Cast pack places c ahead
+  look-cast x = (x .theory, x .looking .casting)
 
   -- a test
   module _ (n : ℕ) where
-    pub test-there : Lookable testAt pack places triggers a n work t → Readable testAt pack n
+    pub test-there : Lookable testAt pack places c ahead n work t → Readable testAt pack n
     test-there x = record { over = dimensions (x .theory); small = small (x .looking); value = x .value; end = x .stands .end; reads = x .stands .reads }
 
     -- how long its chain is
     module _ {k : ℕ} (chain : Tells testAt (λ (x : Test). length (x .chain)) pack n k) where
       -- about what is believed
-      pub pass-open : (k ≡ 0 → ⊥) → Looked testAt couldPass pack places triggers a n work t true
+      pub pass-open : (k ≡ 0 → ⊥) → Looked testAt (λ (may : Test → Bool). may) pack places c ahead n work t true
       unfolding couldAt
       pass-open z p x v g = sym (go (v .chain) (chain (dimensions p) (small x) v (g .end) (g .reads)))
         where
-          go : (ch : List ℕ) → k ≡ length ch → couldAt (Open p) (Made p) ch v ≡ true
+          go : (ch : List ℕ) → k ≡ length ch → couldAt p (among c ahead) (c .to) S ch v ≡ true
           go [] e = absurd (z e)
-          go (c ∷ ch) e = refl
+          go (d ∷ ch) e = refl
 
-      -- about the state itself: what the action leaves of its fluent
+      -- about the state itself
       module _ (z : k ≡ 0) {f : ℕ} (fluent : Tells testAt (λ (x : Test). x .fluent) pack n f) where
-        own-is : (p : Theory) → Looking p pack places triggers a work t → (v : Test) → Gives (testAt (dimensions p)) pack n v → couldPass (Open p) (Made p) v ≡ (Open p f || compares (v .kind) (getD (Made p []) f 0) (v .value))
-        unfolding couldAt
-        own-is p x v g =
-            let here = nil (v .chain) (sym (chain (dimensions p) (small x) v (g .end) (g .reads)) ∙ z) in
-            ap (λ (c : List ℕ). couldAt (Open p) (Made p) c v) here
-            ∙ ap (λ (f : ℕ). Open p f || compares (v .kind) (getD (Made p []) f 0) (v .value)) (sym (fluent (dimensions p) (small x) v (g .end) (g .reads)))
-          where
-            nil : (l : List ℕ) → length l ≡ 0 → l ≡ []
-            nil [] e = refl
-            nil (c ∷ l) e = absurd (omega (arith, e))
-
-        by-moved : {r c : Bool} → Moved pack places triggers f r → r ≡ c → (p : Theory) → Looking p pack places triggers a work t → (v : Test) → Gives (testAt (dimensions p)) pack n v → couldPass (Open p) (Made p) v ≡ (c || compares (v .kind) (getD (Made p []) f 0) (v .value))
-        by-moved m r p x v g = own-is p x v g ∙ ap (λ (b : Bool). b || compares (v .kind) (getD (Made p []) f 0) (v .value)) (sym (m p (x .acting .actions) (x .acting .theorized)) ∙ r)
-
-        pub pass-moved : {r : Bool} → Moved pack places triggers f r → r ≡ true → Looked testAt couldPass pack places triggers a n work t true
-        pass-moved m r p x v g = sym (by-moved m r p x v g)
-
         -- its fluent is one of the state's
-        own-fluent : (p : Theory) → Looking p pack places triggers a work t → (v : Test) → Gives (testAt (dimensions p)) pack n v → f < t .fluents
+        own-fluent : (p : Theory) → Looking p pack places c ahead work t → (v : Test) → Gives (testAt (dimensions p)) pack n v → f < t .fluents
         own-fluent p x v g =
             let b = test-bytes (dimensions p) (small x) pack n v (g .end) (g .reads) in
             omega (arith, fluent (dimensions p) (small x) v (g .end) (g .reads), b .fluent, b .below, x .over .fluents)
 
-        pub own-cell : Lookable testAt pack places triggers a n work t → t .rows + f < length work
+        pub own-cell : Lookable testAt pack places c ahead n work t → (t .rows + f < length work) × (t .rows + f < 50000)
         own-cell x =
             let y = x .looking in
             let below = own-fluent (x .theory) y (x .value) (x .stands) in
-            omega (arith, cell-in t work (y .fits) 0 f (y .some) (omega (arith, below, y .fits .wide)))
+            (omega (arith, cell-in t work (y .fits) 0 f (y .some) (omega (arith, below, y .fits .wide))), omega (arith, below, y .over .fluents, small y .fluents, y .low))
 
-        pub pass-left : {w : ℕ} {r b : Bool} → Moved pack places triggers f r → r ≡ false → Tells effectsAt (λ (es : List Effect). leftOf f es (getD work (t .rows + f) 0)) pack (getD places (9 * a + 1) 0) w → Tells testAt (λ (x : Test). compares (x .kind) w (x .value)) pack n b → Looked testAt couldPass pack places triggers a n work t b
-        pass-left {w} m r leaves q p x v g =
-            q (dimensions p) (small x) v (g .end) (g .reads) ∙ ap (λ (w : ℕ). compares (v .kind) w (v .value)) value ∙ sym (by-moved m r p x v g)
+        abbrev Brings : Theory → Test → Bool
+        Brings p v = someBelow (λ a. among c ahead a && metBy v (leftOf f (actionOf p a .effects) (getD work (t .rows + f) 0))) (c .to)
+
+        own-is : (p : Theory) → Looking p pack places c ahead work t → (v : Test) → Gives (testAt (dimensions p)) pack n v → May p v ≡ (metBy v (getD work (t .rows + f) 0) || (Brings p v || triggerWrites (p .triggers) f))
+        unfolding couldAt
+        own-is p x v g =
+            let here = nil (v .chain) (sym (chain (dimensions p) (small x) v (g .end) (g .reads)) ∙ z) in
+            let is = fluent (dimensions p) (small x) v (g .end) (g .reads) in
+            ap (λ (c′ : List ℕ). couldAt p (among c ahead) (c .to) S c′ v) here
+            ∙ ap (λ (f : ℕ). metBy v (getD (S []) f 0) || (someBelow (λ a. among c ahead a && metBy v (leftOf f (actionOf p a .effects) (getD (S []) f 0))) (c .to) || triggerWrites (p .triggers) f)) (sym is)
+            ∙ ap (λ (w : ℕ). metBy v w || (someBelow (λ a. among c ahead a && metBy v (leftOf f (actionOf p a .effects) w)) (c .to) || triggerWrites (p .triggers) f)) (own-value t work (x .some) (own-fluent p x v g))
           where
-            below : f < t .fluents
-            below = own-fluent p x v g
+            nil : (l : List ℕ) → length l ≡ 0 → l ≡ []
+            nil [] e = refl
+            nil (d ∷ l) e = absurd (omega (arith, e))
 
-            value : w ≡ getD (Made p []) f 0
-            value =
-                leaves (dimensions p) (small x) (actionOf p a .effects) (own-effects x .end) (own-effects x .reads)
-                ∙ ap (leftOf f (actionOf p a .effects)) (sym (own-value t work (x .some) below))
-                ∙ sym (acted-left p S a f (own-there t work (x .some) below))
+        module _ {b : Bool} (met : Tells testAt (λ (x : Test). compares (x .kind) (getD work (t .rows + f) 0) (x .value)) pack n b) where
+          met-is : {q : Bool} → b ≡ q → (p : Theory) → Looking p pack places c ahead work t → (v : Test) → Gives (testAt (dimensions p)) pack n v → May p v ≡ (q || (Brings p v || triggerWrites (p .triggers) f))
+          met-is e p x v g = own-is p x v g ∙ ap (λ (b : Bool). b || (Brings p v || triggerWrites (p .triggers) f)) (sym (met (dimensions p) (small x) v (g .end) (g .reads)) ∙ e)
+
+          pub pass-met : b ≡ true → Looked testAt (λ (may : Test → Bool). may) pack places c ahead n work t true
+          pass-met e p x v g = sym (met-is e p x v g)
+
+          module _ (e : b ≡ false) {r : Bool} (brought : Brought pack places c ahead n f (getD work (t .rows + f) 0) r) where
+            brought-is : {q : Bool} → r ≡ q → (p : Theory) → Looking p pack places c ahead work t → (v : Test) → Gives (testAt (dimensions p)) pack n v → May p v ≡ (q || triggerWrites (p .triggers) f)
+            brought-is h p x v g = met-is e p x v g ∙ ap (λ (b : Bool). b || triggerWrites (p .triggers) f) (sym (brought p (x .casting) v g) ∙ h)
+
+            pub pass-brought : r ≡ true → Looked testAt (λ (may : Test → Bool). may) pack places c ahead n work t true
+            pass-brought h p x v g = sym (brought-is h p x v g)
+
+            pub pass-moved : r ≡ false → {m : Bool} → Moved pack places (c .triggers) f m → Looked testAt (λ (may : Test → Bool). may) pack places c ahead n work t m
+            pass-moved h m p x v g = m p (x .casting .actions) (x .casting .theorized) ∙ sym (brought-is h p x v g)
 
     -- where it ends
-    pub test-end : {m : ℕ} → Ends testAt pack n m → (p : Theory) → Looking p pack places triggers a work t → (v : Test) (g : Gives (testAt (dimensions p)) pack n v) → g .end ≡ m
+    pub test-end : {m : ℕ} → Ends testAt pack n m → (p : Theory) → Looking p pack places c ahead work t → (v : Test) (g : Gives (testAt (dimensions p)) pack n v) → g .end ≡ m
     test-end ends p x v g = sym (ends (dimensions p) (small x) v (g .end) (g .reads))
 
   -- a run of parts that can be looked at
   module _ {A : Type 0} (part : Dimensions → Reader A) where
-    pub look-inside : {from : ℕ} → Lookable (λ d. counted 0 9 (part d)) pack places triggers a from work t → from < length pack
+    pub look-inside : {from : ℕ} → Lookable (λ d. counted 0 9 (part d)) pack places c ahead from work t → from < length pack
     look-inside {from} x = counted-starts 9 (part (dimensions (x .theory))) pack from (x .value) (x .stands .end) (omega arith) (x .stands .reads) (getD pack from 0) refl .1
 
-    pub look-next : {tells : Seen → List A → Bool} {from n left : ℕ} → Lookable (λ d. counted 0 9 (part d)) pack places triggers a from work t → Rest (record { part = λ k. part (dimensions (k .0)); limit = 9; tells = tells }) pack from n left → 0 < left → Lookable part pack places triggers a n work t
+    pub look-next : {tells : Seen → List A → Bool} {from n left : ℕ} → Lookable (λ d. counted 0 9 (part d)) pack places c ahead from work t → Rest (record { part = λ k. part (dimensions (k .0)); limit = 9; tells = tells }) pack from n left → 0 < left → Lookable part pack places c ahead n work t
     look-next {tells} {from} x i h =
         let run : Run A Seen = record { part = λ k. part (dimensions (k .0)); limit = 9; tells = tells } in
         record { theory = x .theory; looking = x .looking; value = run-item run pack from i h (x .theory, x .looking) (x .value) (x .stands); stands = run-here run pack from i h (x .theory, x .looking) (x .value) (x .stands) }
 
-  pub look-readable : {A : Type 0} {part : Dimensions → Reader A} {at : ℕ} → Lookable part pack places triggers a at work t → Readable part pack at
+  pub look-readable : {A : Type 0} {part : Dimensions → Reader A} {at : ℕ} → Lookable part pack places c ahead at work t → Readable part pack at
   look-readable x = record { over = dimensions (x .theory); small = small (x .looking); value = x .value; end = x .stands .end; reads = x .stands .reads }
 
   -- a condition is a run of alternatives, rules are one of rules
-  pub condition-parts : {at : ℕ} → Lookable conditionAt pack places triggers a at work t → Lookable (λ d. counted 0 9 (alternativeAt d)) pack places triggers a at work t
+  pub condition-parts : {at : ℕ} → Lookable conditionAt pack places c ahead at work t → Lookable (λ d. counted 0 9 (alternativeAt d)) pack places c ahead at work t
   unfolding conditionAt
   condition-parts x = x
 
-  pub hold-told : {at : ℕ} {b : Bool} → Told alternativeRun pack at b → Looked conditionAt couldHold pack places triggers a at work t b
+  pub hold-told : {at : ℕ} {b : Bool} → Told alternativeRun pack at b → Looked conditionAt couldHold pack places c ahead at work t b
   unfolding conditionAt
   hold-told w p x v g = w (p, x) v g
 
-  pub rules-parts : {at : ℕ} → Lookable rulesAt pack places triggers a at work t → Lookable (λ d. counted 0 9 (ruleAt d)) pack places triggers a at work t
+  pub rules-parts : {at : ℕ} → Lookable rulesAt pack places c ahead at work t → Lookable (λ d. counted 0 9 (ruleAt d)) pack places c ahead at work t
   unfolding rulesAt
   rules-parts x = x
 
-  pub exceed-told : {at : ℕ} (base : ℕ) {b : Bool} → Told (ruleRun base) pack at b → Looked rulesAt (λ (moves : ℕ → Bool) (s : State). couldExceed moves s base) pack places triggers a at work t b
+  pub exceed-told : {at : ℕ} (base : ℕ) {b : Bool} → Told (ruleRun base) pack at b → Looked rulesAt (λ (may : Test → Bool). couldExceed may base) pack places c ahead at work t b
   unfolding rulesAt
   exceed-told base w p x v g = w (p, x) v g
 
   -- the place after an alternative
-  pub alternative-end : {n m : ℕ} → ((d : Dimensions) → Small d → (ts : List Test) (e : ℕ) → alternativeAt d pack n ≡ done ts e → m ≡ e) → (p : Theory) → Looking p pack places triggers a work t → (v : List Test) (g : Gives (alternativeAt (dimensions p)) pack n v) → g .end ≡ m
+  pub alternative-end : {n m : ℕ} → ((d : Dimensions) → Small d → (ts : List Test) (e : ℕ) → alternativeAt d pack n ≡ done ts e → m ≡ e) → (p : Theory) → Looking p pack places c ahead work t → (v : List Test) (g : Gives (alternativeAt (dimensions p)) pack n v) → g .end ≡ m
   alternative-end after p x v g = sym (after (dimensions p) (small x) v (g .end) (g .reads))
 
   -- a rule
   module _ (n : ℕ) where
-    pub rule-look : Lookable ruleAt pack places triggers a n work t → Lookable conditionAt pack places triggers a n work t
+    pub rule-look : Lookable ruleAt pack places c ahead n work t → Lookable conditionAt pack places c ahead n work t
     rule-look x = record { theory = x .theory; looking = x .looking; value = x .value .condition; stands = rule-condition pack n (x .theory) (x .value) (x .stands) }
 
-    pub rule-number : {m : ℕ} {r : Reading ℕ} → ((d : Dimensions) → Small d → (c : Condition) (e : ℕ) → conditionAt d pack n ≡ done c e → m ≡ e) → numberAt pack m ≡ r → (p : Theory) → Looking p pack places triggers a work t → (v : Rule) (g : Gives (ruleAt (dimensions p)) pack n v) → r ≡ done (v .utility) (g .end)
+    pub rule-number : {m : ℕ} {r : Reading ℕ} → ((d : Dimensions) → Small d → (c : Condition) (e : ℕ) → conditionAt d pack n ≡ done c e → m ≡ e) → numberAt pack m ≡ r → (p : Theory) → Looking p pack places c ahead work t → (v : Rule) (g : Gives (ruleAt (dimensions p)) pack n v) → r ≡ done (v .utility) (g .end)
     rule-number after e p x v g = let q = parts pack n p v g in sym e ∙ ap (numberAt pack) (after (dimensions p) (small x) (v .condition) (q .middle) (q .condition)) ∙ q .number
 
-  -- trying the action
-  condition-at : (p : Theory) → Looking p pack places triggers a work t → Gives (conditionAt (dimensions p)) pack (getD places (9 * a) 0) (actionOf p a .condition)
-  condition-at p x = x .acting .theorized .found .action a (x .acting .there) nothing .condition
+-- Trying an action
+module _ (pack places : List ℕ) (triggers a : ℕ) (work : List ℕ) (t : Table) where
+  condition-at : (p : Theory) → Trial p pack places triggers a work t → Gives (conditionAt (dimensions p)) pack (getD places (9 * a) 0) (actionOf p a .condition)
+  condition-at p x = x .theorized .found .action a (x .there) nothing .condition
 
   pub try-judged : {whose : ℕ} → Tryable pack places triggers a work t whose → Judged conditionAt pack (getD places (9 * a) 0) t work 0
-  try-judged x = let g = condition-at (x .theory) (x .looking) in record { table = x .looking .fits; there = x .looking .some; dimensions = dimensions (x .theory); over = x .looking .over; value = actionOf (x .theory) a .condition; end = g .end; reads = g .reads }
+  try-judged x = let g = condition-at (x .theory) (x .trial) in record { table = x .trial .fits; there = x .trial .some; dimensions = dimensions (x .theory); over = x .trial .over; value = actionOf (x .theory) a .condition; end = g .end; reads = g .reads }
 
-  pub try-forbidden : {r : Bool} → ((d : Dimensions) → Over d t → (c : Condition) (n : ℕ) → conditionAt d pack (getD places (9 * a) 0) ≡ done c n → r ≡ holds S c) → r ≡ false → (whose left base : ℕ) → Hopeless pack places triggers a work t whose left base
+  pub try-forbidden : {r : Bool} → ((d : Dimensions) → Over d t → (c : Condition) (n : ℕ) → conditionAt d pack (getD places (9 * a) 0) ≡ done c n → r ≡ holds (stateOf t work 0) c) → r ≡ false → (whose left base : ℕ) → Hopeless pack places triggers a work t whose left base
   try-forbidden judged e whose left base p x s plays = let g = condition-at p x in absurd (unequal (sym (plays .may) ∙ sym (judged (dimensions p) (x .over) (actionOf p a .condition) (g .end) (g .reads)) ∙ e))
 
-  module _ {whose : ℕ} (l : whose < t .characters + 1) where
-    rules-at : (p : Theory) → Looking p pack places triggers a work t → Gives (rulesAt (dimensions p)) pack (getD places (320 + whose) 0) (getD (p .utilities) whose [])
-    rules-at p x = x .acting .theorized .found .rules whose (omega (arith, x .over .characters))
+  pub try-few : {whose : ℕ} → Tryable pack places triggers a work t whose → a < 32
+  try-few x = omega (arith, x .trial .there, x .trial .theorized .found .mostActions)
 
-    pub try-hopeless : {left base : ℕ} {r : Bool} → left ≡ 0 → Looked rulesAt (λ (moves : ℕ → Bool) (s : State). couldExceed moves s base) pack places triggers a (getD places (320 + whose) 0) work t r → r ≡ false → Hopeless pack places triggers a work t whose left base
-    try-hopeless {left} {base} none w e p x s plays = (
-      none,
-      no-exceed (Open p) (Made p) s (plays-acted p S a s plays) base (getD (p .utilities) whose []) (sym (w p x (getD (p .utilities) whose []) (rules-at p x)) ∙ e),
-    )
+  -- the course of it alone
+  abbrev pub lastOf : Course
+  lastOf = record { from = a; to = a + 1; within = 1; triggers = triggers }
 
-  pub try-rules : {whose : ℕ} → Tryable pack places triggers a work t whose → Lookable rulesAt pack places triggers a (getD places (320 + whose) 0) work t
-  try-rules {whose} x = record { theory = x .theory; looking = x .looking; value = getD (x .theory .utilities) whose []; stands = rules-at (x .rules) (x .theory) (x .looking) }
+  rules-at : {whose : ℕ} → whose < t .characters + 1 → (p : Theory) → Trial p pack places triggers a work t → Gives (rulesAt (dimensions p)) pack (getD places (320 + whose) 0) (getD (p .utilities) whose [])
+  rules-at {whose} l p x = x .theorized .found .rules whose (omega (arith, x .over .characters, l))
+
+  module _ (marks : List ℕ) (ones : (i : ℕ) → i < 32 → getD marks i 0 ≡ 1) (long : length marks ≡ 32) where
+    trial-looking : {p : Theory} → Trial p pack places triggers a work t → Looking p pack places lastOf marks work t
+    trial-looking x = record { casting = record { actions = x .actions; theorized = x .theorized; there = omega (arith, x .there); long = omega (arith, x .there, x .theorized .found .mostActions, long) }; over = x .over; fits = x .fits; low = x .low; some = x .some }
+
+    module _ {whose : ℕ} (l : whose < t .characters + 1) where
+      pub try-hopeless : {left base : ℕ} {r : Bool} → left ≡ 0 → Looked rulesAt (λ (may : Test → Bool). couldExceed may base) pack places lastOf marks (getD places (320 + whose) 0) work t r → r ≡ false → Hopeless pack places triggers a work t whose left base
+      try-hopeless {left} {base} none w e p x s plays =
+          let S = stateOf t work 0 in
+          let few : a < 32 = omega (arith, x .there, x .theorized .found .mostActions) in
+          let A = among lastOf marks in
+          let mine : A a ≡ true = ap (λ (b : Bool). b && marked (getD marks a 0) 1) (le-leb a a (omega arith)) ∙ ap (λ (m : ℕ). marked m 1) (ones a few) in
+          (
+            none,
+            no-exceed (couldPass p A (a + 1) S) s (λ y q. play-barred p A (a + 1) S plays mine (omega arith) y q (start-barred p A (a + 1) S y q)) base (getD (p .utilities) whose [])
+                (sym (w p (trial-looking x) (getD (p .utilities) whose []) (rules-at l p x)) ∙ e),
+          )
+
+    pub try-rules : {whose : ℕ} → Tryable pack places triggers a work t whose → Lookable rulesAt pack places lastOf marks (getD places (320 + whose) 0) work t
+    try-rules {whose} x = record { theory = x .theory; looking = trial-looking (x .trial); value = getD (x .theory .utilities) whose []; stands = rules-at (x .rules) (x .theory) (x .trial) }
 
 -- a table before the free slots, in which an action is looked at
-module _ {th : Theory} {T : List Node} {pack places : List ℕ} {h : Context} {was : List ℕ} {t : Table} {slot : ℕ} (x : Stage th T pack places h was t slot) where
+module _ {th : Theory} {T : List Node} {pack places : List ℕ} {h : Context} {was : List ℕ} {t : Table} {slot : ℕ} (x : Stage th T pack places h was t slot) (before : slot ≤ 28832) where
   module _ {a : ℕ} (l : a < h .actions) where
-    stage-looking : Looking th pack places (h .triggers) a was t
-    stage-looking = record { acting = record { actions = h .actions; theorized = x .theorized; there = l }; over = x .tabled .over; fits = x .tabled .fits; some = x .tabled .some }
+    stage-trial : Trial th pack places (h .triggers) a was t
+    stage-trial = record { actions = h .actions; theorized = x .theorized; there = l; over = x .tabled .over; fits = x .tabled .fits; low = omega (arith, x .behind, before); some = x .tabled .some }
 
     pub stage-tryable : {whose : ℕ} → whose < t .characters + 1 → Tryable pack places (h .triggers) a was t whose
-    stage-tryable i = record { theory = th; looking = stage-looking; rules = i }
+    stage-tryable i = record { theory = th; trial = stage-trial; rules = i }
 
     pub stage-hopeless : (whose : ℕ) {left base : ℕ} → Hopeless pack places (h .triggers) a was t whose left base → (s : State) → Plays th (meaning (t .characters) T 0) a s → (left ≡ 0) × (utility s (getD (th .utilities) whose []) ≤ base)
-    stage-hopeless whose f s plays = f th stage-looking s (subst (λ (U : List Node). Plays th (meaning (t .characters) U 0) a s) (sym (x .tabled .same)) plays)
+    stage-hopeless whose f s plays = f th stage-trial s (subst (λ (U : List Node). Plays th (meaning (t .characters) U 0) a s) (sym (x .tabled .same)) plays)
 
 -- The first that is worth a try in the state in a slot
 module _ {pack places : List ℕ} {h : Context} {work : List ℕ} {slot whose left base x : ℕ} where
@@ -401,7 +460,7 @@ below-far P {n} {r} near far y l = elim (decLt y n) as (λ d. P y) [ yes h ↦ n
 
 module _ {th : Theory} {T : List Node} {pack places : List ℕ} {h : Context} {work : List ℕ} {slot : ℕ} (x : Stage th T pack places h work (slotTable h work slot) (slot + 961)) (before : slot + 961 ≤ 28832) where
   pub stage-trying : {whose : ℕ} → whose < h .characters + 1 → Trying pack places h work slot whose
-  stage-trying l = record { before = before; room = x .room; narrow = omega (arith, changing.small (x .tabled)); each = λ a g. stage-tryable x g l }
+  stage-trying l = record { before = before; room = x .room; narrow = omega (arith, changing.small (x .tabled)); each = λ a g. stage-tryable x before g l }
 
   pub stage-skipped : {whose left base n r : ℕ} → Skipped pack places h work slot whose left base n r → (a : ℕ) → n ≤ a → a < r → (s : State) → Plays th (meaning (h .characters) T 0) a s → (left ≡ 0) × (utility s (getD (th .utilities) whose []) ≤ base)
-  stage-skipped {whose} s a f l = stage-hopeless x (omega (arith, l, s .few)) whose (s .hopeless a f l)
+  stage-skipped {whose} s a f l = stage-hopeless x before (omega (arith, l, s .few)) whose (s .hopeless a f l)

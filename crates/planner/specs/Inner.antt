@@ -3,5 +3,7 @@ pub mod Lists
 pub mod Memory
 pub mod Explain
 pub mod Bound
+pub mod Reach
 pub mod Look
+pub mod Levels
 pub mod Search

@@ -6,6 +6,7 @@ pub mod explain;
 pub mod intern;
 pub mod limits;
 pub mod prune;
+pub mod reach;
 pub mod regions;
 pub mod search;
 pub mod steps;

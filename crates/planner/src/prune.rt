@@ -1,9 +1,10 @@
-// A look before an action is tried: no step is made for one whose condition fails, nor for a last one after which no
-// rule above some utility could hold. What triggers may write, and what is believed, is left open.
+// What could come of a state, before a step is made: whether a test could pass, a condition hold or a utility be had
+// after some actions that are marked have been played from it.
 //
-// Pruning: a test about the state itself, on a fluent that no trigger writes there, comes out as the value that the
-// action itself leaves of it says; any other is left open. Where no rule above the old utility could hold, nobody is
-// asked and no step is made. Only a "no" is promised anything.
+// Pruning: a test about the state itself could pass if it does now, if one of these actions leaves a value that it is met
+// by, or if a trigger writes its fluent; one about what is believed is left open. So no step is made for an action whose
+// condition fails, nor for a last one after which no rule above some utility could hold. Only a "no" is promised
+// anything.
 use crate::intern::table_in;
 use crate::limits::Context;
 use pack::effects::Wanted;
@@ -25,17 +26,25 @@ use pack::table::Table;
 use pack::test::after_test;
 use pack::test::chain_of;
 use pack::test::fluent_of;
-use transition::step::Move;
 ghost use Prim.Native.Nat.{ℕ, _≤_};
 ghost use mathlib.Core.Path.{_≡_};
-ghost use mathlib.Core.Bool.{Bool, false};
-ghost use mathlib.Core.List.{List};
-ghost use Rattle.pack.specs.State.{State};
-ghost use Rattle.pack.specs.Grammar.{Dimensions, testAt, conditionAt, rulesAt};
-ghost use Rattle.pack.specs.Contracts.Contents.{Gives};
-ghost use Rattle.pack.specs.Contracts.Judge.{alternativeAt, Small, Readable};
-ghost use Rattle.transition.specs.Laws.Still as still;
-ghost use Rattle.planner.specs.Inner.Look.{Triggered, Moved, Lookable, Looked, Tryable, Hopeless, Trying, Skipped};
+ghost use mathlib.Core.Bool.{Bool, false, _&&_};
+ghost use lib.Dec.{ltb, leb};
+ghost use Rattle.pack.specs.Syntax.{Test};
+ghost use Rattle.pack.specs.Grammar.{testAt, conditionAt, rulesAt};
+ghost use Rattle.pack.specs.Contracts.Judge.{alternativeAt, Readable};
+ghost use Rattle.planner.specs.Inner.Reach.{couldAll, couldHold, couldExceed};
+ghost use Rattle.planner.specs.Inner.Look.{Triggered, Moved, Cast, Brought, Lookable, Looked, Tryable, Hopeless};
+ghost use Rattle.planner.specs.Inner.Look.{Trying, Skipped};
+
+// Which actions may have been played: of those from `from` up to `to` the ones whose mark is 1 to `within`. And how many
+// triggers there are that may fire after each.
+pub struct Course {
+    pub from: usize,
+    pub to: usize,
+    pub within: usize,
+    pub triggers: usize,
+}
 
 // Whether some trigger writes a fluent of a state itself.
 pub fn moves(pack: &[u8], places: &[u16], triggers: usize, fluent: usize) -> bool
@@ -56,34 +65,85 @@ pub fn moves(pack: &[u8], places: &[u16], triggers: usize, fluent: usize) -> boo
     false
 }
 
-// Whether the test at a place could pass in row 0 after a move.
-pub fn could_pass(pack: &[u8], places: &[u16], m: Move, at: usize, work: &[u8], t: Table) -> bool
-    requires { ⌜ Lookable testAt (now pack) (now places) (m .triggers) (m .action) at (now work) t ⌝ }
-    ensures { λ r. ⌜ Looked testAt still.couldPass (now (pack .entry)) (now (places .entry)) (m .triggers)
-        (m .action) at (now (work .entry)) t r ⌝ }
+// Whether a mark is 1 to `within`.
+pub fn is_within(mark: u8, within: usize) -> bool
+    ensures { λ r. ⌜ r ≡ (ltb 0 mark && leb mark within) ⌝ }
+{
+    if 0 < mark { wide(mark) <= within } else { false }
+}
+
+// Whether one of the actions of a course leaves of a fluent, which has a value, one that the test at a place is met by.
+pub fn brought(
+    pack: &[u8],
+    places: &[u16],
+    c: Course,
+    ahead: &[u8],
+    at: usize,
+    fluent: usize,
+    value: u8,
+) -> bool
+    requires { ⌜ Cast (now pack) (now places) c (now ahead) × Readable testAt (now pack) at ⌝ }
+    ensures { λ r. ⌜ Brought (now (pack .entry)) (now (places .entry)) c (now (ahead .entry)) at fluent value r ⌝ }
+{
+    let mut x = c.from;
+    while x < c.to {
+        if is_within(ahead[x], c.within) {
+            let left = left_by(pack, places[ACTION * x + EFFECTS] as usize, fluent, value);
+            if met_by(pack, at, left) {
+                return true;
+            }
+        }
+        x += 1;
+    }
+    false
+}
+
+// Whether the test at a place could pass in what row 0 becomes.
+pub fn could_pass(
+    pack: &[u8],
+    places: &[u16],
+    c: Course,
+    ahead: &[u8],
+    at: usize,
+    work: &[u8],
+    t: Table,
+) -> bool
+    requires { ⌜ Lookable testAt (now pack) (now places) c (now ahead) at (now work) t ⌝ }
+    ensures { λ r. ⌜ Looked testAt (λ (may : Test → Bool). may) (now (pack .entry)) (now (places .entry)) c
+        (now (ahead .entry)) at (now (work .entry)) t r ⌝ }
 {
     if chain_of(pack, at) != 0 {
         return true;
     }
     let fluent = fluent_of(pack, at);
-    if moves(pack, places, m.triggers, fluent) {
+    let value = work[t.rows + fluent];
+    if met_by(pack, at, value) {
         return true;
     }
-    let effects = places[ACTION * m.action + EFFECTS] as usize;
-    let value = work[t.rows + fluent];
-    met_by(pack, at, left_by(pack, effects, fluent, value))
+    if brought(pack, places, c, ahead, at, fluent, value) {
+        return true;
+    }
+    moves(pack, places, c.triggers, fluent)
 }
 
 // Whether all tests of the alternative at a place could.
-pub fn could_all(pack: &[u8], places: &[u16], m: Move, at: usize, work: &[u8], t: Table) -> bool
-    requires { ⌜ Lookable alternativeAt (now pack) (now places) (m .triggers) (m .action) at (now work) t ⌝ }
-    ensures { λ r. ⌜ Looked alternativeAt still.couldAll (now (pack .entry)) (now (places .entry)) (m .triggers)
-        (m .action) at (now (work .entry)) t r ⌝ }
+pub fn could_all(
+    pack: &[u8],
+    places: &[u16],
+    c: Course,
+    ahead: &[u8],
+    at: usize,
+    work: &[u8],
+    t: Table,
+) -> bool
+    requires { ⌜ Lookable alternativeAt (now pack) (now places) c (now ahead) at (now work) t ⌝ }
+    ensures { λ r. ⌜ Looked alternativeAt couldAll (now (pack .entry)) (now (places .entry)) c (now (ahead .entry)) at
+        (now (work .entry)) t r ⌝ }
 {
     let mut n = at + 1;
     let mut left = wide(pack[at]);
     while 0 < left {
-        if !could_pass(pack, places, m, n, work, t) {
+        if !could_pass(pack, places, c, ahead, n, work, t) {
             return false;
         }
         n = after_test(pack, n);
@@ -93,15 +153,23 @@ pub fn could_all(pack: &[u8], places: &[u16], m: Move, at: usize, work: &[u8], t
 }
 
 // Whether the condition at a place could hold.
-pub fn could_hold(pack: &[u8], places: &[u16], m: Move, at: usize, work: &[u8], t: Table) -> bool
-    requires { ⌜ Lookable conditionAt (now pack) (now places) (m .triggers) (m .action) at (now work) t ⌝ }
-    ensures { λ r. ⌜ Looked conditionAt still.couldHold (now (pack .entry)) (now (places .entry)) (m .triggers)
-        (m .action) at (now (work .entry)) t r ⌝ }
+pub fn could_hold(
+    pack: &[u8],
+    places: &[u16],
+    c: Course,
+    ahead: &[u8],
+    at: usize,
+    work: &[u8],
+    t: Table,
+) -> bool
+    requires { ⌜ Lookable conditionAt (now pack) (now places) c (now ahead) at (now work) t ⌝ }
+    ensures { λ r. ⌜ Looked conditionAt couldHold (now (pack .entry)) (now (places .entry)) c (now (ahead .entry)) at
+        (now (work .entry)) t r ⌝ }
 {
     let mut n = at + 1;
     let mut left = wide(pack[at]);
     while 0 < left {
-        if could_all(pack, places, m, n, work, t) {
+        if could_all(pack, places, c, ahead, n, work, t) {
             return true;
         }
         n = after_alternative(pack, n);
@@ -114,20 +182,21 @@ pub fn could_hold(pack: &[u8], places: &[u16], m: Move, at: usize, work: &[u8], 
 pub fn could_exceed(
     pack: &[u8],
     places: &[u16],
-    m: Move,
+    c: Course,
+    ahead: &[u8],
     at: usize,
     work: &[u8],
     t: Table,
     base: usize,
 ) -> bool
-    requires { ⌜ Lookable rulesAt (now pack) (now places) (m .triggers) (m .action) at (now work) t ⌝ }
-    ensures { λ r. ⌜ Looked rulesAt (λ (moves : ℕ → Bool) (s : State). still.couldExceed moves s base)
-        (now (pack .entry)) (now (places .entry)) (m .triggers) (m .action) at (now (work .entry)) t r ⌝ }
+    requires { ⌜ Lookable rulesAt (now pack) (now places) c (now ahead) at (now work) t ⌝ }
+    ensures { λ r. ⌜ Looked rulesAt (λ (may : Test → Bool). couldExceed may base) (now (pack .entry))
+        (now (places .entry)) c (now (ahead .entry)) at (now (work .entry)) t r ⌝ }
 {
     let mut n = at + 1;
     let mut left = wide(pack[at]);
     while 0 < left {
-        let could = could_hold(pack, places, m, n, work, t);
+        let could = could_hold(pack, places, c, ahead, n, work, t);
         if !could {
             if left < 2 {
                 return false;
@@ -182,12 +251,15 @@ pub fn promising(
     if 0 < h.left {
         return true;
     }
-    let m = Move {
-        action: x,
+    let last = Course {
+        from: x,
+        to: x + 1,
+        within: 1,
         triggers: p.triggers,
     };
+    let marks = [1u8; 32];
     let rules = places[UTILITIES + h.whose] as usize;
-    could_exceed(pack, places, m, rules, work, t, h.base)
+    could_exceed(pack, places, last, &marks, rules, work, t, h.base)
 }
 
 // The first action from x on that is worth a try in the state in a slot, or how many actions there are.
