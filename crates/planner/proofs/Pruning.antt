@@ -420,8 +420,7 @@ module _ (pack places : List ℕ) (triggers a : ℕ) (work : List ℕ) (t : Tabl
           let S = stateOf t work 0 in
           let few : a < 32 = omega (arith, x .there, x .theorized .found .mostActions) in
           let A = among lastOf marks in
-          let mine : A a ≡ true = ap (λ (b : Bool). b && marked (getD marks a 0) 1) (le-leb a a (omega arith)) ∙ ap (λ (m : ℕ). marked m 1) (ones a few) in
-          (
+          let mine : A a ≡ true = ap (λ (b : Bool). b && marked (getD marks a 0) 1) (le-leb a a (omega arith)) ∙ ap (λ (m : ℕ). marked m 1) (ones a few) in (
             none,
             no-exceed (couldPass p A (a + 1) S) s (λ y q. play-barred p A (a + 1) S plays mine (omega arith) y q (start-barred p A (a + 1) S y q)) base (getD (p .utilities) whose [])
                 (sym (w p (trial-looking x) (getD (p .utilities) whose []) (rules-at l p x)) ∙ e),

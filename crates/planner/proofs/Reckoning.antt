@@ -20,11 +20,12 @@ use Rattle.pack.specs.declared.table.Table.{Table}
 use Rattle.transition.specs.Happening.{nothing, actionOf}
 use Rattle.planner.specs.declared.limits.Context.{Context}
 use Rattle.planner.specs.declared.prune.Course.{Course}
-use Rattle.planner.specs.Inner.Lists.{slotTable}
+use Rattle.planner.specs.Ending.{Explained}
+use Rattle.planner.specs.Inner.Lists.{slotTable, Other, Above, All, Ends}
 use Rattle.planner.specs.Inner.Explain.{Stage}
 use Rattle.planner.specs.Inner.Look.{marked, among, Looking, Lookable, Looked}
 use Rattle.planner.specs.Inner.Levels.{upTo, Levelling, Levels, Marking, OutOfReach}
-use Rattle.planner.specs.Inner.Reach.{couldHold, couldPass, couldExceed, Levelled, none-reached, Played, unequal}
+use Rattle.planner.specs.Inner.Reach.{couldHold, couldPass, couldExceed, Levelled, none-reached, Played, leads-played, unequal}
 
 -- a mark that is there, and at most as high
 pub mark-is : {m i : ℕ} → 0 < m → m ≤ i → marked m i ≡ true
@@ -163,3 +164,19 @@ module _ {th : Theory} {T : List Node} {pack places : List ℕ} {h : Context} {w
               let is = sym (ap (λ (b : Bool). b && marked (getD ahead a 0) i) (le-leb 0 a (omega arith))) ∙ q in
               let (some, few) = mark-there (getD ahead a 0) i is in
               ap (λ (b : Bool). b && marked (getD ahead a 0) (suc i)) (le-leb 0 a (omega arith)) ∙ mark-is some (omega (arith, few))
+
+-- what that says of a character's lists, and of the author's
+module _ (th : Theory) (K e : ℕ) where
+  pub above-beyond : (c base left : ℕ) (s : State)
+      → ((list : List ℕ) (u : State) → length list ≤ left → Played th s list u → utility u (getD (th .utilities) (c + 1) []) ≤ base)
+      → ¬ Above th K e c base (suc left) s
+  above-beyond c base left s f (list, l, (u, leads, above)) =
+      let next : c + 1 ≡ suc c = omega arith in
+      let same = ap (λ (k : ℕ). utility u (getD (th .utilities) k [])) next in
+      omega (arith, above, same, f list u (omega (arith, l)) (leads-played th (Other c) (Explained th K e) s list u leads))
+
+  pub ends-beyond : (base left : ℕ) (s : State)
+      → ((list : List ℕ) (u : State) → length list ≤ left → Played th s list u → utility u (getD (th .utilities) 0 []) ≤ base)
+      → (list : List ℕ) (v : ℕ) → length list ≡ left → ¬ Ends th K e base s list v
+  ends-beyond base left s f list v l (u, leads, (is, above)) =
+      omega (arith, is, above, f list u (omega (arith, l)) (leads-played th All (Explained th K e) s list u leads))

@@ -16,6 +16,7 @@ use crate::limits::Context;
 use crate::limits::Nesting;
 use crate::prune::Hope;
 use crate::prune::next_promising;
+use crate::reach::within_reach;
 use crate::steps::known_step;
 use pack::judge::utility;
 use pack::number::wide;
@@ -134,6 +135,15 @@ pub fn extends(
         return true;
     }
     if left == 0 {
+        return false;
+    }
+    let whose = g.who + 1;
+    let hope = Hope {
+        whose,
+        left,
+        base: g.base,
+    };
+    if !within_reach(pack, places, p, work, slot, hope) {
         return false;
     }
     let key = goal_key(g, left);

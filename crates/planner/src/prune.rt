@@ -69,7 +69,11 @@ pub fn moves(pack: &[u8], places: &[u16], triggers: usize, fluent: usize) -> boo
 pub fn is_within(mark: u8, within: usize) -> bool
     ensures { λ r. ⌜ r ≡ (ltb 0 mark && leb mark within) ⌝ }
 {
-    if 0 < mark { wide(mark) <= within } else { false }
+    if 0 < mark {
+        wide(mark) <= within
+    } else {
+        false
+    }
 }
 
 // Whether one of the actions of a course leaves of a fluent, which has a value, one that the test at a place is met by.

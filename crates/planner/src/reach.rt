@@ -29,7 +29,7 @@ pub fn mark_action(
     ahead: &mut [u8],
     x: usize,
 )
-    requires { ⌜ Castable (now pack) (now places) c (now work) t (now ahead) × (x < c .to) × (c .within < 8) ⌝ }
+    requires { ⌜ Castable (now pack) (now places) c (now work) t (now ahead) × (x < c .to) × (c .within < 255) ⌝ }
     ensures { λ _. ⌜ ActionMarked (now (pack .entry)) (now (places .entry)) c (now (work .entry)) t
         (now (ahead .entry)) (now (ahead .exit)) x ⌝ }
 {
@@ -53,7 +53,7 @@ pub fn mark_level(
     ahead: &mut [u8],
     i: usize,
 )
-    requires { ⌜ Levelable (now pack) (now places) p (now work) t (now ahead) × (i < 8) ⌝ }
+    requires { ⌜ Levelable (now pack) (now places) p (now work) t (now ahead) × (i < 255) ⌝ }
     ensures { λ _. ⌜ MoreLevels (now (pack .entry)) (now (places .entry)) p (now (work .entry)) t (now (ahead .entry))
         (now (ahead .exit)) i ⌝ }
 {
@@ -83,7 +83,7 @@ pub fn within_reach(
     slot: usize,
     h: Hope,
 ) -> bool
-    requires { ⌜ Reckoned (now pack) (now places) p (now work) slot (h .whose) × (h .left < 9) ⌝ }
+    requires { ⌜ Reckoned (now pack) (now places) p (now work) slot (h .whose) × (h .left < 256) ⌝ }
     ensures { λ r. ⌜ (r ≡ false
         → OutOfReach (now (pack .entry)) (now (places .entry)) p (now (work .entry)) slot (h .whose) (h .left)
         (h .base)) ⌝ }

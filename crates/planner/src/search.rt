@@ -23,6 +23,7 @@ use crate::limits::Story;
 use crate::limits::searchable;
 use crate::prune::Hope;
 use crate::prune::next_promising;
+use crate::reach::within_reach;
 use crate::regions::BEFORE_LISTS;
 use crate::regions::IDS;
 use crate::regions::LISTS;
@@ -92,6 +93,14 @@ pub fn completes(
         return ends(pack, places, p, work, slot, g.base);
     }
     if repeats(work, p, slot, done) {
+        return 0;
+    }
+    let hope = Hope {
+        whose: 0,
+        left,
+        base: g.base,
+    };
+    if !within_reach(pack, places, p, work, slot, hope) {
         return 0;
     }
     let key = goal_key(g, left);

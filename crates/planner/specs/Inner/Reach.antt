@@ -216,7 +216,7 @@ module _ (p : Theory) (A : ℕ → Bool) (n : ℕ) (s : State) where
       let (some, still) = closed x e q in
       let f = x .fluent in
       let own : (b : Bool) → b ≡ true → (b && metBy x (leftOf f (actionOf p a .effects) (getD (s []) f 0))) ≡ false
-          → metBy x (leftOf f (actionOf p a .effects) (getD (s []) f 0)) ≡ false = own-of in
+      → metBy x (leftOf f (actionOf p a .effects) (getD (s []) f 0)) ≡ false = own-of in
       ap (λ (c : List ℕ). metBy x (getD (u c) f 0)) q
       ∙ ap (metBy x) (plays-acted p t a u plays f still)
       ∙ unmet (metBy x) (actionOf p a .effects) f (t []) (getD (s []) f 0)
@@ -271,7 +271,7 @@ module _ {p : Theory} {s : State} {A : ℕ → ℕ → Bool} {n left : ℕ} (g :
   barred-play i {a} {t} {u} l b plays x e =
       let few : a < n = omega (arith, plays .there, g .all) in
       let may : couldHold (couldPass p (A i) n s) (actionOf p a .condition) ≡ true =
-          ⊎-elim (λ q. q) (λ q. absurd (unequal (sym (plays .may) ∙ no-hold (couldPass p (A i) n s) t b (actionOf p a .condition) q))) (either (couldHold (couldPass p (A i) n s) (actionOf p a .condition))) in
+      ⊎-elim (λ q. q) (λ q. absurd (unequal (sym (plays .may) ∙ no-hold (couldPass p (A i) n s) t b (actionOf p a .condition) q))) (either (couldHold (couldPass p (A i) n s) (actionOf p a .condition))) in
       play-barred p (A (suc i)) n s plays (g .next i a l few may) few x e (barred-on i t b x e)
 
   barred-list : (list : List ℕ) (i : ℕ) (t u : State) → i + length list ≤ left → Barred i t → Played p t list u

@@ -20,6 +20,7 @@ use Rattle.planner.specs.Inner.Memory.{deedKey, Memory}
 use Rattle.planner.specs.Inner.Explain.{Stage, Free}
 use Rattle.planner.proofs.TrueMemory.{memory-fewer}
 use Rattle.planner.proofs.Pruning.{below-far, stage-trying, stage-skipped}
+use Rattle.planner.proofs.Reckoning.{above-beyond}
 use Rattle.planner.proofs.Explanations.{Content, told-none, told-by, told-no, told-yes, stage-rules, stage-utility, nextTable, next-plays, next-stage, reach-here, reach-no-more, by-hopeless, by-from, by-to, explained-from, explained-to, explained-zero, explained-plays, agreed-all, content-of, content-more, one-less, stage-row, stage-believed, consentersOf, consent-place, consent-readable, consent-count, consent-each, slot-same, stage-before, known, note, verdict, extended, noted, rules-in, utility-in}
 use borrow.Fn.Kinds.{In}
 use borrow.Fn.PlainCycle.{Measures, is, falls, and}
@@ -51,6 +52,7 @@ use Rattle.pack.proofs.write.consenters.Reads as consenters-reads
 use Rattle.planner.proofs.explain.mark_of.Reads as mark-of-reads
 use Rattle.planner.proofs.bound.pointless.Reads as pointless-reads
 use Rattle.planner.proofs.prune.next_promising.Reads as next-promising-reads
+use Rattle.planner.proofs.reach.within_reach.Reads as within-reach-reads
 use Rattle.planner.proofs.intern.table_in.Reads as table-in-reads
 use Rattle.planner.proofs.entry.deed_key.Reads as deed-key-reads
 use Rattle.planner.proofs.entry.goal_key.Reads as goal-key-reads
@@ -138,7 +140,7 @@ abbrev explains-calls : ℕ → explains-lts.Claims
 explains-calls t = (wide-reads.Asked, wide-reads.Learnt, known-step-reads.Asked, known-step-reads.Learnt, table-in-reads.Asked, table-in-reads.Learnt, utility-reads.Asked, utility-reads.Learnt, extends-below t, extends.Post)
 
 abbrev extends-calls : ℕ → extends-lts.Claims
-extends-calls t = (table-in-reads.Asked, table-in-reads.Learnt, utility-reads.Asked, utility-reads.Learnt, goal-key-reads.Asked, goal-key-reads.Learnt, recall-reads.Asked, recall-reads.Learnt, extends-by-below t, extends-by.Post, mark-of-reads.Asked, mark-of-reads.Learnt, remember-reads.Asked, remember-reads.Learnt)
+extends-calls t = (table-in-reads.Asked, table-in-reads.Learnt, utility-reads.Asked, utility-reads.Learnt, within-reach-reads.Asked, within-reach-reads.Learnt, goal-key-reads.Asked, goal-key-reads.Learnt, recall-reads.Asked, recall-reads.Learnt, extends-by-below t, extends-by.Post, mark-of-reads.Asked, mark-of-reads.Learnt, remember-reads.Asked, remember-reads.Learnt)
 
 abbrev allowed-calls : ℕ → allowed-lts.Claims
 allowed-calls t = (consenters-reads.Asked, consenters-reads.Learnt, consenter-reads.Asked, consenter-reads.Learnt, fine-below t, fine.Post)
@@ -668,58 +670,84 @@ extends-returns-2 t c =
     let none : 1 ≡ suc (a .left) = omega (arith, c .if2 .taken) in
     λ th T y mem. told-none _ mem (λ z. reach-no-more th (a .p .foresight .0) (a .g .nesting .0) (a .g .who) (a .g .base) (meaning (a .p .characters) T 0) (λ b. omega (arith, stage-utility y (a .g .who) 0 (P .1) (utility-in (a .pack .now) (getD (a .places .now) (321 + a .g .who) 0) (a .work .now) 0 (at-utility .utility .result) (at-table-in .table-in .ensures) (at-utility .utility .ensures)), c .before .if1 .left)) (subst (λ (n : ℕ). inner.Above th (a .p .foresight .0) (a .g .nesting .0) (a .g .who) (a .g .base) n (meaning (a .p .characters) T 0)) (sym none) z))
 
-extends-goal-key-requires : (t : ℕ) → extends-lts.Need-goal-key-requires (extends-calls t) (extends-at t) extends.Post
-extends-goal-key-requires t c κs = search needs
+extends-add-whose : (t : ℕ) → extends-lts.Need-add-whose (extends-calls t) (extends-at t) extends.Post
+extends-add-whose t c =
+    let at-table-in = c .before .before .before .before .before .before .before .before in
+    let start = at-table-in .before .before .before .before .before in
+    let (th, (T, (y, mem))) = start .pre .1 .0 in
+    omega (arith, small (y .tabled), start .pre .1 .1)
 
-extends-recall-requires : (t : ℕ) → extends-lts.Need-recall-requires (extends-calls t) (extends-at t) extends.Post
-extends-recall-requires t c κs =
+extends-within-reach-requires : (t : ℕ) → extends-lts.Need-within-reach-requires (extends-calls t) (extends-at t) extends.Post
+extends-within-reach-requires t c κs =
     let at-table-in = c .before .before .before .before .before .before .before .before .before in
     let start = at-table-in .before .before .before .before .before in
     let P = start .pre .1 in
     let (th, (T, (y, mem))) = P .0 in
-    stage-before y (omega (arith, P .4))
+    (((th, (T, y)), omega (arith, P .4), omega (arith, P .1)), omega (arith, P .4))
 
 extends-same-length-3 : (t : ℕ) → extends-lts.Need-same-length-3 (extends-calls t) (extends-at t) extends.Post
 extends-same-length-3 t c = search needs
 
 extends-returns-3 : (t : ℕ) → extends-lts.Need-returns-3 (extends-calls t) (extends-at t) extends.Post
 extends-returns-3 t c =
-    let at-recall = c .before .before .before in
-    let key = at-recall .before .before .goal-key .ensures in
-    let at-table-in = at-recall .before .before .before .before .before .before .before .before .before .before in
+    let at-within-reach = c .before in
+    let at-table-in = at-within-reach .before .before .before .before .before .before .before .before .before .before in
+    let start = at-table-in .before .before .before .before .before in
+    let a = start .args in
+    λ th T y mem. told-none _ mem (above-beyond th (a .p .foresight .0) (a .g .nesting .0) (a .g .who) (a .g .base) (a .left) (meaning (a .p .characters) T 0) (at-within-reach .within-reach .ensures (not-true _ (c .if3 .taken)) th T y))
+
+extends-goal-key-requires : (t : ℕ) → extends-lts.Need-goal-key-requires (extends-calls t) (extends-at t) extends.Post
+extends-goal-key-requires t c κs = search needs
+
+extends-recall-requires : (t : ℕ) → extends-lts.Need-recall-requires (extends-calls t) (extends-at t) extends.Post
+extends-recall-requires t c κs =
+    let at-table-in = c .before .before .before .before .before .before .before .before .before .before .before .before .before in
     let start = at-table-in .before .before .before .before .before in
     let P = start .pre .1 in
-    let a = start .args in
-    let r = at-recall .recall in
-    λ th T y mem.
-    let (m, fact) = r .ensures .told th (a .p .foresight .0) (a .slot + 961) (omega (arith, P .4)) (y .slotted) mem in
-    told-no (λ q l. r .ensures .only .low q (omega (arith, l, P .4))) (r .ensures .only .high) m (known y key fact .no (c .if3 .taken))
+    let (th, (T, (y, mem))) = P .0 in
+    stage-before y (omega (arith, P .4))
 
 extends-same-length-4 : (t : ℕ) → extends-lts.Need-same-length-4 (extends-calls t) (extends-at t) extends.Post
 extends-same-length-4 t c = search needs
 
 extends-returns-4 : (t : ℕ) → extends-lts.Need-returns-4 (extends-calls t) (extends-at t) extends.Post
 extends-returns-4 t c =
-    let at-recall = c .before .before .before .before in
+    let at-recall = c .before .before .before in
     let key = at-recall .before .before .goal-key .ensures in
-    let at-table-in = at-recall .before .before .before .before .before .before .before .before .before .before in
+    let at-table-in = at-recall .before .before .before .before .before .before .before .before .before .before .before .before .before .before in
     let start = at-table-in .before .before .before .before .before in
     let P = start .pre .1 in
     let a = start .args in
     let r = at-recall .recall in
     λ th T y mem.
     let (m, fact) = r .ensures .told th (a .p .foresight .0) (a .slot + 961) (omega (arith, P .4)) (y .slotted) mem in
-    told-yes (λ q l. r .ensures .only .low q (omega (arith, l, P .4))) (r .ensures .only .high) m (known y key fact .yes (c .if4 .taken))
+    told-no (λ q l. r .ensures .only .low q (omega (arith, l, P .4))) (r .ensures .only .high) m (known y key fact .no (c .if4 .taken))
+
+extends-same-length-5 : (t : ℕ) → extends-lts.Need-same-length-5 (extends-calls t) (extends-at t) extends.Post
+extends-same-length-5 t c = search needs
+
+extends-returns-5 : (t : ℕ) → extends-lts.Need-returns-5 (extends-calls t) (extends-at t) extends.Post
+extends-returns-5 t c =
+    let at-recall = c .before .before .before .before in
+    let key = at-recall .before .before .goal-key .ensures in
+    let at-table-in = at-recall .before .before .before .before .before .before .before .before .before .before .before .before .before .before in
+    let start = at-table-in .before .before .before .before .before in
+    let P = start .pre .1 in
+    let a = start .args in
+    let r = at-recall .recall in
+    λ th T y mem.
+    let (m, fact) = r .ensures .told th (a .p .foresight .0) (a .slot + 961) (omega (arith, P .4)) (y .slotted) mem in
+    told-yes (λ q l. r .ensures .only .low q (omega (arith, l, P .4))) (r .ensures .only .high) m (known y key fact .yes (c .if5 .taken))
 
 extends-sub-extends-by : (t : ℕ) → extends-lts.Need-sub-extends-by (extends-calls t) (extends-at t) extends.Post
 extends-sub-extends-by t c =
-    let at-if2 = c .before .before .before .before .before .before .before .before in
+    let at-if2 = c .before .before .before .before .before .before .before .before .before .before .before .before in
     omega (arith, at-if2 .if2 .left)
 
 extends-extends-by-requires : (t : ℕ) → extends-lts.Need-extends-by-requires (extends-calls t) (extends-at t) extends.Post
 extends-extends-by-requires t c κs =
     let at-recall = c .before .before .before .before .before in
-    let at-if2 = at-recall .before .before .before in
+    let at-if2 = at-recall .before .before .before .before .before .before .before in
     let at-table-in = at-if2 .before .before .before .before .before .before .before in
     let start = at-table-in .before .before .before .before .before in
     let (m, P) = start .pre in
@@ -735,7 +763,7 @@ extends-remember-requires : (t : ℕ) → extends-lts.Need-remember-requires (ex
 extends-remember-requires t c κs =
     let at-extends-by = c .before .before .before .before in
     let at-recall = at-extends-by .before .before .before .before .before .before in
-    let at-table-in = at-recall .before .before .before .before .before .before .before .before .before .before in
+    let at-table-in = at-recall .before .before .before .before .before .before .before .before .before .before .before .before .before .before in
     let start = at-table-in .before .before .before .before .before in
     let P = start .pre .1 in
     let a = start .args in
@@ -745,21 +773,21 @@ extends-remember-requires t c κs =
     let told = x .ensures th T (slot-same (a .slot) y (λ q l. r .ensures .only .low q (omega (arith, l, P .4))) (r .kept .0)) (r .ensures .told th (a .p .foresight .0) (a .slot + 961) (omega (arith, P .4)) (y .slotted) mem .0) in
     stage-before (slot-same (a .slot) (slot-same {now = r .last .0} (a .slot) y (λ q l. r .ensures .only .low q (omega (arith, l, P .4))) (r .kept .0)) (told .low) (x .kept .1 .1 .1 .0)) (omega (arith, P .4))
 
-extends-same-length-5 : (t : ℕ) → extends-lts.Need-same-length-5 (extends-calls t) (extends-at t) extends.Post
-extends-same-length-5 t c =
+extends-same-length-6 : (t : ℕ) → extends-lts.Need-same-length-6 (extends-calls t) (extends-at t) extends.Post
+extends-same-length-6 t c =
     let at-remember = c .before .before in
     let at-extends-by = at-remember .before .before .before .before .before in
     let at-recall = at-extends-by .before .before .before .before .before .before in
     at-remember .remember .kept .0 ∙ at-extends-by .extends-by .kept .1 .1 .1 .0 ∙ at-recall .recall .kept .0
 
-extends-returns-5 : (t : ℕ) → extends-lts.Need-returns-5 (extends-calls t) (extends-at t) extends.Post
-extends-returns-5 t c =
+extends-returns-6 : (t : ℕ) → extends-lts.Need-returns-6 (extends-calls t) (extends-at t) extends.Post
+extends-returns-6 t c =
     let at-remember = c .before .before in
     let at-mark-of = at-remember .before in
     let at-extends-by = at-mark-of .before .before .before .before in
     let at-recall = at-extends-by .before .before .before .before .before .before in
     let key = at-recall .before .before .goal-key .ensures in
-    let at-if2 = at-recall .before .before .before in
+    let at-if2 = at-recall .before .before .before .before .before .before .before in
     let at-if1 = at-if2 .before in
     let at-utility = at-if1 .before .before in
     let at-table-in = at-utility .before .before .before .before in
@@ -1107,18 +1135,22 @@ pub +allowed+explained+explains+extends+extends-by+fine+via-spec : {M : Type 1} 
     (extends-returns t)
     (extends-same-length-2 t)
     (extends-returns-2 t)
-    (extends-goal-key-requires t)
-    (extends-recall-requires t)
+    (extends-add-whose t)
+    (extends-within-reach-requires t)
     (extends-same-length-3 t)
     (extends-returns-3 t)
+    (extends-goal-key-requires t)
+    (extends-recall-requires t)
     (extends-same-length-4 t)
     (extends-returns-4 t)
+    (extends-same-length-5 t)
+    (extends-returns-5 t)
     (extends-sub-extends-by t)
     (extends-extends-by-requires t)
     (extends-mark-of-requires t)
     (extends-remember-requires t)
-    (extends-same-length-5 t)
-    (extends-returns-5 t))
+    (extends-same-length-6 t)
+    (extends-returns-6 t))
     (λ t. extends-by-lts.spec (extends-by-calls t)
     (extends-by-at t)
     extends-by.Post

@@ -36,11 +36,13 @@ loop-again : tie.Need-loop-again Inv-loop μ-loop
 loop-again c =
     let at-is-within = c .before in
     let turn = at-is-within .before .before in
-    let at-loop = turn .before .before in
-    (omega (arith, at-loop .loop .inv .0), ⊎-elim
-    (λ y. unbrought-unmet _ _ _ _ _ _ _ (at-loop .loop .x) (at-loop .loop .inv .0) (turn .if1 .taken) (at-is-within .is-within .ensures) (y .0 .taken) (y .2 .ensures) (y .3 .ensures) (y .4 .left) (at-loop .loop .inv .1))
-    (λ y. unbrought-unmarked _ _ _ _ _ _ _ (at-loop .loop .x) (at-loop .loop .inv .0) (turn .if1 .taken) (at-is-within .is-within .ensures) (y .left) (at-loop .loop .inv .1))
-    (c .if2 .came))
+    let at-loop = turn .before .before in (
+      omega (arith, at-loop .loop .inv .0),
+      ⊎-elim
+          (λ y. unbrought-unmet _ _ _ _ _ _ _ (at-loop .loop .x) (at-loop .loop .inv .0) (turn .if1 .taken) (at-is-within .is-within .ensures) (y .0 .taken) (y .2 .ensures) (y .3 .ensures) (y .4 .left) (at-loop .loop .inv .1))
+          (λ y. unbrought-unmarked _ _ _ _ _ _ _ (at-loop .loop .x) (at-loop .loop .inv .0) (turn .if1 .taken) (at-is-within .is-within .ensures) (y .left) (at-loop .loop .inv .1))
+          (c .if2 .came),
+    )
 
 pub brought-spec : {M : Type 1} → statement M
 brought-spec =

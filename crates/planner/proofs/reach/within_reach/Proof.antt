@@ -71,8 +71,7 @@ loop-again c =
     let at-table-in = at-loop .before .before .before in
     let start = at-table-in .before .before .before .before .before .before .before .before .before in
     let (long, few, levels) = at-loop .loop .inv in
-    let next : at-loop .loop .i + 1 ≡ suc (at-loop .loop .i) = omega arith in
-    (
+    let next : at-loop .loop .i + 1 ≡ suc (at-loop .loop .i) = omega arith in (
       at-mark-level .mark-level .kept .1 .1 .1 .1 .1 .0 ∙ long,
       omega (arith, few, at-if4 .if4 .left),
       λ th T x. subst (Levels th (start .args .p) _ _) (sym next) (at-mark-level .mark-level .ensures th (stage-level (table-stage (at-table-in .table-in .ensures) x) (omega (arith, start .pre .0 .1)) long) (levels th T x)),

@@ -18,6 +18,7 @@ use Rattle.planner.specs.Inner.Explain.{Stage, Free}
 use Rattle.planner.specs.Inner.Search.{Best, Trail}
 use Rattle.planner.proofs.TrueMemory.{memory-fewer}
 use Rattle.planner.proofs.Pruning.{below-far, stage-trying, stage-skipped}
+use Rattle.planner.proofs.Reckoning.{ends-beyond}
 use Rattle.planner.proofs.Explanations.{nextTable, next-written, next-plays, next-stage, stage-extent, slot-same, stage-before, stage-state, known, note}
 use Rattle.planner.proofs.EarliestList.{best-none, best-from, best-noted, best-same, fact-of-none, trail-step, trail-same, trail-repeats, on-path, best-end, best-first, best-no, best-hopeless, best-by, best-by-none, agreed-from, agreed-to}
 use borrow.Fn.Kinds.{In}
@@ -33,6 +34,7 @@ use Rattle.planner.proofs.search.completes_by.Kinds as completes-by-kin
 use Rattle.planner.proofs.search.+completes+completes_after+completes_by.Lts-completes_by as completes-by-lts
 use Rattle.planner.proofs.explain.allowed.Reads as allowed-reads
 use Rattle.planner.proofs.prune.next_promising.Reads as next-promising-reads
+use Rattle.planner.proofs.reach.within_reach.Reads as within-reach-reads
 use Rattle.planner.proofs.entry.goal_key.Reads as goal-key-reads
 use Rattle.planner.proofs.entry.recall.Reads as recall-reads
 use Rattle.planner.proofs.entry.remember.Reads as remember-reads
@@ -93,7 +95,7 @@ abbrev completes-by-calls : ℕ → completes-by-lts.Claims
 completes-by-calls t = (allowed-reads.Asked, allowed-reads.Learnt, known-step-reads.Asked, known-step-reads.Learnt, completes-below t, completes.Post)
 
 abbrev completes-calls : ℕ → completes-lts.Claims
-completes-calls t = (ends-reads.Asked, ends-reads.Learnt, repeats-reads.Asked, repeats-reads.Learnt, goal-key-reads.Asked, goal-key-reads.Learnt, recall-reads.Asked, recall-reads.Learnt, completes-after-below t, completes-after.Post, remember-reads.Asked, remember-reads.Learnt)
+completes-calls t = (ends-reads.Asked, ends-reads.Learnt, repeats-reads.Asked, repeats-reads.Learnt, within-reach-reads.Asked, within-reach-reads.Learnt, goal-key-reads.Asked, goal-key-reads.Learnt, recall-reads.Asked, recall-reads.Learnt, completes-after-below t, completes-after.Post, remember-reads.Asked, remember-reads.Learnt)
 
 completes-mul-slot : (t : ℕ) → completes-lts.Need-mul-slot (completes-calls t) (completes-at t) completes.Post
 completes-mul-slot t c = omega (arith, c .before .before .before .before .pre .1 .3)
@@ -135,43 +137,60 @@ completes-returns-2 t c =
     let again = c .before .repeats .ensures .0 (c .if2 .taken) in
     λ th T y mem trail. best-none _ (λ q l. refl) (λ q l. refl) mem (trail-repeats th (a .p .foresight .0) (a .g .nesting .0) (a .g .base) (meaning (a .p .characters) T 0) (a .done * 961) trail (stage-state y 0) again)
 
-completes-goal-key-requires : (t : ℕ) → completes-lts.Need-goal-key-requires (completes-calls t) (completes-at t) completes.Post
-completes-goal-key-requires t c κs = search needs
-
-completes-recall-requires : (t : ℕ) → completes-lts.Need-recall-requires (completes-calls t) (completes-at t) completes.Post
-completes-recall-requires t c κs =
-    let at-if1 = c .before .before .before .before .before in
-    let start = at-if1 .before .before .before .before .before in
+completes-within-reach-requires : (t : ℕ) → completes-lts.Need-within-reach-requires (completes-calls t) (completes-at t) completes.Post
+completes-within-reach-requires t c κs =
+    let start = c .before .before .before .before .before .before .before .before .before in
     let P = start .pre .1 in
     let (th, (T, (y, mem, trail))) = P .0 in
-    stage-before y (omega (arith, P .3))
+    (((th, (T, y)), omega (arith, P .3), omega arith), omega (arith, P .3))
 
 completes-same-length-3 : (t : ℕ) → completes-lts.Need-same-length-3 (completes-calls t) (completes-at t) completes.Post
 completes-same-length-3 t c = search needs
 
 completes-returns-3 : (t : ℕ) → completes-lts.Need-returns-3 (completes-calls t) (completes-at t) completes.Post
 completes-returns-3 t c =
+    let at-within-reach = c .before in
+    let start = at-within-reach .before .before .before .before .before .before .before .before .before .before in
+    let a = start .args in
+    λ th T y mem trail. best-none _ (λ q l. refl) (λ q l. refl) mem (ends-beyond th (a .p .foresight .0) (a .g .nesting .0) (a .g .base) (a .left) (meaning (a .p .characters) T 0) (at-within-reach .within-reach .ensures (not-true _ (c .if3 .taken)) th T y))
+
+completes-goal-key-requires : (t : ℕ) → completes-lts.Need-goal-key-requires (completes-calls t) (completes-at t) completes.Post
+completes-goal-key-requires t c κs = search needs
+
+completes-recall-requires : (t : ℕ) → completes-lts.Need-recall-requires (completes-calls t) (completes-at t) completes.Post
+completes-recall-requires t c κs =
+    let at-if1 = c .before .before .before .before .before .before .before .before in
+    let start = at-if1 .before .before .before .before .before in
+    let P = start .pre .1 in
+    let (th, (T, (y, mem, trail))) = P .0 in
+    stage-before y (omega (arith, P .3))
+
+completes-same-length-4 : (t : ℕ) → completes-lts.Need-same-length-4 (completes-calls t) (completes-at t) completes.Post
+completes-same-length-4 t c = search needs
+
+completes-returns-4 : (t : ℕ) → completes-lts.Need-returns-4 (completes-calls t) (completes-at t) completes.Post
+completes-returns-4 t c =
     let at-recall = c .before .before .before in
     let key = at-recall .before .before .goal-key .ensures in
-    let at-if1 = at-recall .before .before .before .before .before .before in
+    let at-if1 = at-recall .before .before .before .before .before .before .before .before .before in
     let start = at-if1 .before .before .before .before .before in
     let P = start .pre .1 in
     let a = start .args in
     let r = at-recall .recall in
     λ th T y mem trail.
     let (m, fact) = r .ensures .told th (a .p .foresight .0) (a .done * 961 + 961) (omega (arith, P .3)) (y .slotted) mem in
-    best-none _ (λ q l. r .ensures .only .low q (omega (arith, l, P .3))) (r .ensures .only .high) m (known y key fact .none (c .if3 .taken))
+    best-none _ (λ q l. r .ensures .only .low q (omega (arith, l, P .3))) (r .ensures .only .high) m (known y key fact .none (c .if4 .taken))
 
 completes-sub-completes-after : (t : ℕ) → completes-lts.Need-sub-completes-after (completes-calls t) (completes-at t) completes.Post
 completes-sub-completes-after t c =
-    let at-repeats = c .before .before .before .before .before .before .before .before .before in
+    let at-repeats = c .before .before .before .before .before .before .before .before .before .before .before .before in
     let at-if1 = at-repeats .before .before in
     omega (arith, at-if1 .if1 .left)
 
 completes-completes-after-requires : (t : ℕ) → completes-lts.Need-completes-after-requires (completes-calls t) (completes-at t) completes.Post
 completes-completes-after-requires t c κs =
     let at-recall = c .before .before .before .before .before in
-    let at-if1 = at-recall .before .before .before .before .before .before in
+    let at-if1 = at-recall .before .before .before .before .before .before .before .before .before in
     let start = at-if1 .before .before .before .before .before in
     let (m, P) = start .pre in
     let a = start .args in
@@ -184,7 +203,7 @@ completes-remember-requires : (t : ℕ) → completes-lts.Need-remember-requires
 completes-remember-requires t c κs =
     let at-completes-after = c .before .before .before .before .before .before in
     let at-recall = at-completes-after .before .before .before .before .before .before in
-    let at-if1 = at-recall .before .before .before .before .before .before in
+    let at-if1 = at-recall .before .before .before .before .before .before .before .before .before in
     let start = at-if1 .before .before .before .before .before in
     let P = start .pre .1 in
     let a = start .args in
@@ -195,56 +214,56 @@ completes-remember-requires t c κs =
     let b = d .ensures th T (slot-same (a .done * 961) y (λ q l. r .ensures .only .low q (omega (arith, l, P .3))) (r .kept .0)) (r .ensures .told th (a .p .foresight .0) (a .done * 961 + 961) (omega (arith, P .3)) (y .slotted) mem .0) (trail-same th (a .p .foresight .0) (a .g .nesting .0) (a .g .base) (meaning (a .p .characters) T 0) (λ q l. r .ensures .only .low q (omega (arith, l, P .3))) (subst (λ (n : ℕ). Trail th (a .p .foresight .0) (a .g .nesting .0) (a .g .base) (a .p) (a .work .now) (a .done) n (meaning (a .p .characters) T 0)) up trail)) in
     stage-before (slot-same (a .done * 961) (slot-same {now = r .last .0} (a .done * 961) y (λ q l. r .ensures .only .low q (omega (arith, l, P .3))) (r .kept .0)) (b .low) (d .kept .1 .1 .1 .0)) (omega (arith, P .3))
 
-completes-same-length-4 : (t : ℕ) → completes-lts.Need-same-length-4 (completes-calls t) (completes-at t) completes.Post
-completes-same-length-4 t c =
+completes-same-length-5 : (t : ℕ) → completes-lts.Need-same-length-5 (completes-calls t) (completes-at t) completes.Post
+completes-same-length-5 t c =
     let at-remember = c .before .before in
     let at-completes-after = at-remember .before .before .before .before .before .before .before in
     let at-recall = at-completes-after .before .before .before .before .before .before in
     at-remember .remember .kept .0 ∙ at-completes-after .completes-after .kept .1 .1 .1 .0 ∙ at-recall .recall .kept .0
 
-completes-same-length-5 : (t : ℕ) → completes-lts.Need-same-length-5 (completes-calls t) (completes-at t) completes.Post
-completes-same-length-5 t c =
-    let at-if4 = c .before .before .before .before in
-    let at-completes-after = at-if4 .before .before .before .before .before in
+completes-same-length-6 : (t : ℕ) → completes-lts.Need-same-length-6 (completes-calls t) (completes-at t) completes.Post
+completes-same-length-6 t c =
+    let at-if5 = c .before .before .before .before in
+    let at-completes-after = at-if5 .before .before .before .before .before in
     at-completes-after .completes-after .kept .1 .1 .1 .1 .0
 
-completes-returns-4 : (t : ℕ) → completes-lts.Need-returns-4 (completes-calls t) (completes-at t) completes.Post
-completes-returns-4 t c =
+completes-returns-5 : (t : ℕ) → completes-lts.Need-returns-5 (completes-calls t) (completes-at t) completes.Post
+completes-returns-5 t c =
     let at-remember = c .before .before in
-    let at-if4 = at-remember .before .before in
-    let at-completes-after = at-if4 .before .before .before .before .before in
+    let at-if5 = at-remember .before .before in
+    let at-completes-after = at-if5 .before .before .before .before .before in
     let at-recall = at-completes-after .before .before .before .before .before .before in
     let key = at-recall .before .before .goal-key .ensures in
-    let at-if1 = at-recall .before .before .before .before .before .before in
+    let at-if1 = at-recall .before .before .before .before .before .before .before .before .before in
     let start = at-if1 .before .before .before .before .before in
     let P = start .pre .1 in
     let a = start .args in
     let r = at-recall .recall in
     let d = at-completes-after .completes-after in
     let rem = at-remember .remember .ensures in
-    let zero : d .result ≡ 0 = omega (arith, at-if4 .if4 .taken) in
+    let zero : d .result ≡ 0 = omega (arith, at-if5 .if5 .taken) in
     let up : a .left ≡ suc (a .left - 1) = omega (arith, at-if1 .if1 .left) in
     λ th T y mem trail.
     let b = best-from (λ q l. r .ensures .only .low q (omega (arith, l, P .3))) (r .ensures .only .high) (best-same (sym up) (d .ensures th T (slot-same (a .done * 961) y (λ q l. r .ensures .only .low q (omega (arith, l, P .3))) (r .kept .0)) (r .ensures .told th (a .p .foresight .0) (a .done * 961 + 961) (omega (arith, P .3)) (y .slotted) mem .0) (trail-same th (a .p .foresight .0) (a .g .nesting .0) (a .g .base) (meaning (a .p .characters) T 0) (λ q l. r .ensures .only .low q (omega (arith, l, P .3))) (subst (λ (n : ℕ). Trail th (a .p .foresight .0) (a .g .nesting .0) (a .g .base) (a .p) (a .work .now) (a .done) n (meaning (a .p .characters) T 0)) up trail)))) in
     let z′ = slot-same (a .done * 961) (slot-same {now = r .last .0} (a .done * 961) y (λ q l. r .ensures .only .low q (omega (arith, l, P .3))) (r .kept .0)) (d .ensures th T (slot-same (a .done * 961) y (λ q l. r .ensures .only .low q (omega (arith, l, P .3))) (r .kept .0)) (r .ensures .told th (a .p .foresight .0) (a .done * 961 + 961) (omega (arith, P .3)) (y .slotted) mem .0) (trail-same th (a .p .foresight .0) (a .g .nesting .0) (a .g .base) (meaning (a .p .characters) T 0) (λ q l. r .ensures .only .low q (omega (arith, l, P .3))) (subst (λ (n : ℕ). Trail th (a .p .foresight .0) (a .g .nesting .0) (a .g .base) (a .p) (a .work .now) (a .done) n (meaning (a .p .characters) T 0)) up trail)) .low) (d .kept .1 .1 .1 .0) in
     best-noted b (omega (arith, P .3)) (rem .only .low) (rem .only .high) (rem .memory th (a .p .foresight .0) (a .done * 961 + 961) (omega (arith, P .3)) (z′ .slotted) (b .memory) (note z′ key (fact-of-none th (a .p .foresight .0) (a .g .nesting .0) (a .g .base) (meaning (a .p .characters) T 0) (b .none zero .1))))
 
-completes-same-length-6 : (t : ℕ) → completes-lts.Need-same-length-6 (completes-calls t) (completes-at t) completes.Post
-completes-same-length-6 t c =
+completes-same-length-7 : (t : ℕ) → completes-lts.Need-same-length-7 (completes-calls t) (completes-at t) completes.Post
+completes-same-length-7 t c =
     let at-completes-after = c .before .before .before .before .before in
     let at-recall = at-completes-after .before .before .before .before .before .before in
     at-completes-after .completes-after .kept .1 .1 .1 .0 ∙ at-recall .recall .kept .0
 
-completes-same-length-7 : (t : ℕ) → completes-lts.Need-same-length-7 (completes-calls t) (completes-at t) completes.Post
-completes-same-length-7 t c =
+completes-same-length-8 : (t : ℕ) → completes-lts.Need-same-length-8 (completes-calls t) (completes-at t) completes.Post
+completes-same-length-8 t c =
     let at-completes-after = c .before .before .before .before .before in
     at-completes-after .completes-after .kept .1 .1 .1 .1 .0
 
-completes-returns-5 : (t : ℕ) → completes-lts.Need-returns-5 (completes-calls t) (completes-at t) completes.Post
-completes-returns-5 t c =
+completes-returns-6 : (t : ℕ) → completes-lts.Need-returns-6 (completes-calls t) (completes-at t) completes.Post
+completes-returns-6 t c =
     let at-completes-after = c .before .before .before .before .before in
     let at-recall = at-completes-after .before .before .before .before .before .before in
-    let at-if1 = at-recall .before .before .before .before .before .before in
+    let at-if1 = at-recall .before .before .before .before .before .before .before .before .before in
     let start = at-if1 .before .before .before .before .before in
     let P = start .pre .1 in
     let a = start .args in
@@ -577,19 +596,22 @@ pub +completes+completes-after+completes-by-spec : {M : Type 1} → statement M
     (completes-repeats-requires t)
     (completes-same-length-2 t)
     (completes-returns-2 t)
-    (completes-goal-key-requires t)
-    (completes-recall-requires t)
+    (completes-within-reach-requires t)
     (completes-same-length-3 t)
     (completes-returns-3 t)
+    (completes-goal-key-requires t)
+    (completes-recall-requires t)
+    (completes-same-length-4 t)
+    (completes-returns-4 t)
     (completes-sub-completes-after t)
     (completes-completes-after-requires t)
     (completes-remember-requires t)
-    (completes-same-length-4 t)
     (completes-same-length-5 t)
-    (completes-returns-4 t)
     (completes-same-length-6 t)
+    (completes-returns-5 t)
     (completes-same-length-7 t)
-    (completes-returns-5 t))
+    (completes-same-length-8 t)
+    (completes-returns-6 t))
     (λ t. completes-after-lts.spec
     (completes-after-calls t)
     (completes-after-at t)
