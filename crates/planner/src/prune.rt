@@ -35,7 +35,8 @@ ghost use Rattle.pack.specs.Grammar.{Dimensions, testAt, conditionAt, rulesAt};
 ghost use Rattle.pack.specs.Contracts.Contents.{Gives};
 ghost use Rattle.pack.specs.Contracts.Judge.{alternativeAt, Small, Readable};
 ghost use Rattle.transition.specs.Laws.Still as still;
-ghost use Rattle.planner.specs.Inner.Look.{Triggered, Moved, Lookable, Looked, Tryable, Hopeless, Trying, Skipped};
+ghost use Rattle.planner.specs.Inner.Look.{Triggered, Moved, Lookable, Looked};
+ghost use Rattle.planner.specs.Inner.Look.{Tryable, Hopeless, Trying, Skipped};
 
 // Whether some trigger writes a fluent of a state itself.
 pub fn moves(pack: &[u8], places: &[u16], triggers: usize, fluent: usize) -> bool
