@@ -282,9 +282,6 @@ module _ (pack places : List ℕ) (c : Course) (ahead work : List ℕ) (t : Tabl
 
   -- a test
   module _ (n : ℕ) where
-    pub test-there : Lookable testAt pack places c ahead n work t → Readable testAt pack n
-    test-there x = record { over = dimensions (x .theory); small = small (x .looking); value = x .value; end = x .stands .end; reads = x .stands .reads }
-
     -- how long its chain is
     module _ {k : ℕ} (chain : Tells testAt (λ (x : Test). length (x .chain)) pack n k) where
       -- about what is believed

@@ -1,5 +1,5 @@
-// What no list of actions can exceed. A utility is 0 or a rule's, so where no rule is above what is to be exceeded there
-// is nothing to look for.
+// What no list of actions can exceed. A utility is 0 or a rule's, so where no rule is above what is to be exceeded
+// there is nothing to look for.
 //
 // A bound before the search: a character's goal is set by the belief that an explanation begins with and stays the same
 // to its end, as the author's does from the start, so it is asked once for each, before anything is recalled or tried.

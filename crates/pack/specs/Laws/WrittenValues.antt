@@ -173,7 +173,8 @@ write-left (e ∷ es) fluent values l =
         → getD (cond b (set values (e .fluent) (e .value)) values) fluent 0
         ≡ cond (b && c) (e .value) (getD values fluent 0)
     go false c q = refl
-    go true false q = getD-set-other values (e .fluent) fluent (e .value) 0 (λ z. eqb-false (e .fluent) fluent q (sym z))
+    go true false q =
+        getD-set-other values (e .fluent) fluent (e .value) 0 (λ z. eqb-false (e .fluent) fluent q (sym z))
     go true true q =
         let same : e .fluent ≡ fluent = eqb-true (e .fluent) fluent q in
         ap (λ (k : ℕ). getD (set values (e .fluent) (e .value)) k 0) (sym same)

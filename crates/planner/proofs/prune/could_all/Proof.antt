@@ -3,7 +3,7 @@ use native.Mathlib.Omega.{arith}
 use borrow.Author.Needs.{needs}
 use borrow.Author.Tests.{not-true, not-false}
 use Rattle.pack.specs.Grammar.{testAt}
-use Rattle.planner.proofs.Pruning.{Rest, run-start, run-stop, run-on, run-none, testRun, look-next, look-inside, test-there, test-end, all-by, all-none}
+use Rattle.planner.proofs.Pruning.{Rest, run-start, run-stop, run-on, run-none, testRun, look-next, look-inside, look-readable, test-end, all-by, all-none}
 use Rattle.planner.proofs.prune.could_all.Statement.{statement}
 use Rattle.planner.proofs.prune.could_all.Tie as tie
 
@@ -38,7 +38,7 @@ could-all-spec =
     let turn = c .before .before in
     let at-loop = turn .before in
     let start = at-loop .before .before .before .before .before .before .before in
-    test-there _ _ _ _ _ _ _ (look-next _ _ _ _ _ _ testAt (start .pre) (at-loop .loop .inv) (turn .loop-test .taken)))
+    look-readable _ _ _ _ _ _ (look-next _ _ _ _ _ _ testAt (start .pre) (at-loop .loop .inv) (turn .loop-test .taken)))
     (λ c. search needs)
     (λ c. search needs)
     (λ c.

@@ -3,7 +3,7 @@
 use Prim.Native.Nat.{_+_, _<_}
 use native.Mathlib.Omega.{arith}
 use borrow.Author.Needs.{needs}
-use Rattle.planner.proofs.Pruning.{test-there, look-triggered, look-cast, own-cell, pass-open, pass-met, pass-brought, pass-moved}
+use Rattle.planner.proofs.Pruning.{look-readable, look-triggered, look-cast, own-cell, pass-open, pass-met, pass-brought, pass-moved}
 use Rattle.planner.proofs.prune.could_pass.Statement.{statement}
 use Rattle.planner.proofs.prune.could_pass.Tie as tie
 
@@ -60,23 +60,23 @@ could-pass-spec =
     (tie.spec
     (λ c κs.
     let start = c .before .before .before .before in
-    test-there _ _ _ _ _ _ _ (start .pre))
+    look-readable _ _ _ _ _ _ (start .pre))
     (λ c. pass-open _ _ _ _ _ _ _ (c .before .chain-of .ensures) (c .if1 .taken))
     (λ c κs.
     let at-chain = c .before in
     let start = at-chain .before .before .before .before .before in
-    test-there _ _ _ _ _ _ _ (start .pre))
+    look-readable _ _ _ _ _ _ (start .pre))
     add-value
     shared-slice-read-value
     (λ c κs.
     let at-chain = c .before .before .before .before in
     let start = at-chain .before .before .before .before .before in
-    test-there _ _ _ _ _ _ _ (start .pre))
+    look-readable _ _ _ _ _ _ (start .pre))
     returns-2
     (λ c κs.
     let at-chain = c .before .before .before .before .before .before in
     let start = at-chain .before .before .before .before .before in
-    (look-cast _ _ _ _ _ _ (start .pre), test-there _ _ _ _ _ _ _ (start .pre)))
+    (look-cast _ _ _ _ _ _ (start .pre), look-readable _ _ _ _ _ _ (start .pre)))
     returns-3
     (λ c κs.
     let at-chain = c .before .before .before .before .before .before .before .before in
