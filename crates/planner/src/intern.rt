@@ -1,13 +1,11 @@
-// A transposition table, behind a step's scratch. Tables of states are interned in it: each is kept once, under a
+// A transposition table, behind the slots. Tables of states are interned in it: each is kept once, under a
 // number that is its id, by which what is known of steps and of lists is found.
 //
 // An id is the number of the table's first block of 12 bytes. A table is held byte for byte against the one that its
 // hash leads to, so nothing proved depends on the hash. Where there is no room, all is forgotten. A state is handed on
 // as the slot that its table stands in.
 use crate::limits::Context;
-use crate::regions::BEFORE_TABLES;
 use crate::regions::HASHED;
-use crate::regions::IDS;
 use crate::regions::KEPT;
 use crate::regions::TABLES;
 use crate::regions::TAKEN;
@@ -16,7 +14,6 @@ use chart::bytes::copy_part;
 use chart::values::first_other;
 use pack::number::wide;
 use pack::table::Table;
-use transition::regions::SLOT;
 ghost use mathlib.Core.Path.{_≡_};
 ghost use mathlib.Core.Bool.{true};
 ghost use Prim.Native.Nat.{_+_, _*_, _<_, _≤_};
@@ -61,10 +58,10 @@ pub fn has_id(work: &[u8], p: Context, t: Table, id: usize) -> bool
         return false;
     }
     let n = t.nodes * t.width;
-    if 12 * wide(work[TAKEN]) + 11 < 12 * id + n {
+    if 12 * wide(work[p.memory + TAKEN]) + 11 < 12 * id + n {
         return false;
     }
-    let at = KEPT + 12 * id;
+    let at = p.memory + KEPT + 12 * id;
     if wide(work[at]) != t.nodes {
         return false;
     }
@@ -77,14 +74,14 @@ pub fn store(work: &mut [u8], p: Context, t: Table) -> usize
     ensures { λ r. ⌜ Stored p t (now (work .entry)) (now (work .exit)) r ⌝ }
 {
     let n = t.nodes * t.width;
-    let taken = wide(work[TAKEN]);
+    let taken = wide(work[p.memory + TAKEN]);
     if 3059 < 12 * taken + n {
         return 0;
     }
-    let at = TABLES + 12 * taken;
+    let at = p.memory + TABLES + 12 * taken;
     work[at] = t.nodes as u8;
     copy_part(work, t.rows, at + 1, n);
-    work[TAKEN] = (taken + n / 12 + 1) as u8;
+    work[p.memory + TAKEN] = (taken + n / 12 + 1) as u8;
     taken + 1
 }
 
@@ -97,7 +94,7 @@ pub fn keep(work: &mut [u8], p: Context, t: Table) -> usize
     if id != 0 {
         return id;
     }
-    clear(work, IDS, BEFORE_TABLES);
+    clear(work, p.memory, TABLES);
     store(work, p, t)
 }
 
@@ -106,7 +103,7 @@ pub fn intern(work: &mut [u8], p: Context, t: Table) -> usize
     requires { ⌜ Before p (now work) t ⌝ }
     ensures { λ r. ⌜ Stored p t (now (work .entry)) (now (work .exit)) r ⌝ }
 {
-    let at = HASHED + hash(work, t.rows, t.nodes * t.width);
+    let at = p.memory + HASHED + hash(work, t.rows, t.nodes * t.width);
     let known = wide(work[at]);
     if has_id(work, p, t, known) {
         return known;
@@ -123,7 +120,7 @@ pub fn intern_slot(work: &mut [u8], p: Context, slot: usize) -> usize
 {
     let t = table_in(work, p, slot);
     let id = intern(work, p, t);
-    work[IDS + (slot + 1) / SLOT] = id as u8;
+    work[p.memory + (slot + 1) / p.stride] = id as u8;
     id
 }
 
@@ -132,7 +129,7 @@ pub fn id_of(work: &mut [u8], p: Context, slot: usize) -> usize
     requires { ⌜ Before p (now work) (slotTable p (now work) slot) ⌝ }
     ensures { λ r. ⌜ Interning p (slotTable p (now (work .entry)) slot) (now (work .entry)) (now (work .exit)) r ⌝ }
 {
-    let known = wide(work[IDS + (slot + 1) / SLOT]);
+    let known = wide(work[p.memory + (slot + 1) / p.stride]);
     if known != 0 {
         return known;
     }

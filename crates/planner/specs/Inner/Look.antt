@@ -19,7 +19,6 @@ use Rattle.transition.specs.Laws.Still.{writes, triggerWrites}
 use Rattle.transition.specs.Contracts.Play.{Theorized}
 use Rattle.planner.specs.declared.limits.Context.{Context}
 use Rattle.planner.specs.Inner.Lists.{slotTable}
-use Rattle.transition.specs.Contracts.Stage.{slotRoom, scratchAt}
 
 -- the fluents that action a or a trigger writes in the state itself
 abbrev pub movedBy : Theory → ℕ → ℕ → Bool
@@ -76,7 +75,9 @@ Hopeless pack places triggers a work t whose left base =
 
 -- every action may be tried in the state in a slot
 pub record Trying (pack places : List ℕ) (h : Context) (work : List ℕ) (slot whose : ℕ) : Type 0 where
-  pub before : slot + slotRoom ≤ scratchAt
+  pub before : slot + h .stride ≤ h .memory
+  pub behind : h .memory ≤ workRoom
+  pub some : 0 < h .stride
   pub room : workRoom ≤ length work
   pub narrow : h .fluents + h .characters ≤ 30
   pub each : (a : ℕ) → a < h .actions → Tryable pack places (h .triggers) a work (slotTable h work slot) whose
