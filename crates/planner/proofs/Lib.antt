@@ -2,6 +2,7 @@
 pub mod TrueMemory
 pub mod Explanations
 pub mod Pruning
+pub mod Bounds
 pub mod ExplainedCall
 pub mod StartSlot
 pub mod SameBytes

@@ -14,21 +14,24 @@ use Rattle.pack.specs.State.{State, meaning}
 use Rattle.pack.specs.Reading.{Reading, done, Reader, pick}
 use Rattle.pack.specs.Number.{counted, numberAt}
 use Rattle.pack.specs.Grammar.{Dimensions, dimensions, testAt, conditionAt, rulesAt, ruleAt, effectAt, effectsAt}
-use Rattle.pack.specs.Condition.{compares, passes, holds, utility}
+use Rattle.pack.specs.Condition.{compares, holds, utility}
 use Rattle.pack.specs.Contracts.Contents.{Gives}
 use Rattle.pack.specs.Contracts.Judge.{alternativeAt, Small, Over, Readable, Judged, Tells, Ends}
-use Rattle.pack.specs.Contracts.Effects.{asks, someOf}
-use Rattle.pack.specs.Contracts.Table.{stateOf}
+use Rattle.pack.specs.Contracts.Effects.{asks, someOf, leftOf}
+use Rattle.pack.specs.Contracts.Table.{stateOf, rowAt, cells}
 use Rattle.pack.specs.declared.effects.Wanted.the-variants.{Sets}
 use Rattle.pack.specs.declared.table.Table.{Table}
 use Rattle.pack.specs.Laws.Judged.{Left, Next, left-start, left-one, left-next, left-last, left-none, counted-starts, RuleParts, rule-parts}
-use Rattle.transition.specs.Happening.{nothing, actionOf, Plays}
+use Rattle.pack.specs.Laws.OneByte.{test-bytes}
+use Rattle.pack.specs.Laws.Rows.{upto-length, rows-at, value-at, cell-in}
+use Rattle.transition.specs.Happening.{nothing, act, actionOf, Plays}
+use Rattle.transition.specs.Contracts.Play.{Theorized}
 use Rattle.transition.specs.Laws.ChangedRows as changing
-use Rattle.transition.specs.Laws.Still.{writes, triggerWrites, plays-still, couldAt, couldPass, couldAll, couldHold, couldExceed, no-exceed}
+use Rattle.transition.specs.Laws.Still.{writes, triggerWrites, plays-acted, acted-left, couldAt, couldPass, couldAll, couldHold, couldExceed, no-exceed}
 use Rattle.planner.specs.declared.limits.Context.{Context}
 use Rattle.planner.specs.Inner.Lists.{slotTable}
 use Rattle.planner.specs.Inner.Explain.{Stage}
-use Rattle.planner.specs.Inner.Look.{movedBy, Acting, Acted, Moved, Looking, Lookable, Looked, Tryable, Hopeless, Trying, Skipped}
+use Rattle.planner.specs.Inner.Look.{Triggered, Moved, Looking, Lookable, Looked, Tryable, Hopeless, Trying, Skipped}
 
 -- flags
 pub unequal : true ≡ false → ⊥
@@ -37,10 +40,6 @@ unequal e = let z : _≡_ {A = ℕ} 1 0 = ap (λ (b : Bool). pick b 1 0) e in om
 never-both : (a : Bool) → (a && false) ≡ false
 never-both true = refl
 never-both false = refl
-
-neither : (a b : Bool) → (a || b) ≡ false → (a ≡ false) × (b ≡ false)
-neither true b e = absurd (unequal e)
-neither false b e = (refl, e)
 
 -- A counted run of parts, and what is told of it, by what is known where it is read
 pub record Run (A K : Type 0) : Type 0 where
@@ -116,49 +115,39 @@ trigger-writes (t ∷ ts) f (suc j) l e = either-true (writes (t .effects) f) (t
     either-true true q = refl
     either-true false q = q
 
-module _ (pack places : List ℕ) (triggers a fluent : ℕ) where
-  -- the action does not write the fluent, nor does any trigger below i
+module _ (pack places : List ℕ) (triggers fluent : ℕ) where
+  -- no trigger below i writes the fluent
   abbrev pub Unmoved : ℕ → Type 0
-  Unmoved i = (p : Theory) → Acting p pack places triggers a → (writes (actionOf p a .effects) fluent ≡ false) × ((j : ℕ) → j < i → writes (getD (p .triggers) j idle .effects) fluent ≡ false)
+  Unmoved i = (p : Theory) (actions : ℕ) → Theorized p pack places actions triggers → (j : ℕ) → j < i → writes (getD (p .triggers) j idle .effects) fluent ≡ false
 
   -- what is told of the effects at a place
   abbrev pub WritesAt : ℕ → Bool → Type 0
   WritesAt at r = Tells effectsAt (someOf (asks (Sets fluent))) pack at r
 
-  pub acted-few : Acted pack places triggers a → (a < 32) × (triggers ≤ 16) × (327 ≤ length places)
-  acted-few x = let y = x .acting .theorized in (omega (arith, x .acting .there, y .found .mostActions), y .found .mostTriggers, y .marked)
-
-  own : (p : Theory) (x : Acting p pack places triggers a) → Gives (effectsAt (dimensions p)) pack (getD places (9 * a + 1) 0) (actionOf p a .effects)
-  own p x = x .theorized .found .action a (x .there) nothing .effects
-
-  pub own-readable : Acted pack places triggers a → Readable effectsAt pack (getD places (9 * a + 1) 0)
-  own-readable x = let g = own (x .theory) (x .acting) in record { over = dimensions (x .theory); small = x .acting .theorized .small; value = actionOf (x .theory) a .effects; end = g .end; reads = g .reads }
-
-  pub own-moves : {r : Bool} → WritesAt (getD places (9 * a + 1) 0) r → r ≡ true → Moved pack places triggers a fluent true
-  own-moves w e p x = sym (ap (λ (b : Bool). b || triggerWrites (p .triggers) fluent) (sym (w (dimensions p) (x .theorized .small) (actionOf p a .effects) (own p x .end) (own p x .reads)) ∙ e))
-
-  pub own-still : {r : Bool} → WritesAt (getD places (9 * a + 1) 0) r → r ≡ false → Unmoved 0
-  own-still w e p x = (sym (w (dimensions p) (x .theorized .small) (actionOf p a .effects) (own p x .end) (own p x .reads)) ∙ e, λ j l. absurd (omega arith))
+  pub triggered-few : Triggered pack places triggers → (triggers ≤ 16) × (327 ≤ length places)
+  triggered-few (p, (n, x)) = (x .found .mostTriggers, x .marked)
 
   module _ (i : ℕ) (l : i < triggers) where
     place : (289 + 2 * i) ≡ (288 + 2 * i) + 1
     place = omega arith
 
-    next : (p : Theory) (x : Acting p pack places triggers a) → Gives (effectsAt (dimensions p)) pack (getD places (289 + 2 * i) 0) (getD (p .triggers) i idle .effects)
-    next p x = subst (λ (k : ℕ). Gives (effectsAt (dimensions p)) pack (getD places k 0) (getD (p .triggers) i idle .effects)) (sym place) (x .theorized .found .trigger i l idle .effects)
+    next : (p : Theory) (n : ℕ) → Theorized p pack places n triggers → Gives (effectsAt (dimensions p)) pack (getD places (289 + 2 * i) 0) (getD (p .triggers) i idle .effects)
+    next p n x = subst (λ (k : ℕ). Gives (effectsAt (dimensions p)) pack (getD places k 0) (getD (p .triggers) i idle .effects)) (sym place) (x .found .trigger i l idle .effects)
 
-    pub next-readable : Acted pack places triggers a → Readable effectsAt pack (getD places (289 + 2 * i) 0)
-    next-readable x = let g = next (x .theory) (x .acting) in record { over = dimensions (x .theory); small = x .acting .theorized .small; value = getD (x .theory .triggers) i idle .effects; end = g .end; reads = g .reads }
+    next-told : {r c : Bool} → WritesAt (getD places (289 + 2 * i) 0) r → r ≡ c → (p : Theory) (n : ℕ) → Theorized p pack places n triggers → writes (getD (p .triggers) i idle .effects) fluent ≡ c
+    next-told w e p n x = let g = next p n x in sym (w (dimensions p) (x .small) (getD (p .triggers) i idle .effects) (g .end) (g .reads)) ∙ e
 
-    pub next-moves : {r : Bool} → WritesAt (getD places (289 + 2 * i) 0) r → r ≡ true → Unmoved i → Moved pack places triggers a fluent true
-    next-moves w e u p x =
-        sym (ap (λ (b : Bool). b || triggerWrites (p .triggers) fluent) (u p x .0) ∙ trigger-writes (p .triggers) fluent i (omega (arith, x .theorized .found .triggers)) (sym (w (dimensions p) (x .theorized .small) (getD (p .triggers) i idle .effects) (next p x .end) (next p x .reads)) ∙ e))
+    pub next-readable : Triggered pack places triggers → Readable effectsAt pack (getD places (289 + 2 * i) 0)
+    next-readable (p, (n, x)) = let g = next p n x in record { over = dimensions p; small = x .small; value = getD (p .triggers) i idle .effects; end = g .end; reads = g .reads }
+
+    pub next-moves : {r : Bool} → WritesAt (getD places (289 + 2 * i) 0) r → r ≡ true → Moved pack places triggers fluent true
+    next-moves w e p n x = sym (trigger-writes (p .triggers) fluent i (omega (arith, x .found .triggers)) (next-told w e p n x))
 
     pub next-still : {r : Bool} → WritesAt (getD places (289 + 2 * i) 0) r → r ≡ false → Unmoved i → Unmoved (i + 1)
-    next-still w e u p x = (u p x .0, λ j h. below-more (λ (j : ℕ). writes (getD (p .triggers) j idle .effects) fluent ≡ false) i (u p x .1) (sym (w (dimensions p) (x .theorized .small) (getD (p .triggers) i idle .effects) (next p x .end) (next p x .reads)) ∙ e) j h)
+    next-still w e u p n x = below-more (λ (j : ℕ). writes (getD (p .triggers) j idle .effects) fluent ≡ false) i (u p n x) (next-told w e p n x)
 
-  pub all-still : {i : ℕ} → triggers ≤ i → Unmoved i → Moved pack places triggers a fluent false
-  all-still h u p x = sym (ap (λ (b : Bool). b || triggerWrites (p .triggers) fluent) (u p x .0) ∙ triggers-still (p .triggers) fluent (λ j l. u p x .1 j (omega (arith, x .theorized .found .triggers))))
+  pub all-still : {i : ℕ} → triggers ≤ i → Unmoved i → Moved pack places triggers fluent false
+  all-still h u p n x = sym (triggers-still (p .triggers) fluent (λ j l. u p n x j (omega (arith, x .found .triggers))))
 
 -- What could pass, hold and exceed, by one more
 module _ (m : ℕ → Bool) (s : State) where
@@ -203,6 +192,16 @@ module _ (pack : List ℕ) (n : ℕ) (p : Theory) (v : Rule) (g : Gives (ruleAt 
   pub rule-condition : Gives (conditionAt (dimensions p)) pack n (v .condition)
   rule-condition = record { end = parts .middle; reads = parts .condition }
 
+-- the own values of what row 0 means
+module _ (t : Table) (work : List ℕ) (some : 0 < t .nodes) {f : ℕ} (below : f < t .fluents) where
+  own-value : getD (stateOf t work 0 []) f 0 ≡ getD work (t .rows + f) 0
+  unfolding meaning
+  own-value = let at : (t .rows + 0 * t .width) + f ≡ t .rows + f = omega arith in value-at t work 0 f some below ∙ ap (λ (q : ℕ). getD work q 0) at
+
+  own-there : f < length (stateOf t work 0 [])
+  unfolding meaning rowAt cells
+  own-there = omega (arith, below, ap (λ (x : Node). length (x .values)) (rows-at work (t .width) (t .fluents) (t .characters) (t .rows) (t .nodes) 0 some), upto-length (λ i. getD work ((t .rows + 0 * t .width) + i) 0) (t .fluents))
+
 -- A test, an alternative, a condition, rules
 module _ (pack places : List ℕ) (triggers a : ℕ) (work : List ℕ) (t : Table) where
   abbrev Seen : Type 0
@@ -211,17 +210,37 @@ module _ (pack places : List ℕ) (triggers a : ℕ) (work : List ℕ) (t : Tabl
   abbrev S : State
   S = stateOf t work 0
 
+  -- what triggers write is open; the state is the one that the action makes
+  abbrev Open : Theory → ℕ → Bool
+  Open p = triggerWrites (p .triggers)
+
+  abbrev Made : Theory → State
+  Made p = act (actionOf p a) S
+
   abbrev pub testRun : Run Test Seen
-  testRun = record { part = λ k. testAt (dimensions (k .0)); limit = 9; tells = λ k. couldAll (movedBy (k .0) a) S }
+  testRun = record { part = λ k. testAt (dimensions (k .0)); limit = 9; tells = λ k. couldAll (Open (k .0)) (Made (k .0)) }
 
   abbrev pub alternativeRun : Run (List Test) Seen
-  alternativeRun = record { part = λ k. alternativeAt (dimensions (k .0)); limit = 9; tells = λ k. couldHold (movedBy (k .0) a) S }
+  alternativeRun = record { part = λ k. alternativeAt (dimensions (k .0)); limit = 9; tells = λ k. couldHold (Open (k .0)) (Made (k .0)) }
 
   abbrev pub ruleRun : ℕ → Run Rule Seen
-  ruleRun base = record { part = λ k. ruleAt (dimensions (k .0)); limit = 9; tells = λ k. couldExceed (movedBy (k .0) a) S base }
+  ruleRun base = record { part = λ k. ruleAt (dimensions (k .0)); limit = 9; tells = λ k. couldExceed (Open (k .0)) (Made (k .0)) base }
 
   small : {p : Theory} → Looking p pack places triggers a work t → Small (dimensions p)
   small x = x .acting .theorized .small
+
+  pub look-triggered : {A : Type 0} {part : Dimensions → Reader A} {at : ℕ} → Lookable part pack places triggers a at work t → Triggered pack places triggers
+  look-triggered x = (x .theory, (x .looking .acting .actions, x .looking .acting .theorized))
+
+  -- the action's effects
+  own-effects : {p : Theory} → Looking p pack places triggers a work t → Gives (effectsAt (dimensions p)) pack (getD places (9 * a + 1) 0) (actionOf p a .effects)
+  own-effects x = x .acting .theorized .found .action a (x .acting .there) nothing .effects
+
+  pub look-few : {A : Type 0} {part : Dimensions → Reader A} {at : ℕ} → Lookable part pack places triggers a at work t → (a < 32) × (327 ≤ length places)
+  look-few x = let y = x .looking .acting in (omega (arith, y .there, y .theorized .found .mostActions), y .theorized .marked)
+
+  pub look-effects : {A : Type 0} {part : Dimensions → Reader A} {at : ℕ} → Lookable part pack places triggers a at work t → Readable effectsAt pack (getD places (9 * a + 1) 0)
+  look-effects x = let g = own-effects (x .looking) in record { over = dimensions (x .theory); small = small (x .looking); value = actionOf (x .theory) a .effects; end = g .end; reads = g .reads }
 
   -- a test
   module _ (n : ℕ) where
@@ -235,29 +254,53 @@ module _ (pack places : List ℕ) (triggers a : ℕ) (work : List ℕ) (t : Tabl
       unfolding couldAt
       pass-open z p x v g = sym (go (v .chain) (chain (dimensions p) (small x) v (g .end) (g .reads)))
         where
-          go : (ch : List ℕ) → k ≡ length ch → couldAt (movedBy p a) S ch v ≡ true
+          go : (ch : List ℕ) → k ≡ length ch → couldAt (Open p) (Made p) ch v ≡ true
           go [] e = absurd (z e)
           go (c ∷ ch) e = refl
 
-      -- about the state itself: what it says of its fluent
+      -- about the state itself: what the action leaves of its fluent
       module _ (z : k ≡ 0) {f : ℕ} (fluent : Tells testAt (λ (x : Test). x .fluent) pack n f) where
-        own-is : (p : Theory) → Looking p pack places triggers a work t → (v : Test) → Gives (testAt (dimensions p)) pack n v → couldPass (movedBy p a) S v ≡ (movedBy p a f || passes S v)
-        unfolding couldAt passes
+        own-is : (p : Theory) → Looking p pack places triggers a work t → (v : Test) → Gives (testAt (dimensions p)) pack n v → couldPass (Open p) (Made p) v ≡ (Open p f || compares (v .kind) (getD (Made p []) f 0) (v .value))
+        unfolding couldAt
         own-is p x v g =
             let here = nil (v .chain) (sym (chain (dimensions p) (small x) v (g .end) (g .reads)) ∙ z) in
-            ap (λ (c : List ℕ). couldAt (movedBy p a) S c v) here
-            ∙ ap (λ (f : ℕ). movedBy p a f || compares (v .kind) (getD (S []) (v .fluent) 0) (v .value)) (sym (fluent (dimensions p) (small x) v (g .end) (g .reads)))
-            ∙ ap (λ (c : List ℕ). movedBy p a f || compares (v .kind) (getD (S c) (v .fluent) 0) (v .value)) (sym here)
+            ap (λ (c : List ℕ). couldAt (Open p) (Made p) c v) here
+            ∙ ap (λ (f : ℕ). Open p f || compares (v .kind) (getD (Made p []) f 0) (v .value)) (sym (fluent (dimensions p) (small x) v (g .end) (g .reads)))
           where
             nil : (l : List ℕ) → length l ≡ 0 → l ≡ []
             nil [] e = refl
             nil (c ∷ l) e = absurd (omega (arith, e))
 
-        pub pass-moved : {r : Bool} → Moved pack places triggers a f r → r ≡ true → Looked testAt couldPass pack places triggers a n work t true
-        pass-moved m r p x v g = sym (own-is p x v g ∙ ap (λ (b : Bool). b || passes S v) (sym (m p (x .acting)) ∙ r))
+        by-moved : {r c : Bool} → Moved pack places triggers f r → r ≡ c → (p : Theory) → Looking p pack places triggers a work t → (v : Test) → Gives (testAt (dimensions p)) pack n v → couldPass (Open p) (Made p) v ≡ (c || compares (v .kind) (getD (Made p []) f 0) (v .value))
+        by-moved m r p x v g = own-is p x v g ∙ ap (λ (b : Bool). b || compares (v .kind) (getD (Made p []) f 0) (v .value)) (sym (m p (x .acting .actions) (x .acting .theorized)) ∙ r)
 
-        pub pass-still : {r b : Bool} → Moved pack places triggers a f r → r ≡ false → ((d : Dimensions) → Over d t → (v : Test) (m : ℕ) → testAt d pack n ≡ done v m → b ≡ passes S v) → Looked testAt couldPass pack places triggers a n work t b
-        pass-still m r q p x v g = q (dimensions p) (x .over) v (g .end) (g .reads) ∙ sym (own-is p x v g ∙ ap (λ (b : Bool). b || passes S v) (sym (m p (x .acting)) ∙ r))
+        pub pass-moved : {r : Bool} → Moved pack places triggers f r → r ≡ true → Looked testAt couldPass pack places triggers a n work t true
+        pass-moved m r p x v g = sym (by-moved m r p x v g)
+
+        -- its fluent is one of the state's
+        own-fluent : (p : Theory) → Looking p pack places triggers a work t → (v : Test) → Gives (testAt (dimensions p)) pack n v → f < t .fluents
+        own-fluent p x v g =
+            let b = test-bytes (dimensions p) (small x) pack n v (g .end) (g .reads) in
+            omega (arith, fluent (dimensions p) (small x) v (g .end) (g .reads), b .fluent, b .below, x .over .fluents)
+
+        pub own-cell : Lookable testAt pack places triggers a n work t → t .rows + f < length work
+        own-cell x =
+            let y = x .looking in
+            let below = own-fluent (x .theory) y (x .value) (x .stands) in
+            omega (arith, cell-in t work (y .fits) 0 f (y .some) (omega (arith, below, y .fits .wide)))
+
+        pub pass-left : {w : ℕ} {r b : Bool} → Moved pack places triggers f r → r ≡ false → Tells effectsAt (λ (es : List Effect). leftOf f es (getD work (t .rows + f) 0)) pack (getD places (9 * a + 1) 0) w → Tells testAt (λ (x : Test). compares (x .kind) w (x .value)) pack n b → Looked testAt couldPass pack places triggers a n work t b
+        pass-left {w} m r leaves q p x v g =
+            q (dimensions p) (small x) v (g .end) (g .reads) ∙ ap (λ (w : ℕ). compares (v .kind) w (v .value)) value ∙ sym (by-moved m r p x v g)
+          where
+            below : f < t .fluents
+            below = own-fluent p x v g
+
+            value : w ≡ getD (Made p []) f 0
+            value =
+                leaves (dimensions p) (small x) (actionOf p a .effects) (own-effects x .end) (own-effects x .reads)
+                ∙ ap (leftOf f (actionOf p a .effects)) (sym (own-value t work (x .some) below))
+                ∙ sym (acted-left p S a f (own-there t work (x .some) below))
 
     -- where it ends
     pub test-end : {m : ℕ} → Ends testAt pack n m → (p : Theory) → Looking p pack places triggers a work t → (v : Test) (g : Gives (testAt (dimensions p)) pack n v) → g .end ≡ m
@@ -322,9 +365,7 @@ module _ (pack places : List ℕ) (triggers a : ℕ) (work : List ℕ) (t : Tabl
     pub try-hopeless : {left base : ℕ} {r : Bool} → left ≡ 0 → Looked rulesAt (λ (moves : ℕ → Bool) (s : State). couldExceed moves s base) pack places triggers a (getD places (320 + whose) 0) work t r → r ≡ false → Hopeless pack places triggers a work t whose left base
     try-hopeless {left} {base} none w e p x s plays = (
       none,
-      no-exceed (movedBy p a) S s
-          (λ f q. let (own, later) = neither (writes (actionOf p a .effects) f) (triggerWrites (p .triggers) f) q in plays-still p S a s plays f own later)
-          base (getD (p .utilities) whose []) (sym (w p x (getD (p .utilities) whose []) (rules-at p x)) ∙ e),
+      no-exceed (Open p) (Made p) s (plays-acted p S a s plays) base (getD (p .utilities) whose []) (sym (w p x (getD (p .utilities) whose []) (rules-at p x)) ∙ e),
     )
 
   pub try-rules : {whose : ℕ} → Tryable pack places triggers a work t whose → Lookable rulesAt pack places triggers a (getD places (320 + whose) 0) work t

@@ -2,5 +2,6 @@
 pub mod Lists
 pub mod Memory
 pub mod Explain
+pub mod Bound
 pub mod Look
 pub mod Search

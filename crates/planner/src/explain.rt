@@ -4,6 +4,7 @@
 // In the slots stand the state asked about, one for each action of the author's list, and one for each action of each
 // explanation within it, at most 8 + 6 x 3 more. A belief is a row of the table that it is believed in and needs no
 // slot.
+use crate::bound::pointless;
 use crate::entry::Deed;
 use crate::entry::Goal;
 use crate::entry::deed_key;
@@ -30,7 +31,7 @@ ghost use Rattle.planner.specs.Ending.{Explained};
 ghost use Rattle.planner.specs.Inner.Lists.{slotTable, Other, Above, AboveBy, AboveBySome, Agreed};
 ghost use Rattle.planner.specs.Inner.Explain.{Prepared, Free, Answers};
 
-// Whether a deed is explained: as is known, or as is found out.
+// Whether a deed is explained: not where there can be no reason for it, else as is known or as is found out.
 pub fn explained(
     pack: &[u8],
     places: &[u16],
@@ -46,6 +47,9 @@ pub fn explained(
         (now (work .exit)) r (λ th s. Explained th (p .foresight .0) (d .nesting .0) (d .who) (d .action) s) ⌝ }
 {
     if d.nesting.0 == 0 {
+        return false;
+    }
+    if pointless(pack, places, p, work, slot, d) {
         return false;
     }
     let key = deed_key(d);

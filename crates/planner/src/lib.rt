@@ -1,5 +1,6 @@
 // The planner layer: explanations and endings. What it promises stands in specs/; here are the answers that its public
 // calls hand back.
+pub mod bound;
 pub mod entry;
 pub mod explain;
 pub mod intern;

@@ -1,17 +1,18 @@
 // A look before an action is tried: no step is made for one whose condition fails, nor for a last one after which no
-// rule above some utility could hold. What effects may write, and what is believed, is left open.
+// rule above some utility could hold. What triggers may write, and what is believed, is left open.
 //
-// Pruning: a test about the state itself, on a fluent that neither the action nor any trigger writes there, keeps its
-// outcome through the step; any other is left open. Where no rule above the old utility could hold, nobody is asked
-// and no step is made. Only a "no" is promised anything.
+// Pruning: a test about the state itself, on a fluent that no trigger writes there, comes out as the value that the
+// action itself leaves of it says; any other is left open. Where no rule above the old utility could hold, nobody is
+// asked and no step is made. Only a "no" is promised anything.
 use crate::intern::table_in;
 use crate::limits::Context;
 use pack::effects::Wanted;
+use pack::effects::left_by;
 use pack::effects::some_effect;
 use pack::judge::after_alternative;
 use pack::judge::after_condition;
 use pack::judge::holds;
-use pack::judge::passes;
+use pack::judge::met_by;
 use pack::number::Number;
 use pack::number::read_number;
 use pack::number::wide;
@@ -34,22 +35,15 @@ ghost use Rattle.pack.specs.Grammar.{Dimensions, testAt, conditionAt, rulesAt};
 ghost use Rattle.pack.specs.Contracts.Contents.{Gives};
 ghost use Rattle.pack.specs.Contracts.Judge.{alternativeAt, Small, Readable};
 ghost use Rattle.transition.specs.Laws.Still as still;
-ghost use Rattle.planner.specs.Inner.Look.{Acted, Moved, Lookable, Looked, Tryable, Hopeless, Trying, Skipped};
+ghost use Rattle.planner.specs.Inner.Look.{Triggered, Moved, Lookable, Looked, Tryable, Hopeless, Trying, Skipped};
 
-// Whether some effect of a move, its action's or a trigger's, writes a fluent of the state itself.
-pub fn moves(pack: &[u8], places: &[u16], m: Move, fluent: usize) -> bool
-    requires { ⌜ Acted (now pack) (now places) (m .triggers) (m .action) ⌝ }
-    ensures { λ r. ⌜ Moved (now (pack .entry)) (now (places .entry)) (m .triggers) (m .action) fluent r ⌝ }
+// Whether some trigger writes a fluent of a state itself.
+pub fn moves(pack: &[u8], places: &[u16], triggers: usize, fluent: usize) -> bool
+    requires { ⌜ Triggered (now pack) (now places) triggers ⌝ }
+    ensures { λ r. ⌜ Moved (now (pack .entry)) (now (places .entry)) triggers fluent r ⌝ }
 {
-    if some_effect(
-        pack,
-        places[ACTION * m.action + EFFECTS] as usize,
-        Wanted::Sets(fluent),
-    ) {
-        return true;
-    }
     let mut i = 0;
-    while i < m.triggers {
+    while i < triggers {
         if some_effect(
             pack,
             places[TRIGGER_EFFECTS + TRIGGER * i] as usize,
@@ -71,10 +65,13 @@ pub fn could_pass(pack: &[u8], places: &[u16], m: Move, at: usize, work: &[u8], 
     if chain_of(pack, at) != 0 {
         return true;
     }
-    if moves(pack, places, m, fluent_of(pack, at)) {
+    let fluent = fluent_of(pack, at);
+    if moves(pack, places, m.triggers, fluent) {
         return true;
     }
-    passes(pack, at, work, t, 0)
+    let effects = places[ACTION * m.action + EFFECTS] as usize;
+    let value = work[t.rows + fluent];
+    met_by(pack, at, left_by(pack, effects, fluent, value))
 }
 
 // Whether all tests of the alternative at a place could.

@@ -7,6 +7,7 @@
 // utility of 0, since one above another is at least 1. Everybody is asked: the character left out is the number of
 // characters, which no consenter has.
 use crate::Found;
+use crate::bound::can_exceed;
 use crate::entry::AUTHOR;
 use crate::entry::Deed;
 use crate::entry::Goal;
@@ -220,7 +221,7 @@ pub fn completes_by(
 }
 
 // The shortest list of 1 to `most` actions from the state in the first slot that leads to a goal, and of those the
-// earliest. Lists are looked for by their length: one, two, and so on.
+// earliest. Lists are looked for by their length: one, two, and so on; none where no rule of the author could exceed.
 pub fn deepen(
     pack: &[u8],
     places: &[u16],
@@ -235,6 +236,9 @@ pub fn deepen(
     ensures { λ r. ⌜ ShortestFrom most (g .nesting .0) (g .base) (now (pack .entry)) (now (places .entry)) p
         (now (list .entry)) (now (list .exit)) (now (work .entry)) (now (work .exit)) r ⌝ }
 {
+    if !can_exceed(pack, places[UTILITIES] as usize, g.base) {
+        return Ended { count: 0, after: 0 };
+    }
     let mut n = 1;
     while n <= most {
         let after = completes(pack, places, p, work, list, 0, g, n);

@@ -25,22 +25,28 @@ const A_LIST: Edit = ("planner/explain.rs", "if known == 1 {", "if known == 9 {"
 const NO_LIST: Edit = ("planner/explain.rs", "if known == 2 {", "if known == 9 {");
 const AUTHORS: Edit = ("planner/search.rs", "if recall(work, p, slot, key) == 3 {", "if false {");
 const REPEATS: Edit = ("planner/search.rs", "if repeats(work, p, slot, done) {", "if false {");
+const NO_REASON: Edit = ("planner/explain.rs", "if pointless(pack, places, p, work, slot, d) {", "if false {");
+const NO_ENDING: Edit =
+    ("planner/search.rs", "if !can_exceed(pack, places[UTILITIES] as usize, g.base) {", "if false {");
 const CONDITIONS: Edit = ("planner/prune.rs", "if !may {", "if false {");
 const LOOK: Edit = ("planner/prune.rs", "if 0 < h.left {", "if true {");
 
 pub const NOTHING_OFF: Off = Off { name: "nothing", edits: &[] };
 
-pub const OFF: [Off; 8] = [
+pub const OFF: [Off; 9] = [
     Off { name: "memory of steps", edits: &[STEPS] },
     Off { name: "memory of verdicts", edits: &[EXPLAINED, UNEXPLAINED] },
     Off { name: "memory of characters' lists", edits: &[A_LIST, NO_LIST] },
     Off { name: "memory of the author's lists", edits: &[AUTHORS] },
     Off { name: "repeats on the author's path", edits: &[REPEATS] },
+    Off { name: "bound on utilities", edits: &[NO_REASON, NO_ENDING] },
     Off { name: "conditions before consenters", edits: &[CONDITIONS] },
     Off { name: "look before a last action", edits: &[LOOK] },
     Off {
         name: "all of them",
-        edits: &[STEPS, EXPLAINED, UNEXPLAINED, A_LIST, NO_LIST, AUTHORS, REPEATS, CONDITIONS, LOOK],
+        edits: &[
+            STEPS, EXPLAINED, UNEXPLAINED, A_LIST, NO_LIST, AUTHORS, REPEATS, NO_REASON, NO_ENDING, CONDITIONS, LOOK,
+        ],
     },
 ];
 

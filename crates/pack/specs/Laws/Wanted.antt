@@ -1,7 +1,7 @@
--- What is asked of an effect, from its bytes, and of a list of effects, one by one. Assumes nothing.
+-- What is asked of an effect, from its bytes, and of a list of effects, one by one; what one leaves. Assumes nothing.
 use Prim.Native.Nat.{ℕ, _+_}
 use mathlib.Core.Path.{_≡_, refl, sym, ap, _∙_}
-use mathlib.Core.Bool.{Bool, true, false, _&&_}
+use mathlib.Core.Bool.{Bool, true, false, cond, _&&_}
 use mathlib.Core.List.{List, [], _∷_}
 use lib.ListN.{getD}
 use lib.Dec.{eqb, ltb}
@@ -10,7 +10,7 @@ use Rattle.pack.specs.Syntax.{Effect}
 use Rattle.pack.specs.Reading.{done}
 use Rattle.pack.specs.Grammar.{Dimensions, effectAt}
 use Rattle.pack.specs.Contracts.Judge.{Small}
-use Rattle.pack.specs.Contracts.Effects.{asks, someOf}
+use Rattle.pack.specs.Contracts.Effects.{asks, someOf, leaves}
 use Rattle.pack.specs.declared.effects.Wanted.{Wanted}
 use Rattle.pack.specs.declared.effects.Wanted.the-variants.{For, Belief, Sets}
 use Rattle.pack.specs.Laws.OneByte.{EffectBytes, effect-bytes}
@@ -49,3 +49,11 @@ some-on f e es h = rw h
 pub some-nil : (f : Effect → Bool) → someOf f [] ≡ false
 unfolding someOf
 some-nil f = refl
+
+-- what an effect leaves, by what is told of it
+module _ (fluent value : ℕ) (e : Effect) {b : Bool} (q : b ≡ asks (Sets fluent) e) where
+  pub leaves-own : b ≡ true → e .value ≡ leaves fluent e value
+  leaves-own t = ap (λ (b : Bool). cond b (e .value) value) (sym t ∙ q)
+
+  pub leaves-old : b ≡ false → value ≡ leaves fluent e value
+  leaves-old f = ap (λ (b : Bool). cond b (e .value) value) (sym f ∙ q)

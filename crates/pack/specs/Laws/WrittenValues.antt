@@ -1,22 +1,23 @@
--- Effects written into the values of a row. Assumes nothing.
+-- Effects written into the values of a row, and what they leave of one. Assumes nothing.
 use Prim.Native.Nat.{ℕ, zero, suc, _+_, _-_, _<_, _≤_}
 use mathlib.Core.Path.{_≡_, refl, sym, ap, _∙_, subst}
-use mathlib.Core.Bool.{cond}
+use mathlib.Core.Bool.{Bool, true, false, cond, _&&_}
 use mathlib.Core.Logic.{by-cases}
-use mathlib.Core.List.{List, _∷_}
+use mathlib.Core.List.{List, [], _∷_}
 use native.Mathlib.Decide.{decLt}
 use native.Mathlib.Numerals.{sub-one}
 use native.Mathlib.Omega.{arith}
 use lib.ListN.{length, getD, set, length-set}
 use lib.Seq.{getD-set-same, getD-set-other, ext-getD}
 use lib.Dec.{eqb}
-use borrow.Author.Tests.{eq-eqb, ne-eqb}
+use borrow.Author.Tests.{eq-eqb, ne-eqb, eqb-true, eqb-false}
 use Rattle.pack.specs.Syntax.{Effect}
 use Rattle.pack.specs.Reading.{done, mapped, runs, many}
 use Rattle.pack.specs.Grammar.{Dimensions, effectAt}
 use Rattle.pack.specs.Condition.{write}
 use Rattle.pack.specs.Contracts.Table.{cells}
 use Rattle.pack.specs.Contracts.Write.{RowOnly, EffectWritten}
+use Rattle.pack.specs.Contracts.Effects.{leaves, leftOf}
 use Rattle.pack.specs.Laws.Reading.{same-value, both, unmapped}
 use Rattle.pack.specs.Laws.Rows.{upto-length, cells-at}
 use Rattle.pack.specs.Laws.OneByte.{effect-bytes}
@@ -87,53 +88,93 @@ module _ (s : List ℕ) (at whom : ℕ) (bytes : List ℕ) (row k : ℕ) where
     only = only-none bytes row k;
   }
 
--- what is left of the effects, from n on, still has to be written to make b
-pub record Owed (d : Dimensions) (s : List ℕ) (n left whom : ℕ) (values b : List ℕ) (end : ℕ) : Type 0 where
-  pub rest : List Effect
-  pub reads : many (effectAt d) left s n ≡ done rest end
-  pub same : b ≡ write whom rest values
+-- effects written one by one, into values or into one of them: what a list makes of v, by its first effect
+module _ {A : Type 0} (makes : List Effect → A → A) (d : Dimensions) (s : List ℕ) where
+  -- what is left of the effects, from n on, still has to be written into v to make b
+  pub record Owed (n left : ℕ) (v b : A) (end : ℕ) : Type 0 where
+    pub rest : List Effect
+    pub reads : many (effectAt d) left s n ≡ done rest end
+    pub same : b ≡ makes rest v
 
--- the next effect of what is left
-pub record Due (d : Dimensions) (s : List ℕ) (n left whom : ℕ) (values b : List ℕ) (end : ℕ) : Type 0 where
-  pub item : Effect
-  pub place : ℕ
-  pub rest : List Effect
-  pub here : effectAt d s n ≡ done item place
-  pub more : many (effectAt d) (left - 1) s place ≡ done rest end
-  pub same : b ≡ write whom (item ∷ rest) values
+  -- the next effect of what is left
+  pub record Due (n left : ℕ) (v b : A) (end : ℕ) : Type 0 where
+    pub item : Effect
+    pub place : ℕ
+    pub rest : List Effect
+    pub here : effectAt d s n ≡ done item place
+    pub more : many (effectAt d) (left - 1) s place ≡ done rest end
+    pub same : b ≡ makes (item ∷ rest) v
 
-pub owed-one : (d : Dimensions) (s : List ℕ) (n left whom : ℕ) (values b : List ℕ) (end : ℕ)
-    → Owed d s n left whom values b end → 0 < left → Due d s n left whom values b end
-unfolding runs
-owed-one d s n zero whom values b end l h = absurd (omega arith)
-owed-one d s n (suc left) whom values b end l h =
-    let p = effectAt d in
-    let w = both (p s n) (λ a n. mapped (λ rest. a ∷ rest) (many p left s n)) (l .rest) end (l .reads) in
-    let u = unmapped (λ rest. w .value ∷ rest) (many p left s (w .place)) (l .rest) end (w .right) in
-    record {
-      item = w .value;
-      place = w .place;
-      rest = u .value;
-      here = w .left;
-      more = ap (λ (k : ℕ). many p k s (w .place)) (sub-one (suc left)) ∙ u .left;
-      same = l .same ∙ ap (λ (r : List Effect). write whom r values) (sym (u .right));
-    }
+  pub owed-one : (n left : ℕ) (v b : A) (end : ℕ) → Owed n left v b end → 0 < left → Due n left v b end
+  unfolding runs
+  owed-one n zero v b end l h = absurd (omega arith)
+  owed-one n (suc left) v b end l h =
+      let p = effectAt d in
+      let w = both (p s n) (λ x n. mapped (λ rest. x ∷ rest) (many p left s n)) (l .rest) end (l .reads) in
+      let u = unmapped (λ rest. w .value ∷ rest) (many p left s (w .place)) (l .rest) end (w .right) in
+      record {
+        item = w .value;
+        place = w .place;
+        rest = u .value;
+        here = w .left;
+        more = ap (λ (k : ℕ). many p k s (w .place)) (sub-one (suc left)) ∙ u .left;
+        same = l .same ∙ ap (λ (r : List Effect). makes r v) (sym (u .right));
+      }
 
-pub owed-next : (d : Dimensions) (s : List ℕ) (n left whom : ℕ) (values b : List ℕ) (end : ℕ)
-    (x : Due d s n left whom values b end) (m : ℕ) (now : List ℕ)
-    → x .place ≡ m → now ≡ cond (eqb (x .item .whom) whom) (set values (x .item .fluent) (x .item .value)) values
-    → Owed d s m (left - 1) whom now b end
+  pub owed-next : (n left : ℕ) (v b : A) (end : ℕ) (x : Due n left v b end) (m : ℕ) (now : A)
+      → x .place ≡ m → makes (x .item ∷ x .rest) v ≡ makes (x .rest) now → Owed m (left - 1) now b end
+  owed-next n left v b end x m now e g =
+      record {
+        rest = x .rest;
+        reads = ap (many (effectAt d) (left - 1) s) (sym e) ∙ x .more;
+        same = x .same ∙ g;
+      }
+
+  pub owed-none : (n left : ℕ) (v b : A) (end : ℕ) → Owed n left v b end → left ≤ 0 → makes [] v ≡ v → b ≡ v
+  unfolding runs
+  owed-none n zero v b end l h nil =
+      l .same ∙ ap (λ (r : List Effect). makes r v) (sym (same-value (l .reads))) ∙ nil
+  owed-none n (suc left) v b end l h nil = absurd (omega arith)
+
+-- the first effect of a list, and none
+pub write-first : (whom : ℕ) (e : Effect) (es : List Effect) (values now : List ℕ)
+    → now ≡ cond (eqb (e .whom) whom) (set values (e .fluent) (e .value)) values
+    → write whom (e ∷ es) values ≡ write whom es now
 unfolding write
-owed-next d s n left whom values b end x m now e g =
-    record {
-      rest = x .rest;
-      reads = ap (many (effectAt d) (left - 1) s) (sym e) ∙ x .more;
-      same = x .same ∙ ap (write whom (x .rest)) (sym g);
-    }
+write-first whom e es values now q = ap (write whom es) (sym q)
 
-pub owed-none : (d : Dimensions) (s : List ℕ) (n left whom : ℕ) (values b : List ℕ) (end : ℕ)
-    → Owed d s n left whom values b end → left ≤ 0 → b ≡ values
-unfolding runs write
-owed-none d s n zero whom values b end l h =
-    l .same ∙ ap (λ (r : List Effect). write whom r values) (sym (same-value (l .reads)))
-owed-none d s n (suc left) whom values b end l h = absurd (omega arith)
+pub write-nil : (whom : ℕ) (values : List ℕ) → write whom [] values ≡ values
+unfolding write
+write-nil whom values = refl
+
+pub left-first : (fluent : ℕ) (e : Effect) (es : List Effect) (value now : ℕ) → now ≡ leaves fluent e value
+    → leftOf fluent (e ∷ es) value ≡ leftOf fluent es now
+unfolding leftOf
+left-first fluent e es value now q = ap (leftOf fluent es) (sym q)
+
+pub left-nil : (fluent value : ℕ) → leftOf fluent [] value ≡ value
+unfolding leftOf
+left-nil fluent value = refl
+
+-- what effects leave of a fluent stands there after they are written
+pub write-left : (es : List Effect) (fluent : ℕ) (values : List ℕ) → fluent < length values
+    → getD (write 0 es values) fluent 0 ≡ leftOf fluent es (getD values fluent 0)
+unfolding write leftOf
+write-left [] fluent values l = refl
+write-left (e ∷ es) fluent values l =
+    write-left es fluent (cond (eqb (e .whom) 0) (set values (e .fluent) (e .value)) values) (long (eqb (e .whom) 0))
+    ∙ ap (leftOf fluent es) (go (eqb (e .whom) 0) (eqb (e .fluent) fluent) refl)
+  where
+    long : (b : Bool) → fluent < length (cond b (set values (e .fluent) (e .value)) values)
+    long true = omega (arith, length-set values (e .fluent) (e .value), l)
+    long false = l
+
+    go : (b c : Bool) → eqb (e .fluent) fluent ≡ c
+        → getD (cond b (set values (e .fluent) (e .value)) values) fluent 0
+        ≡ cond (b && c) (e .value) (getD values fluent 0)
+    go false c q = refl
+    go true false q = getD-set-other values (e .fluent) fluent (e .value) 0 (λ z. eqb-false (e .fluent) fluent q (sym z))
+    go true true q =
+        let same : e .fluent ≡ fluent = eqb-true (e .fluent) fluent q in
+        ap (λ (k : ℕ). getD (set values (e .fluent) (e .value)) k 0) (sym same)
+        ∙ getD-set-same values (e .fluent) (e .value) 0 (omega (arith, same, l))

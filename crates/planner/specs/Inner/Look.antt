@@ -1,6 +1,6 @@
 -- What is looked at before an action is tried, and what is told of it. Assumes nothing.
 use mathlib.Core.Path.{_≡_}
-use mathlib.Core.Bool.{Bool, _||_}
+use mathlib.Core.Bool.{Bool}
 use mathlib.Core.List.{List, []}
 use Prim.Native.Nat.{ℕ, _+_, _<_, _≤_}
 use lib.ListN.{length, getD}
@@ -14,29 +14,26 @@ use Rattle.pack.specs.Contracts.Judge.{Over}
 use Rattle.pack.specs.Contracts.Table.{stateOf, TableFits}
 use Rattle.pack.specs.declared.table.Table.{Table}
 use Rattle.chart.specs.Call.{workRoom}
-use Rattle.transition.specs.Happening.{Plays, actionOf}
-use Rattle.transition.specs.Laws.Still.{writes, triggerWrites}
+use Rattle.transition.specs.Happening.{Plays, act, actionOf}
+use Rattle.transition.specs.Laws.Still.{triggerWrites}
 use Rattle.transition.specs.Contracts.Play.{Theorized}
 use Rattle.planner.specs.declared.limits.Context.{Context}
 use Rattle.planner.specs.Inner.Lists.{slotTable}
 
--- the fluents that action a or a trigger writes in the state itself
-abbrev pub movedBy : Theory → ℕ → ℕ → Bool
-movedBy p a f = writes (actionOf p a .effects) f || triggerWrites (p .triggers) f
+-- a theory with so many triggers is found in the pack
+abbrev pub Triggered : (pack places : List ℕ) (triggers : ℕ) → Type 0
+Triggered pack places triggers = (p : Theory) × ((actions : ℕ) × Theorized p pack places actions triggers)
+
+-- the flag r says whether some trigger writes the fluent in a state itself
+abbrev pub Moved : (pack places : List ℕ) (triggers fluent : ℕ) (r : Bool) → Type 0
+Moved pack places triggers fluent r =
+    (p : Theory) (actions : ℕ) → Theorized p pack places actions triggers → r ≡ triggerWrites (p .triggers) fluent
 
 -- an action of a theory that is found in the pack
 pub record Acting (p : Theory) (pack places : List ℕ) (triggers a : ℕ) : Type 0 where
   pub actions : ℕ
   pub theorized : Theorized p pack places actions triggers
   pub there : a < actions
-
-pub record Acted (pack places : List ℕ) (triggers a : ℕ) : Type 0 where
-  pub theory : Theory
-  pub acting : Acting theory pack places triggers a
-
--- the flag r says whether the fluent is one of those
-abbrev pub Moved : (pack places : List ℕ) (triggers a fluent : ℕ) (r : Bool) → Type 0
-Moved pack places triggers a fluent r = (p : Theory) → Acting p pack places triggers a → r ≡ movedBy p a fluent
 
 -- and a table to look at
 pub record Looking (p : Theory) (pack places : List ℕ) (triggers a : ℕ) (work : List ℕ) (t : Table) : Type 0 where
@@ -53,13 +50,13 @@ pub record Lookable {A : Type 0} (part : Dimensions → Reader A) (pack places :
   pub value : A
   pub stands : Gives (part (dimensions theory)) pack at value
 
--- the flag r says of it what `could` says, where what is moved is open
+-- the flag r says of it what `could` says of the state that the action makes, where what triggers write is open
 abbrev pub Looked : {A : Type 0} (part : Dimensions → Reader A) (could : (ℕ → Bool) → State → A → Bool)
     (pack places : List ℕ) (triggers a at : ℕ) (work : List ℕ) (t : Table) (r : Bool)
     → Type 0
 Looked part could pack places triggers a at work t r =
     (p : Theory) → Looking p pack places triggers a work t → (value : _) → Gives (part (dimensions p)) pack at value
-    → r ≡ could (movedBy p a) (stateOf t work 0) value
+    → r ≡ could (triggerWrites (p .triggers)) (act (actionOf p a) (stateOf t work 0)) value
 
 -- whose utility it is: the author's is the first, then each character's
 pub record Tryable (pack places : List ℕ) (triggers a : ℕ) (work : List ℕ) (t : Table) (whose : ℕ) : Type 0 where

@@ -1,19 +1,20 @@
--- A fluent that no effect writes in a state itself keeps its value there: through an action, the rounds after it, and
--- all that is judged of it. Assumes nothing.
-use Prim.Native.Nat.{ℕ, _≤_}
+-- A fluent that no trigger writes in a state itself keeps there the value that an action left: through the rounds after
+-- it, and in all that is judged of it. Assumes nothing.
+use Prim.Native.Nat.{ℕ, _<_, _≤_}
 use mathlib.Core.Path.{_≡_, refl, sym, ap, _∙_, subst}
 use mathlib.Core.Bool.{Bool, true, false, cond, _&&_, _||_}
 use mathlib.Core.Option.{some}
 use mathlib.Core.List.{List, [], _∷_}
 use native.Mathlib.Omega.{arith}
-use lib.ListN.{getD, set}
+use lib.ListN.{getD, set, length}
 use lib.Seq.{getD-set-other}
 use lib.Dec.{eqb, ltb}
 use borrow.Author.Tests.{eqb-false, ltb-false}
 use Rattle.pack.specs.Syntax.{Effect, Trigger, Test, Condition, Rule, Theory}
 use Rattle.pack.specs.State.{State}
-use Rattle.pack.specs.Contracts.Effects.{someOf}
+use Rattle.pack.specs.Contracts.Effects.{someOf, leftOf}
 use Rattle.pack.specs.Condition.{compares, passes, allPass, holds, utility, write}
+use Rattle.pack.specs.Laws.WrittenValues.{write-left}
 use Rattle.transition.specs.Happening.{change, act, firing, effectsOf, fires, round, Settles, actionOf, Plays}
 
 -- some effect is meant for the state itself and writes f
@@ -74,13 +75,16 @@ settles-still p f e k s t (Settles.again {k = j} w q r) =
     settles-still p f e j (round (p .triggers) s) t r
     ∙ write-still (fires (p .triggers) s) f (s []) (fires-still (p .triggers) s f e)
 
--- what an action leaves has it as it was
-pub plays-still : (p : Theory) (s : State) (a : ℕ) (t : State) → Plays p s a t → (f : ℕ)
-    → writes (actionOf p a .effects) f ≡ false → triggerWrites (p .triggers) f ≡ false
-    → getD (t []) f 0 ≡ getD (s []) f 0
+-- what the action itself left of it is still there in the end
+pub plays-acted : (p : Theory) (s : State) (a : ℕ) (t : State) → Plays p s a t → (f : ℕ)
+    → triggerWrites (p .triggers) f ≡ false → getD (t []) f 0 ≡ getD (act (actionOf p a) s []) f 0
+plays-acted p s a t x f later = settles-still p f later 16 (act (actionOf p a) s) t (x .settles)
+
+-- and that is what its effects leave of the value before it
+pub acted-left : (p : Theory) (s : State) (a f : ℕ) → f < length (s [])
+    → getD (act (actionOf p a) s []) f 0 ≡ leftOf f (actionOf p a .effects) (getD (s []) f 0)
 unfolding act change
-plays-still p s a t x f own later =
-    settles-still p f later 16 (act (actionOf p a) s) t (x .settles) ∙ write-still (actionOf p a .effects) f (s []) own
+acted-left p s a f l = write-left (actionOf p a .effects) f (s []) l
 
 -- What could pass, hold and be exceeded, where `moves` says of which fluents the own values are open; what is believed
 -- is open too

@@ -13,13 +13,13 @@ use Rattle.pack.specs.Contracts.Write.{RowOnly}
 use Rattle.pack.specs.Syntax.{Effect}
 use Rattle.pack.specs.Reading.{done}
 use Rattle.pack.specs.Laws.Judged.{counted-starts}
-use Rattle.pack.specs.Laws.WrittenValues.{only-none, only-then, Owed, owed-one, owed-next, owed-none}
+use Rattle.pack.specs.Laws.WrittenValues.{only-none, only-then, Owed, owed-one, owed-next, owed-none, write-first, write-nil}
 use Rattle.pack.proofs.write.write_effects.Statement.{statement}
 use Rattle.pack.proofs.write.write_effects.Tie as tie
 
 abbrev Inv-loop : tie.InvT-loop
 Inv-loop s at whom buffer₀ row fluents n₀ left₀ buffer n left =
-    ((d : Dimensions) → Small d → length (d .domains) ≡ fluents → (xs : List Effect) (end : ℕ) → effectsAt d s at ≡ done xs end → Owed d s n left whom (cells buffer row fluents) (write whom xs (cells buffer₀ row fluents)) end) × RowOnly buffer₀ buffer row fluents
+    ((d : Dimensions) → Small d → length (d .domains) ≡ fluents → (xs : List Effect) (end : ℕ) → effectsAt d s at ≡ done xs end → Owed (write whom) d s n left (cells buffer row fluents) (write whom xs (cells buffer₀ row fluents)) end) × RowOnly buffer₀ buffer row fluents
 
 abbrev μ-loop : tie.MeasureT-loop
 μ-loop s at whom buffer₀ row fluents n₀ left₀ buffer n left = left
@@ -60,10 +60,10 @@ write-effects-spec =
     let at-loop = turn .before in (
       λ d small wide xs end e.
           let x = owed-one _ _ _ _ _ _ _ _ (at-loop .loop .inv .0 d small wide xs end e) (turn .loop-test .taken) in
-          owed-next _ _ _ _ _ _ _ _ x _ _ (sym (c .after-effect .ensures d small (x .item) (x .place) (x .here))) (at-effect .write-effect .ensures .values d small wide (x .item) (x .place) (x .here)),
+          owed-next _ _ _ _ _ _ _ _ x _ _ (sym (c .after-effect .ensures d small (x .item) (x .place) (x .here))) (write-first _ (x .item) (x .rest) _ _ (at-effect .write-effect .ensures .values d small wide (x .item) (x .place) (x .here))),
       only-then _ _ _ _ _ (at-loop .loop .inv .1) (at-effect .write-effect .ensures .only),
     ))
     (λ c. c .before .loop .inv .1 .long)
     (λ c.
     let turn = c .before in
-    record { values = λ d small wide xs end e. sym (owed-none _ _ _ _ _ _ _ _ (turn .loop .inv .0 d small wide xs end e) (c .loop-test .left)); only = turn .loop .inv .1 }))
+    record { values = λ d small wide xs end e. sym (owed-none _ _ _ _ _ _ _ _ (turn .loop .inv .0 d small wide xs end e) (c .loop-test .left) (write-nil _ _)); only = turn .loop .inv .1 }))

@@ -49,6 +49,7 @@ use Rattle.pack.proofs.number.wide.Reads as wide-reads
 use Rattle.pack.proofs.write.consenter.Reads as consenter-reads
 use Rattle.pack.proofs.write.consenters.Reads as consenters-reads
 use Rattle.planner.proofs.explain.mark_of.Reads as mark-of-reads
+use Rattle.planner.proofs.bound.pointless.Reads as pointless-reads
 use Rattle.planner.proofs.prune.next_promising.Reads as next-promising-reads
 use Rattle.planner.proofs.intern.table_in.Reads as table-in-reads
 use Rattle.planner.proofs.entry.deed_key.Reads as deed-key-reads
@@ -131,7 +132,7 @@ abbrev via-below : ℕ → In 3 via-kinds.ps
 via-below t = and 3 via-kinds.ps (falls 3 via-kinds.ps _<_ μ-via t) via.Pre
 
 abbrev explained-calls : ℕ → explained-lts.Claims
-explained-calls t = (deed-key-reads.Asked, deed-key-reads.Learnt, recall-reads.Asked, recall-reads.Learnt, explains-below t, explains.Post, mark-of-reads.Asked, mark-of-reads.Learnt, remember-reads.Asked, remember-reads.Learnt)
+explained-calls t = (pointless-reads.Asked, pointless-reads.Learnt, deed-key-reads.Asked, deed-key-reads.Learnt, recall-reads.Asked, recall-reads.Learnt, explains-below t, explains.Post, mark-of-reads.Asked, mark-of-reads.Learnt, remember-reads.Asked, remember-reads.Learnt)
 
 abbrev explains-calls : ℕ → explains-lts.Claims
 explains-calls t = (wide-reads.Asked, wide-reads.Learnt, known-step-reads.Asked, known-step-reads.Learnt, table-in-reads.Asked, table-in-reads.Learnt, utility-reads.Asked, utility-reads.Learnt, extends-below t, extends.Post)
@@ -292,50 +293,67 @@ explained-returns t c =
     let none : 0 ≡ a .d .nesting .0 = omega (arith, c .if1 .taken) in
     λ th T y mem. told-none _ mem (λ z. explained-zero th (a .p .foresight .0) (a .d .who) (a .d .action) (meaning (a .p .characters) T 0) (subst (λ (e : ℕ). Explained th (a .p .foresight .0) e (a .d .who) (a .d .action) (meaning (a .p .characters) T 0)) (sym none) z))
 
-explained-deed-key-requires : (t : ℕ) → explained-lts.Need-deed-key-requires (explained-calls t) (explained-at t) explained.Post
-explained-deed-key-requires t c κs = search needs
-
-explained-recall-requires : (t : ℕ) → explained-lts.Need-recall-requires (explained-calls t) (explained-at t) explained.Post
-explained-recall-requires t c κs =
-    let start = c .before .before .before .before .before .before .before in
+explained-pointless-requires : (t : ℕ) → explained-lts.Need-pointless-requires (explained-calls t) (explained-at t) explained.Post
+explained-pointless-requires t c κs =
+    let start = c .before .before .before .before .before .before in
     let P = start .pre .1 in
     let (th, (T, (y, mem))) = P .0 in
-    stage-before y (omega (arith, P .5))
+    ((th, (T, y)), P .1, P .2, omega (arith, P .5))
 
 explained-same-length : (t : ℕ) → explained-lts.Need-same-length (explained-calls t) (explained-at t) explained.Post
 explained-same-length t c = search needs
 
 explained-returns-2 : (t : ℕ) → explained-lts.Need-returns-2 (explained-calls t) (explained-at t) explained.Post
 explained-returns-2 t c =
-    let at-recall = c .before .before .before in
-    let key = at-recall .before .before .deed-key .ensures in
-    let start = at-recall .before .before .before .before .before .before .before .before in
-    let P = start .pre .1 in
+    let at-pointless = c .before in
+    let start = at-pointless .before .before .before .before .before .before .before in
     let a = start .args in
-    let r = at-recall .recall in
-    λ th T y mem.
-    let (m, fact) = (r .ensures .told th (a .p .foresight .0) (a .slot + 961) (omega (arith, P .5)) (y .slotted) mem) in
-    told-no (λ q l. r .ensures .only .low q (omega (arith, l, P .5))) (r .ensures .only .high) m (known y key fact .unexplained (c .if2 .taken))
+    λ th T y mem. told-none _ mem (at-pointless .pointless .ensures (c .if2 .taken) th T y (a .p .foresight .0) (a .d .nesting .0))
+
+explained-deed-key-requires : (t : ℕ) → explained-lts.Need-deed-key-requires (explained-calls t) (explained-at t) explained.Post
+explained-deed-key-requires t c κs = search needs
+
+explained-recall-requires : (t : ℕ) → explained-lts.Need-recall-requires (explained-calls t) (explained-at t) explained.Post
+explained-recall-requires t c κs =
+    let start = c .before .before .before .before .before .before .before .before .before .before in
+    let P = start .pre .1 in
+    let (th, (T, (y, mem))) = P .0 in
+    stage-before y (omega (arith, P .5))
 
 explained-same-length-2 : (t : ℕ) → explained-lts.Need-same-length-2 (explained-calls t) (explained-at t) explained.Post
 explained-same-length-2 t c = search needs
 
 explained-returns-3 : (t : ℕ) → explained-lts.Need-returns-3 (explained-calls t) (explained-at t) explained.Post
 explained-returns-3 t c =
-    let at-recall = c .before .before .before .before in
+    let at-recall = c .before .before .before in
     let key = at-recall .before .before .deed-key .ensures in
-    let start = at-recall .before .before .before .before .before .before .before .before in
+    let start = at-recall .before .before .before .before .before .before .before .before .before .before .before in
     let P = start .pre .1 in
     let a = start .args in
     let r = at-recall .recall in
     λ th T y mem.
     let (m, fact) = (r .ensures .told th (a .p .foresight .0) (a .slot + 961) (omega (arith, P .5)) (y .slotted) mem) in
-    told-yes (λ q l. r .ensures .only .low q (omega (arith, l, P .5))) (r .ensures .only .high) m (known y key fact .explained (c .if3 .taken))
+    told-no (λ q l. r .ensures .only .low q (omega (arith, l, P .5))) (r .ensures .only .high) m (known y key fact .unexplained (c .if3 .taken))
+
+explained-same-length-3 : (t : ℕ) → explained-lts.Need-same-length-3 (explained-calls t) (explained-at t) explained.Post
+explained-same-length-3 t c = search needs
+
+explained-returns-4 : (t : ℕ) → explained-lts.Need-returns-4 (explained-calls t) (explained-at t) explained.Post
+explained-returns-4 t c =
+    let at-recall = c .before .before .before .before in
+    let key = at-recall .before .before .deed-key .ensures in
+    let start = at-recall .before .before .before .before .before .before .before .before .before .before .before in
+    let P = start .pre .1 in
+    let a = start .args in
+    let r = at-recall .recall in
+    λ th T y mem.
+    let (m, fact) = (r .ensures .told th (a .p .foresight .0) (a .slot + 961) (omega (arith, P .5)) (y .slotted) mem) in
+    told-yes (λ q l. r .ensures .only .low q (omega (arith, l, P .5))) (r .ensures .only .high) m (known y key fact .explained (c .if4 .taken))
 
 explained-explains-requires : (t : ℕ) → explained-lts.Need-explains-requires (explained-calls t) (explained-at t) explained.Post
 explained-explains-requires t c κs =
     let at-recall = c .before .before .before .before .before in
-    let at-if1 = at-recall .before .before .before in
+    let at-if1 = at-recall .before .before .before .before .before .before in
     let start = at-if1 .before .before .before .before .before in
     let (m, P) = start .pre in
     let a = start .args in
@@ -353,7 +371,7 @@ explained-remember-requires : (t : ℕ) → explained-lts.Need-remember-requires
 explained-remember-requires t c κs =
     let at-explains = c .before .before .before .before in
     let at-recall = at-explains .before .before .before .before .before .before in
-    let start = at-recall .before .before .before .before .before .before .before .before in
+    let start = at-recall .before .before .before .before .before .before .before .before .before .before .before in
     let P = start .pre .1 in
     let a = start .args in
     let (th, (T, (y, mem))) = P .0 in
@@ -363,21 +381,21 @@ explained-remember-requires t c κs =
     let z = slot-same (a .slot) (slot-same {now = r .last .0} (a .slot) y (λ q l. r .ensures .only .low q (omega (arith, l, P .5))) (r .kept .0)) (told .low) (x .kept .1 .1 .1 .0) in
     stage-before z (omega (arith, P .5))
 
-explained-same-length-3 : (t : ℕ) → explained-lts.Need-same-length-3 (explained-calls t) (explained-at t) explained.Post
-explained-same-length-3 t c =
+explained-same-length-4 : (t : ℕ) → explained-lts.Need-same-length-4 (explained-calls t) (explained-at t) explained.Post
+explained-same-length-4 t c =
     let at-remember = c .before .before in
     let at-explains = at-remember .before .before .before .before .before in
     let at-recall = at-explains .before .before .before .before .before .before in
     at-remember .remember .kept .0 ∙ at-explains .explains .kept .1 .1 .1 .0 ∙ at-recall .recall .kept .0
 
-explained-returns-4 : (t : ℕ) → explained-lts.Need-returns-4 (explained-calls t) (explained-at t) explained.Post
-explained-returns-4 t c =
+explained-returns-5 : (t : ℕ) → explained-lts.Need-returns-5 (explained-calls t) (explained-at t) explained.Post
+explained-returns-5 t c =
     let at-remember = c .before .before in
     let at-mark-of = at-remember .before in
     let at-explains = at-mark-of .before .before .before .before in
     let at-recall = at-explains .before .before .before .before .before .before in
     let key = at-recall .before .before .deed-key .ensures in
-    let start = at-recall .before .before .before .before .before .before .before .before in
+    let start = at-recall .before .before .before .before .before .before .before .before .before .before .before in
     let P = start .pre .1 in
     let a = start .args in
     let r = at-recall .recall in
@@ -1038,18 +1056,21 @@ pub +allowed+explained+explains+extends+extends-by+fine+via-spec : {M : Type 1} 
     (explained-at t)
     explained.Post
     (explained-returns t)
-    (explained-deed-key-requires t)
-    (explained-recall-requires t)
+    (explained-pointless-requires t)
     (explained-same-length t)
     (explained-returns-2 t)
+    (explained-deed-key-requires t)
+    (explained-recall-requires t)
     (explained-same-length-2 t)
     (explained-returns-3 t)
+    (explained-same-length-3 t)
+    (explained-returns-4 t)
     (explained-explains-requires t)
     (explained-mark-of-requires t)
     (explained-add-remember t)
     (explained-remember-requires t)
-    (explained-same-length-3 t)
-    (explained-returns-4 t))
+    (explained-same-length-4 t)
+    (explained-returns-5 t))
     (λ t. explains-lts.spec (explains-calls t)
     (explains-at t)
     explains.Post

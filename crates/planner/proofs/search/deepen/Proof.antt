@@ -1,11 +1,12 @@
 -- Length after length, the shortest first. Assumes nothing.
 use Prim.Native.Nat.{ℕ, _+_, _-_, _<_, _≤_}
-use mathlib.Core.Path.{_≡_, refl, ap, _∙_, subst}
+use mathlib.Core.Path.{_≡_, refl, sym, ap, _∙_, subst}
 use mathlib.Core.List.{List}
 use native.Mathlib.Nat.{mul-le-mul-left, mul-le-mul-right}
 use native.Mathlib.Omega.{arith}
 use lib.ListN.{length}
 use borrow.Author.Needs.{needs}
+use borrow.Author.Tests.{not-true}
 use Rattle.pack.specs.Syntax.{Node, Theory}
 use Rattle.pack.specs.State.{meaning}
 use Rattle.pack.specs.Contracts.Table.{Below, Above}
@@ -16,8 +17,10 @@ use Rattle.planner.specs.Inner.Lists.{slotTable, Ends}
 use Rattle.planner.specs.Inner.Memory.{Memory}
 use Rattle.planner.specs.Inner.Explain.{Stage}
 use Rattle.planner.specs.Inner.Search.{Shortest}
+use Rattle.planner.specs.Inner.Bound.{no-end}
 use Rattle.planner.proofs.Explanations.{slot-same}
-use Rattle.planner.proofs.EarliestList.{trail-outset}
+use Rattle.planner.proofs.Bounds.{judged-readable, author-exceeds}
+use Rattle.planner.proofs.EarliestList.{trail-outset, author-rules}
 use Rattle.planner.proofs.SearchCall.{shorter, shortest-found, shortest-none}
 use Rattle.planner.proofs.search.deepen.Statement.{statement}
 use Rattle.planner.proofs.search.deepen.Tie as tie
@@ -30,6 +33,23 @@ Inv-loop pack places p work₀ list₀ g most n₀ work list n =
 abbrev μ-loop : tie.MeasureT-loop
 μ-loop pack places p work₀ list₀ g most n₀ work list n = most + 1 - n
 
+can-exceed-requires : tie.Need-can-exceed-requires Inv-loop μ-loop
+can-exceed-requires c κs =
+    let start = c .before .before .before .before .before in
+    let (th, (T, (y, mem, wr, le))) = start .pre .0 in
+    judged-readable (author-rules y 0 (y .tabled .some) .0)
+
+-- none of the author's rules is above
+returns : tie.Need-returns Inv-loop μ-loop
+returns c =
+    let at-can-exceed = c .before in
+    let start = at-can-exceed .before .before .before .before .before .before in
+    let a = start .args in
+    λ th T y mem wr le.
+    let low = sym (author-exceeds y (a .g .base) (at-can-exceed .can-exceed .ensures)) ∙ not-true (at-can-exceed .can-exceed .result) (c .if1 .taken) in
+    let more : a .most < a .most + 1 = omega arith in
+    shortest-none (λ q l. refl) (λ q l. refl) more refl (λ l v some few. no-end th (a .p .foresight .0) (a .g .nesting .0) (a .g .base) (meaning (a .p .characters) T 0) l v low)
+
 loop-holds : tie.Need-loop-holds Inv-loop μ-loop
 loop-holds c = (omega arith, refl, refl, λ q l. refl, λ q l. refl, λ th T y mem wr le. (mem, λ l v h k. absurd (omega (arith, h, k))))
 
@@ -37,7 +57,7 @@ completes-requires : tie.Need-completes-requires Inv-loop μ-loop
 completes-requires c κs =
     let turn = c .before .before in
     let at-loop = turn .before in
-    let start = at-loop .before .before .before .before .before in
+    let start = at-loop .before .before .before .before .before .before .before .before in
     let P = start .pre in
     let a = start .args in
     let (th, (T, (y, mem, wr, le))) = P .0 in
@@ -45,28 +65,28 @@ completes-requires c κs =
     let few = turn .loop-test .taken in
     ((th, (T, (slot-same 0 y low long, rest th T y mem wr le .0, trail-outset (a .p .foresight .0) (a .g .nesting .0) (a .g .base) y low long wr le (rest th T y mem wr le .1)))), P .1, P .2, omega (arith, few, P .4, mul-le-mul-left (a .p .foresight .0) (P .3), mul-le-mul-right 3 (P .2)), omega (arith, few, P .4, P .5, ap length same))
 
-returns : tie.Need-returns Inv-loop μ-loop
-returns c =
+returns-2 : tie.Need-returns-2 Inv-loop μ-loop
+returns-2 c =
     let at-completes = c .before .before .before .before .before in
     let turn = at-completes .before .before .before in
     let at-loop = turn .before in
-    let start = at-loop .before .before .before .before .before in
+    let start = at-loop .before .before .before .before .before .before .before .before in
     let a = start .args in
     let d = at-completes .completes in
     let (some, long, same, low, high, rest) = at-loop .loop .inv in
     λ th T y mem wr le. subst (λ (was : List ℕ). Shortest (Ends th (a .p .foresight .0) (a .g .nesting .0) (a .g .base) (meaning (a .p .characters) T 0)) (a .most) was (d .last .1 .1 .1 .1 .0) (a .work .now) (d .last .1 .1 .1 .0) (record { count = at-loop .loop .n; after = d .result })) same
-    (shortest-found low high some (omega (arith, turn .loop-test .taken)) (rest th T y mem wr le .1) (omega (arith, c .if1 .taken)) (d .ensures th T (slot-same 0 y low long) (rest th T y mem wr le .0) (trail-outset (a .p .foresight .0) (a .g .nesting .0) (a .g .base) y low long wr le (rest th T y mem wr le .1))))
+    (shortest-found low high some (omega (arith, turn .loop-test .taken)) (rest th T y mem wr le .1) (omega (arith, c .if2 .taken)) (d .ensures th T (slot-same 0 y low long) (rest th T y mem wr le .0) (trail-outset (a .p .foresight .0) (a .g .nesting .0) (a .g .base) y low long wr le (rest th T y mem wr le .1))))
 
 loop-again : tie.Need-loop-again Inv-loop μ-loop
 loop-again c =
     let at-completes = c .before .before .before .before .before in
     let at-loop = at-completes .before .before .before .before in
-    let start = at-loop .before .before .before .before .before in
+    let start = at-loop .before .before .before .before .before .before .before .before in
     let a = start .args in
     let d = at-completes .completes in
     let (some, long, same, low, high, rest) = at-loop .loop .inv in
     let (th, (T, (y, mem, wr, le))) = start .pre .0 in
-    let zero : d .result ≡ 0 = omega (arith, c .if1 .left) in
+    let zero : d .result ≡ 0 = omega (arith, c .if2 .left) in
     let b = d .ensures th T (slot-same 0 y low long) (rest th T y mem wr le .0) (trail-outset (a .p .foresight .0) (a .g .nesting .0) (a .g .base) y low long wr le (rest th T y mem wr le .1)) in (
       omega arith,
       d .kept .1 .1 .1 .0 ∙ long,
@@ -76,8 +96,8 @@ loop-again c =
       λ th T y mem wr le. let b = d .ensures th T (slot-same 0 y low long) (rest th T y mem wr le .0) (trail-outset (a .p .foresight .0) (a .g .nesting .0) (a .g .base) y low long wr le (rest th T y mem wr le .1)) in (b .memory, shorter (rest th T y mem wr le .1) (b .none zero .1)),
     )
 
-returns-2 : tie.Need-returns-2 Inv-loop μ-loop
-returns-2 c =
+returns-3 : tie.Need-returns-3 Inv-loop μ-loop
+returns-3 c =
     let at-loop = c .before in
     let (some, long, same, low, high, rest) = at-loop .loop .inv in
     λ th T y mem wr le. shortest-none low high (omega (arith, c .loop-test .left)) same (rest th T y mem wr le .1)
@@ -97,7 +117,7 @@ same-length-2 c =
 add-n : tie.Need-add-n Inv-loop μ-loop
 add-n c =
     let turn = c .before .before .before .before .before .before .before .before in
-    let start = turn .before .before .before .before .before .before in
+    let start = turn .before .before .before .before .before .before .before .before .before in
     omega (arith, turn .loop-test .taken, start .pre .4)
 
 same-length-3 : tie.Need-same-length-3 Inv-loop μ-loop
@@ -111,4 +131,26 @@ same-length-4 c =
     ap length (at-loop .loop .inv .2)
 
 pub deepen-spec : {M : Type 1} → statement M
-deepen-spec = tie.close (tie.spec Inv-loop μ-loop loop-holds completes-requires same-length same-length-2 returns add-n (λ c. search needs) loop-again same-length-3 same-length-4 returns-2)
+deepen-spec =
+    tie.close
+    (tie.spec
+    Inv-loop
+    μ-loop
+    (λ c.
+    let start = c .before .before .before .before .before in
+    let (th, (T, (y, mem, wr, le))) = start .pre .0 in
+    omega (arith, y .theorized .marked))
+    (λ c. omega (arith, c .shared-slice-known3 .given 320))
+    can-exceed-requires
+    returns
+    loop-holds
+    completes-requires
+    same-length
+    same-length-2
+    returns-2
+    add-n
+    (λ c. search needs)
+    loop-again
+    same-length-3
+    same-length-4
+    returns-3)

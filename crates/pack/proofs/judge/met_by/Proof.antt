@@ -1,0 +1,52 @@
+-- The kind and the value behind the chain are compared with it. Assumes nothing.
+use Prim.Native.Nat.{ℕ, _+_}
+use mathlib.Core.Path.{_≡_, sym, ap, _∙_}
+use native.Mathlib.Omega.{arith}
+use lib.ListN.{getD}
+use borrow.Author.Needs.{needs}
+use Rattle.pack.specs.Syntax.{Kind}
+use Rattle.pack.specs.Grammar.{kindOf}
+use Rattle.pack.specs.Condition.{compares}
+use Rattle.pack.specs.Laws.OneByte.{test-bytes, test-read}
+use Rattle.pack.proofs.judge.met_by.Statement.{statement}
+use Rattle.pack.proofs.judge.met_by.Tie as tie
+
+returns : tie.Need-returns
+returns c =
+    let at-wide = c .before .before .before in
+    let start = at-wide .before .before .before in
+    let a = start .args in
+    let behind = (a .at + 1) + at-wide .wide .result in
+    let same : (a .at + 1) + getD (a .s .now) (a .at) 0 ≡ behind = ap (λ (k : ℕ). (a .at + 1) + k) (at-wide .wide .ensures) in
+    λ d small x n e.
+    let b = test-bytes d small (a .s .now) (a .at) x n e in
+    c .relates .ensures .0 (omega (arith, b .known, ap (λ (q : ℕ). getD (a .s .now) q 0) same))
+    ∙ sym (ap (λ (k : Kind). compares k (a .x) (x .value)) (b .kind ∙ ap (λ (q : ℕ). kindOf (getD (a .s .now) q 0)) same)
+    ∙ ap (λ (v : ℕ). compares (kindOf (getD (a .s .now) behind 0)) (a .x) v) (b .value ∙ ap (λ (q : ℕ). getD (a .s .now) (q + 2) 0) same))
+
+pub met-by-spec : {M : Type 1} → statement M
+met-by-spec =
+    tie.close
+    (tie.spec
+    (λ c. omega (arith, test-read (c .before .pre)))
+    (λ c.
+    let start = c .before .before in
+    omega (arith, test-read (start .pre)))
+    (λ c κs. search needs)
+    (λ c.
+    let start = c .before .before .before in
+    omega (arith, test-read (start .pre), c .wide .ensures))
+    (λ c.
+    let at-wide = c .before in
+    let start = at-wide .before .before .before in
+    omega (arith, test-read (start .pre), at-wide .wide .ensures))
+    (λ c.
+    let at-wide = c .before in
+    let start = at-wide .before .before .before in
+    omega (arith, test-read (start .pre), at-wide .wide .ensures))
+    (λ c.
+    let at-wide = c .before .before in
+    let start = at-wide .before .before .before in
+    omega (arith, test-read (start .pre), at-wide .wide .ensures))
+    (λ c κs. search needs)
+    returns)
