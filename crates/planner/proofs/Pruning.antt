@@ -399,9 +399,9 @@ module _ {pack places : List ℕ} {h : Context} {work : List ℕ} {slot whose le
 pub below-far : (P : ℕ → Type 0) {n r : ℕ} → ((y : ℕ) → y < n → P y) → ((y : ℕ) → n ≤ y → y < r → P y) → (y : ℕ) → y < r → P y
 below-far P {n} {r} near far y l = elim (decLt y n) as (λ d. P y) [ yes h ↦ near y h | no h ↦ far y (omega (arith, h)) l ]
 
-module _ {th : Theory} {T : List Node} {pack places : List ℕ} {h : Context} {work : List ℕ} {slot : ℕ} (x : Stage th T pack places h work (slotTable h work slot) (slot + 961)) (before : slot + 961 ≤ 28832) where
+module _ {th : Theory} {T : List Node} {pack places : List ℕ} {h : Context} {work : List ℕ} {slot : ℕ} (x : Stage th T pack places h work (slotTable h work slot) (slot + h .stride)) (before : slot + h .stride ≤ h .memory) where
   pub stage-trying : {whose : ℕ} → whose < h .characters + 1 → Trying pack places h work slot whose
-  stage-trying l = record { before = before; room = x .room; narrow = omega (arith, changing.small (x .tabled)); each = λ a g. stage-tryable x g l }
+  stage-trying l = record { before = before; behind = omega (arith, x .laid .room); some = omega (arith, x .laid .some); room = x .room; narrow = omega (arith, changing.small (x .tabled)); each = λ a g. stage-tryable x g l }
 
   pub stage-skipped : {whose left base n r : ℕ} → Skipped pack places h work slot whose left base n r → (a : ℕ) → n ≤ a → a < r → (s : State) → Plays th (meaning (h .characters) T 0) a s → (left ≡ 0) × (utility s (getD (th .utilities) whose []) ≤ base)
   stage-skipped {whose} s a f l = stage-hopeless x (omega (arith, l, s .few)) whose (s .hopeless a f l)

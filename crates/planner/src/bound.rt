@@ -21,7 +21,6 @@ ghost use Rattle.pack.specs.Contracts.Judge.{Readable, Tells};
 ghost use Rattle.planner.specs.Inner.Lists.{slotTable};
 ghost use Rattle.planner.specs.Inner.Explain.{Staged, Free};
 ghost use Rattle.planner.specs.Inner.Bound.{exceeds, NoReason};
-ghost use Rattle.transition.specs.Contracts.Stage.{slotRoom};
 
 // Whether some rule, of those at a place, is above base.
 pub fn can_exceed(pack: &[u8], at: usize, base: usize) -> bool
@@ -57,8 +56,8 @@ pub fn pointless(
     slot: usize,
     d: Deed,
 ) -> bool
-    requires { ⌜ Staged (now pack) (now places) p (now work) (slotTable p (now work) slot) (slot + slotRoom)
-        × (d .who < p .characters) × (d .action < p .actions) × Free slot 1 ⌝ }
+    requires { ⌜ Staged (now pack) (now places) p (now work) (slotTable p (now work) slot) (slot + p .stride)
+        × (d .who < p .characters) × (d .action < p .actions) × Free p slot 1 ⌝ }
     ensures { λ r. ⌜ NoReason (now (pack .entry)) (now (places .entry)) p slot (now (work .entry)) (d .who)
         (d .action) r ⌝ }
 {

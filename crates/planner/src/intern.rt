@@ -15,7 +15,7 @@ use chart::values::first_other;
 use pack::number::wide;
 use pack::table::Table;
 ghost use mathlib.Core.Path.{_≡_};
-ghost use mathlib.Core.Bool.{true};
+ghost use mathlib.Core.Bool.{true, false};
 ghost use Prim.Native.Nat.{_+_, _*_, _<_, _≤_};
 ghost use lib.ListN.{length};
 ghost use Rattle.planner.specs.Inner.Lists.{slotTable};
@@ -52,7 +52,8 @@ pub fn hash(work: &[u8], from: usize, n: usize) -> usize
 // Whether a table is the one that is kept under an id.
 pub fn has_id(work: &[u8], p: Context, t: Table, id: usize) -> bool
     requires { ⌜ Before p (now work) t × (id < 256) ⌝ }
-    ensures { λ r. ⌜ (r ≡ true → HasId p (now (work .entry)) t id) ⌝ }
+    ensures { λ r. ⌜ (r ≡ true → HasId p (now (work .entry)) t id)
+        × (r ≡ false → ¬ HasId p (now (work .entry)) t id) ⌝ }
 {
     if id == 0 {
         return false;

@@ -1,11 +1,10 @@
 // Search: the list search of the author, shortest lists first, and the public call. A state is row 0 of the table in a
 // slot of the work buffer; the slots behind it are free.
 //
-// Iterative deepening (`deepen`) over a depth-limited search (`completes`). The memory is emptied in two parts, one
-// before the nodes are laid out and one after: each is below 2,048 bytes, up to which C's `memset` writes by plain
-// stores. The list is written on the way back from its end, so nothing is put down where there is none; `none` is a
-// utility of 0, since one above another is at least 1. Everybody is asked: the character left out is the number of
-// characters, which no consenter has.
+// Iterative deepening (`deepen`) over a depth-limited search (`completes`). The memory is emptied in two parts: each is
+// below 2,048 bytes, up to which C's `memset` writes by plain stores. The list is written on the way back from its end,
+// so nothing is put down where there is none; `none` is a utility of 0, since one above another is at least 1.
+// Everybody is asked: the character left out is the number of characters, which no consenter has.
 use crate::Found;
 use crate::bound::can_exceed;
 use crate::entry::AUTHOR;
@@ -232,7 +231,8 @@ pub fn deepen(
     most: usize,
 ) -> Ended
     requires { ⌜ Outset (g .base) (now pack) (now places) p (now work) × (0 < p .foresight .0)
-        × (p .foresight .0 ≤ 6) × (g .nesting .0 ≤ 3) × (most ≤ 8) × (8 ≤ length (now list)) ⌝ }
+        × (p .foresight .0 ≤ 6) × (most ≤ 8) × (8 ≤ length (now list))
+        × Free p 0 (1 + most + p .foresight .0 * g .nesting .0) ⌝ }
     ensures { λ r. ⌜ ShortestFrom most (g .nesting .0) (g .base) (now (pack .entry)) (now (places .entry)) p
         (now (list .entry)) (now (list .exit)) (now (work .entry)) (now (work .exit)) r ⌝ }
 {

@@ -87,7 +87,7 @@ Advances pack places h a slot root work work′ r =
     → Advanced th (h .foresight .0) h (meaning (h .characters) T root) a (slotTable h work slot) work work′
     (slot + h .stride) r
 
--- an accepted pack and chart, and numbers of something there
+-- an accepted pack and chart, numbers of something there, and a slot for each state of an explanation
 pub record Judging (th : Theory) (T : List Node) (pack places : List ℕ) (h : Context) (chart : List ℕ)
     (nodes character action foresight nesting : ℕ) (work : List ℕ) : Type 0 where
   pub theorized : Theorized th pack places (h .actions) (h .triggers)
@@ -97,7 +97,8 @@ pub record Judging (th : Theory) (T : List Node) (pack places : List ℕ) (h : C
   pub who : character < h .characters
   pub what : action < h .actions
   pub foreseen : (0 < foresight) × (foresight ≤ 6)
-  pub nested : nesting ≤ 3
+  pub laid : Laid h
+  pub slots : Free h 0 (1 + foresight * nesting)
   pub room : workRoom ≤ length work
 
 abbrev pub Judgeable : (pack places : List ℕ) (h : Context) (chart : List ℕ)

@@ -20,7 +20,7 @@ use Rattle.planner.specs.Replies.{answerReply}
 use Rattle.planner.specs.Promises.{searchSaid, summary}
 use Rattle.planner.specs.Inner.Lists.{slotTable, Ends}
 use Rattle.planner.specs.Inner.Memory.{Laid, tablesAt, Memory}
-use Rattle.planner.specs.Inner.Explain.{Stage}
+use Rattle.planner.specs.Inner.Explain.{Stage, Free}
 use Rattle.planner.specs.Ending.{authorUtility}
 
 -- a list put down from `done` on
@@ -128,11 +128,12 @@ ShortestFrom T e base pack places h was now work work′ r =
     → authorUtility th (meaning (h .characters) table 0) ≤ base
     → Shortest h (Ends th (h .foresight .0) e base (meaning (h .characters) table 0)) T was now work work′ r
 
--- the nodes that are read from a place on, and room
+-- the nodes that are read from a place on, and room for them in the first slot
 pub record Laying (T : List Node) (pack : List ℕ) (first nodes : ℕ) (h : Context) (work : List ℕ) : Type 0 where
   pub end : ℕ
   pub read : NodesFrom pack first end nodes (h .fluents) (h .characters) T
   pub laid : Laid h
+  pub slot : h .stride ≤ h .memory
   pub room : workRoom ≤ length work
 
 abbrev pub Layable : (pack : List ℕ) (first nodes : ℕ) (h : Context) (work : List ℕ) → Type 0
@@ -145,7 +146,8 @@ pub record LaidStart (T : List Node) (h : Context) (was now : List ℕ) : Type 0
   pub empty : (q : ℕ) → h .memory ≤ q → q < tablesAt h → getD now q 0 ≡ 0
   pub high : Above was now workRoom
 
--- what the search from a pack's nodes is lent: a theory, found in the pack, its nodes, and room
+-- what the search from a pack's nodes is lent: a theory, found in the pack, its nodes, and room, with a slot for each
+-- state of the author's list and of each explanation within it
 pub record Seeking (th : Theory) (T : List Node) (pack places : List ℕ) (h : Context)
     (first nodes story foresight nesting : ℕ) (list work : List ℕ) : Type 0 where
   pub theorized : Theorized th pack places (h .actions) (h .triggers)
@@ -155,7 +157,8 @@ pub record Seeking (th : Theory) (T : List Node) (pack places : List ℕ) (h : C
   pub same-fluents : length (th .domains) ≡ h .fluents
   pub storied : story ≤ 8
   pub foreseen : (0 < foresight) × (foresight ≤ 6)
-  pub nested : nesting ≤ 3
+  pub laid : Laid h
+  pub slots : Free h 0 (1 + story + foresight * nesting)
   pub list-room : listRoom ≤ length list
   pub room : workRoom ≤ length work
 

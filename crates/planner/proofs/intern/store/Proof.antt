@@ -13,44 +13,68 @@ store-spec =
     tie.close
     (tie.spec
     (λ c. search needs)
-    (λ c. search needs)
-    (λ c κs. search needs)
-    (λ c. omega (arith, c .wide .ensures, c .before .slice-known2 .given 43518))
+    (λ c.
+    let start = c .before .before .before in
+    omega (arith, start .pre .laid .room))
     (λ c.
     let start = c .before .before .before .before in
-    omega (arith, c .wide .ensures, c .before .slice-known2 .given 43518, table-size (start .args .p) (start .pre)))
+    omega (arith, start .pre .laid .room, start .pre .room))
+    (λ c κs. search needs)
     (λ c.
-    let start = c .before .before .before .before .before in
+    let at-slice-known2 = c .before in
+    let start = at-slice-known2 .before .before .before .before in
+    omega (arith, c .wide .ensures, at-slice-known2 .slice-known2 .given (start .args .p .memory + 48)))
+    (λ c.
+    let at-slice-known2 = c .before in
+    let start = at-slice-known2 .before .before .before .before in
+    omega (arith, c .wide .ensures, at-slice-known2 .slice-known2 .given (start .args .p .memory + 48), table-size (start .args .p) (start .pre)))
+    (λ c.
+    let start = c .before .before .before .before .before .before in
     stored-none (start .args .p))
+    (λ c.
+    let start = c .before .before .before .before .before .before .before in
+    omega (arith, start .pre .laid .room))
     (λ c. search needs)
+    (λ c.
+    let at-if1 = c .before in
+    let start = at-if1 .before .before .before .before .before .before in
+    omega (arith, start .pre .laid .room, at-if1 .if1 .left))
     (λ c. search needs)
-    (λ c. search needs)
-    (λ c. search needs)
-    (λ c. search needs)
-    (λ c κs.
+    (λ c.
     let at-if1 = c .before .before in
+    let start = at-if1 .before .before .before .before .before .before in
+    omega (arith, start .pre .laid .room, start .pre .room, at-if1 .if1 .left))
+    (λ c.
+    let at-if1 = c .before .before .before in
+    let start = at-if1 .before .before .before .before .before .before in
+    omega (arith, start .pre .laid .room, at-if1 .if1 .left))
+    (λ c κs.
+    let at-if1 = c .before .before .before in
     let at-wide = at-if1 .before in
-    let start = at-wide .before .before .before .before in
+    let start = at-wide .before .before .before .before .before in
     let b = start .pre in
-    let long = length-set (start .args .work .now) (45952 + 12 * at-wide .wide .result) (start .args .t .nodes) in
-    (omega (arith, b .before), omega (arith, b .before, b .room, long), omega (arith, b .room, long, at-if1 .if1 .left)))
+    let long = length-set (start .args .work .now) (start .args .p .memory + 2482 + 12 * at-wide .wide .result) (start .args .t .nodes) in
+    (omega (arith, b .before), omega (arith, b .before, b .room, b .laid .room, long), omega (arith, b .room, b .laid .room, long, at-if1 .if1 .left)))
     (λ c. search needs)
     (λ c. search needs)
     (λ c. search needs)
     (λ c.
-    let at-copy-part = c .before .before in
-    let at-wide = at-copy-part .before .before .before .before in
-    let start = at-wide .before .before .before .before in
-    omega (arith, at-copy-part .copy-part .kept .0, length-set (start .args .work .now) (45952 + 12 * at-wide .wide .result) (start .args .t .nodes), start .pre .room))
+    let start = c .before .before .before .before .before .before .before .before .before .before .before .before .before in
+    omega (arith, start .pre .laid .room))
+    (λ c.
+    let at-copy-part = c .before .before .before in
+    let at-wide = at-copy-part .before .before .before .before .before in
+    let start = at-wide .before .before .before .before .before in
+    omega (arith, at-copy-part .copy-part .kept .0, length-set (start .args .work .now) (start .args .p .memory + 2482 + 12 * at-wide .wide .result) (start .args .t .nodes), start .pre .room, start .pre .laid .room))
     (λ c. search needs)
     (λ c.
-    let at-copy-part = c .before .before in
-    let at-wide = at-copy-part .before .before .before .before in
-    let start = at-wide .before .before .before .before in
-    length-set (at-copy-part .copy-part .last .0) 43518 (at-wide .wide .result + start .args .t .nodes * start .args .t .width / 12 + 1) ∙ at-copy-part .copy-part .kept .0 ∙ length-set (start .args .work .now) (45952 + 12 * at-wide .wide .result) (start .args .t .nodes))
+    let at-copy-part = c .before .before .before in
+    let at-wide = at-copy-part .before .before .before .before .before in
+    let start = at-wide .before .before .before .before .before in
+    length-set (at-copy-part .copy-part .last .0) (start .args .p .memory + 48) (at-wide .wide .result + start .args .t .nodes * start .args .t .width / 12 + 1) ∙ at-copy-part .copy-part .kept .0 ∙ length-set (start .args .work .now) (start .args .p .memory + 2482 + 12 * at-wide .wide .result) (start .args .t .nodes))
     (λ c.
-    let at-copy-part = c .before .before in
-    let at-if1 = at-copy-part .before .before .before in
+    let at-copy-part = c .before .before .before in
+    let at-if1 = at-copy-part .before .before .before .before in
     let at-wide = at-if1 .before in
-    let start = at-wide .before .before .before .before in
-    stored-new (start .args .p) (start .pre) (at-wide .wide .ensures) (omega (arith, at-if1 .if1 .left)) (at-copy-part .copy-part .ensures) refl (at-copy-part .copy-part .kept .0 ∙ length-set (start .args .work .now) (45952 + 12 * at-wide .wide .result) (start .args .t .nodes))))
+    let start = at-wide .before .before .before .before .before in
+    stored-new (start .args .p) (start .pre) (at-wide .wide .ensures) (omega (arith, at-if1 .if1 .left)) (at-copy-part .copy-part .ensures) refl (at-copy-part .copy-part .kept .0 ∙ length-set (start .args .work .now) (start .args .p .memory + 2482 + 12 * at-wide .wide .result) (start .args .t .nodes))))
