@@ -4,7 +4,7 @@ use mathlib.Core.Path.{_≡_, refl, sym, ap, _∙_, subst}
 use mathlib.Core.Logic.{_≢_, ⊎-elim, by-cases}
 use mathlib.Core.List.{List, [], _∷_}
 use native.Mathlib.Decide.{decLe, ℕ-discrete}
-use native.Mathlib.Nat.{mul-le-mul-right}
+use native.Mathlib.Nat.{mul-le-mul-left, mul-le-mul-right}
 use native.Mathlib.Omega.{arith}
 use lib.ListN.{length, getD}
 use Rattle.pack.specs.Syntax.{Node, Theory, Rule}
@@ -25,8 +25,8 @@ use Rattle.transition.specs.Laws.Settled.{plays-one}
 use Rattle.planner.specs.declared.limits.Context.{Context}
 use Rattle.planner.specs.Ending.{Leads, Explained, authorUtility}
 use Rattle.planner.specs.Inner.Lists.{slotTable, Agreed, All, Ends, EndsBy}
-use Rattle.planner.specs.Inner.Memory.{Fact, Memory}
-use Rattle.planner.specs.Inner.Explain.{Stage}
+use Rattle.planner.specs.Inner.Memory.{Laid, Fact, Memory}
+use Rattle.planner.specs.Inner.Explain.{Stage, Free}
 use Rattle.planner.specs.Inner.Search.{Dry, Trail, Repeated, Put, Chosen, Best}
 use Rattle.planner.specs.Laws.Explaining.{Agreeing}
 use Rattle.planner.proofs.TrueMemory.{table-moved, state-moved}
@@ -52,9 +52,12 @@ best-same {M} {Good} {n} {n′} {was} {now} {at} {slot} {work} {work′} {r} e b
 pub fact-of-none : (th : Theory) (K e base : ℕ) (s : State) {left who : ℕ} → ((list : List ℕ) (v : ℕ) → length list ≡ left → ¬ Ends th K e base s list v) → Fact th K 3 (record { who = who; nesting = e; number = left; base = base }) s
 fact-of-none th K e base s f = record { no = λ z. absurd (omega (arith, z)); yes = λ z. absurd (omega (arith, z)); none = λ z. f; unexplained = λ z. absurd (omega (arith, z)); explained = λ z. absurd (omega (arith, z)) }
 
--- a slot lies no further than one of a number at least as great
-slots-upto : (h : Context) {i n : ℕ} → i ≤ n → i * h .stride ≤ n * h .stride
+-- a slot lies no further than one of a number at least as great, and a number no further than its slot
+pub slots-upto : (h : Context) {i n : ℕ} → i ≤ n → i * h .stride ≤ n * h .stride
 slots-upto h l = mul-le-mul-right (h .stride) l
+
+pub slots-most : (h : Context) (n : ℕ) → Laid h → n ≤ n * h .stride
+slots-most h n laid = let one : 1 ≤ h .stride = omega (arith, laid .some) in omega (arith, mul-le-mul-left n one)
 
 module _ (th : Theory) (K e base : ℕ) (s : State) where
   -- the author's path, one state longer
@@ -70,7 +73,7 @@ module _ (th : Theory) (K e base : ℕ) (s : State) where
           subst (Dry (Ends th K e base (stateOf (slotTable h now (i * h .stride)) now 0))) (sym up) (subst (λ (s : State). Dry (Ends th K e base s) (suc left)) (sym same) (trail .here)))
           (λ z. let less : i < n = omega (arith, l, z) in
           let up : left + (n + 1 - i) ≡ suc left + (n - i) = omega (arith, less) in
-          let same : stateOf (slotTable h now (i * h .stride)) now 0 ≡ stateOf (slotTable h was (i * h .stride)) was 0 = state-moved h was now (i * h .stride) (i * h .stride) (λ q g. low (i * h .stride + q) (omega (arith, g, trail .small i (omega (arith, less)), at, slots-upto h {i} {n} (omega (arith, less))))) in
+          let same : stateOf (slotTable h now (i * h .stride)) now 0 ≡ stateOf (slotTable h was (i * h .stride)) was 0 = state-moved h was now (i * h .stride) (i * h .stride) (λ q g. low (i * h .stride + q) (omega (arith, g, trail .small i (omega (arith, less)), at, slots-upto h {i = i} {n = n} (omega (arith, less))))) in
           subst (Dry (Ends th K e base (stateOf (slotTable h now (i * h .stride)) now 0))) (sym up) (subst (λ (s : State). Dry (Ends th K e base s) (suc left + (n - i))) (sym same) (trail .before i less)));
       here = λ l v g q. trail .here (x ∷ l) v (omega (arith, g)) (q .0, (t, plays, agreed, q .1), q .2);
       written = λ i l. by-cases (decLe i n)
@@ -92,7 +95,7 @@ module _ (th : Theory) (K e base : ℕ) (s : State) where
   -- the path where its bytes stay
   pub trail-same : {h : Context} {was now : List ℕ} {n left : ℕ} → Below was now (n * h .stride + h .stride) → Trail th K e base h was n left s → Trail th K e base h now n left s
   trail-same {h} {was} {now} {n} {left} low trail = record {
-    before = λ i l. subst (λ (s : State). Dry (Ends th K e base s) (left + (n - i))) (sym (state-moved h was now (i * h .stride) (i * h .stride) (λ q g. low (i * h .stride + q) (omega (arith, g, trail .small i (omega (arith, l)), slots-upto h {i} {n} (omega (arith, l))))))) (trail .before i l);
+    before = λ i l. subst (λ (s : State). Dry (Ends th K e base s) (left + (n - i))) (sym (state-moved h was now (i * h .stride) (i * h .stride) (λ q g. low (i * h .stride + q) (omega (arith, g, trail .small i (omega (arith, l)), slots-upto h {i = i} {n = n} (omega (arith, l))))))) (trail .before i l);
     here = trail .here;
     written = λ i l. subst (Written (h .characters)) (sym (table-moved h was now (i * h .stride) (i * h .stride) (λ q g. low (i * h .stride + q) (omega (arith, g, trail .small i l, slots-upto h l))))) (trail .written i l);
     small = λ i l. subst (λ (c : ℕ). 1 + c * (h .fluents + h .characters) ≤ h .stride) (sym (low (i * h .stride) (omega (arith, slots-upto h l, trail .small i l)))) (trail .small i l);
@@ -257,8 +260,8 @@ trail-step {th} {T} {h = h} slot x K e base trail at now low long next fits play
     trail-next th K e base (meaning (h .characters) T 0) trail at low (stage-extent slot y) (stage-state y 0) next fits plays agreed
 
 -- no action is played yet
-pub trail-outset : {th : Theory} {T : List Node} {pack places : List ℕ} {h : Context} {was now : List ℕ} (K e base : ℕ) {n : ℕ} → Stage th T pack places h was (slotTable h was 0) h .stride
-    → Below was now h .stride → length now ≡ length was → Written (h .characters) T → authorUtility th (meaning (h .characters) T 0) ≤ base
+pub trail-outset : {th : Theory} {T : List Node} {pack places : List ℕ} {h : Context} {was now : List ℕ} (K e base : ℕ) {n : ℕ} → Stage th T pack places h was (slotTable h was 0) (0 + h .stride)
+    → Below was now (0 + h .stride) → length now ≡ length was → Written (h .characters) T → authorUtility th (meaning (h .characters) T 0) ≤ base
     → ((l : List ℕ) (v : ℕ) → 0 < length l → length l < n → ¬ Ends th K e base (meaning (h .characters) T 0) l v) → Trail th K e base h now 0 n (meaning (h .characters) T 0)
 trail-outset {th} {T} {h = h} {now = now} K e base x low long first le f =
     let y = slot-same 0 x low long in
@@ -270,3 +273,18 @@ pub on-path : {th : Theory} {T : List Node} {pack places : List ℕ} {h : Contex
 on-path {th} {T} {pack} {places} {h} {work} {K} n x m =
     let e : n * h .stride + h .stride ≡ (n + 1) * h .stride = omega arith in
     (subst (λ (s : ℕ). Stage th T pack places h work (slotTable h work s) (s + h .stride)) e x, subst (λ (s : ℕ). Memory th K h (s + h .stride) work) e m)
+
+-- the first slot is the path's first
+outset : (h : Context) → 0 * h .stride ≡ 0
+outset h = omega arith
+
+module _ {th : Theory} {h : Context} {K : ℕ} where
+  pub at-outset : {T : List Node} {pack places work : List ℕ} → Stage th T pack places h work (slotTable h work 0) (0 + h .stride) → Memory th K h (0 + h .stride) work
+      → Stage th T pack places h work (slotTable h work (0 * h .stride)) (0 * h .stride + h .stride) × Memory th K h (0 * h .stride + h .stride) work
+  at-outset {T} {pack} {places} {work} x m = (subst (λ (s : ℕ). Stage th T pack places h work (slotTable h work s) (s + h .stride)) (sym (outset h)) x, subst (λ (s : ℕ). Memory th K h (s + h .stride) work) (sym (outset h)) m)
+
+  pub best-outset : {Good : List ℕ → ℕ → Type 0} {n : ℕ} {was now work work′ : List ℕ} {r : ℕ} → Best (Memory th K h (0 * h .stride + h .stride)) Good n was now 0 (0 * h .stride + h .stride) work work′ r → Best (Memory th K h (0 + h .stride)) Good n was now 0 (0 + h .stride) work work′ r
+  best-outset {Good} {n} {was} {now} {work} {work′} {r} b = subst (λ (s : ℕ). Best (Memory th K h (s + h .stride)) Good n was now 0 (s + h .stride) work work′ r) (outset h) b
+
+pub free-outset : (h : Context) (n : ℕ) → Free h 0 n → Free h (0 * h .stride) n
+free-outset h n f = omega (arith, f)

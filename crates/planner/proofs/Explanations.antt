@@ -374,6 +374,10 @@ consenter-below d s at cs n e i l =
 pub free-fewer : (h : Context) (slot n m : ℕ) → m ≤ n → Free h slot n → Free h slot m
 free-fewer h slot n m l f = omega (arith, f, mul-le-mul-right (h .stride) l)
 
+-- one fewer from the next slot on
+pub free-next : (h : Context) (n left more : ℕ) → Free h (n * h .stride) (2 + left + more) → Free h ((n + 1) * h .stride) (1 + left + more)
+free-next h n left more f = omega (arith, f)
+
 pub one-less : (k e : ℕ) → 0 < e → k * e ≡ k * (e - 1) + k
 one-less k e l = let s : e ≡ suc (e - 1) = omega arith in ap (λ (e : ℕ). k * e) s ∙ mul-suc k (e - 1)
 

@@ -3,6 +3,7 @@ pub mod TrueMemory
 pub mod Explanations
 pub mod Pruning
 pub mod Bounds
+pub mod Slots
 pub mod ExplainedCall
 pub mod StartSlot
 pub mod SameBytes

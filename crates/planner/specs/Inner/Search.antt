@@ -98,7 +98,7 @@ EndsHere base pack places h slot work r =
 abbrev pub Outset : (base : ℕ) (pack places : List ℕ) (h : Context) (work : List ℕ) → Type 0
 Outset base pack places h work =
     (p : Theory) × ((T : List Node)
-    × (Stage p T pack places h work (slotTable h work 0) (h .stride) × Memory p (h .foresight .0) h (h .stride) work
+    × (Stage p T pack places h work (slotTable h work 0) (0 + h .stride) × Memory p (h .foresight .0) h (0 + h .stride) work
     × Written (h .characters) T × (authorUtility p (meaning (h .characters) T 0) ≤ base)))
 
 -- the state in a slot is one of those before it
@@ -115,7 +115,7 @@ pub record Shortest (h : Context) (Good : List ℕ → ℕ → Type 0) (story : 
   pub some : 0 < r .count → (list : List ℕ) × Chosen Good (r .count) list (r .after) × Put was now 0 list
   pub within : r .count ≤ story
   pub shortest : (other : List ℕ) (v : ℕ) → 0 < length other → length other < r .count → ¬ Good other v
-  pub low : Below work work′ (h .stride)
+  pub low : Below work work′ (0 + h .stride)
   pub high : Above work work′ workRoom
 
 -- of the state in the first slot
@@ -123,8 +123,8 @@ abbrev pub ShortestFrom : (story nesting base : ℕ) (pack places : List ℕ) (h
     (was now work work′ : List ℕ) (r : Ended)
     → Type 0
 ShortestFrom T e base pack places h was now work work′ r =
-    (th : Theory) (table : List Node) → Stage th table pack places h work (slotTable h work 0) (h .stride)
-    → Memory th (h .foresight .0) h (h .stride) work → Written (h .characters) table
+    (th : Theory) (table : List Node) → Stage th table pack places h work (slotTable h work 0) (0 + h .stride)
+    → Memory th (h .foresight .0) h (0 + h .stride) work → Written (h .characters) table
     → authorUtility th (meaning (h .characters) table 0) ≤ base
     → Shortest h (Ends th (h .foresight .0) e base (meaning (h .characters) table 0)) T was now work work′ r
 
