@@ -1,5 +1,5 @@
-// Where the memory keeps what, from its beginning on, as specs/Inner/Memory has it. It begins with the ids of the tables
-// in the slots, a byte for each slot.
+// Where the memory keeps what, from its beginning on, as specs/Inner/Memory has it. It begins with the ids of the
+// tables in the slots, a byte for each slot.
 
 // How many blocks of 12 bytes are taken by tables.
 pub const TAKEN: usize = 48;

@@ -250,8 +250,8 @@ pub fn deepen(
     Ended { count: 0, after: 0 }
 }
 
-// Lays the nodes that are read from `first` on out in the first slot, merged, and empties the memory behind the slots, in
-// which the nodes may have been merged.
+// Lays the nodes that are read from `first` on out in the first slot, merged, and empties the memory behind the slots,
+// in which the nodes may have been merged.
 pub fn lay_start(pack: &[u8], first: usize, nodes: usize, p: Context, work: &mut [u8])
     requires { ⌜ Layable (now pack) first nodes p (now work) ⌝ }
     ensures { λ _. ⌜ ((T : List Node) → Laying T (now (pack .entry)) first nodes p (now (work .entry))

@@ -166,7 +166,8 @@ pub record Stored (h : Context) (t : Table) (was now : List ℕ) (r : ℕ) : Typ
 pub record Interning (h : Context) (t : Table) (was now : List ℕ) (r : ℕ) : Type 0 where
   pub small : r < 256
   pub only : Only h was now
-  pub told : (p : Theory) (foresight limit : ℕ) → limit ≤ h .memory → InSlot h was t limit → Memory p foresight h limit was
+  pub told : (p : Theory) (foresight limit : ℕ) → limit ≤ h .memory → InSlot h was t limit
+      → Memory p foresight h limit was
       → Memory p foresight h limit now × (0 < r → HasId h now t r)
 
 -- an id is one, and each number of the key fits a byte or two
@@ -187,7 +188,8 @@ pub record KeyPut (was now : List ℕ) (a mark : ℕ) (k : Key) : Type 0 where
 -- what the mark r says of the state is true where what is known is
 pub record Recalled (h : Context) (t : Table) (k : Key) (was now : List ℕ) (r : ℕ) : Type 0 where
   pub only : Only h was now
-  pub told : (p : Theory) (foresight limit : ℕ) → limit ≤ h .memory → InSlot h was t limit → Memory p foresight h limit was
+  pub told : (p : Theory) (foresight limit : ℕ) → limit ≤ h .memory → InSlot h was t limit
+      → Memory p foresight h limit was
       → Memory p foresight h limit now × Fact p foresight r k (table.stateOf t was 0)
 
 -- what is put down is true where what it says is

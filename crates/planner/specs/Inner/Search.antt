@@ -98,7 +98,8 @@ EndsHere base pack places h slot work r =
 abbrev pub Outset : (base : ℕ) (pack places : List ℕ) (h : Context) (work : List ℕ) → Type 0
 Outset base pack places h work =
     (p : Theory) × ((T : List Node)
-    × (Stage p T pack places h work (slotTable h work 0) (0 + h .stride) × Memory p (h .foresight .0) h (0 + h .stride) work
+    × (Stage p T pack places h work (slotTable h work 0) (0 + h .stride)
+    × Memory p (h .foresight .0) h (0 + h .stride) work
     × Written (h .characters) T × (authorUtility p (meaning (h .characters) T 0) ≤ base)))
 
 -- the state in a slot is one of those before it

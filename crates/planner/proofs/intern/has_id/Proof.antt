@@ -74,7 +74,8 @@ has-id-spec =
     let start = at-if1 .before .before in
     let a = start .args in
     let f = c .first-other in
-    let n = a .t .nodes * a .t .width in
-    (λ e. kept-as (a .p) (start .pre .0) (a .id) (omega (arith, at-if1 .if1 .left)) (omega (arith, at-if2 .if2 .left, at-wide .wide .ensures)) (omega (arith, at-wide2 .wide2 .ensures, at-if3 .if3 .left))
-    (λ q l. sym (f .ensures .before q (omega (arith, l, leb-true (a .t .nodes * a .t .width) (f .result) e)))),
-    λ e x. f .ensures .here (omega (arith, leb-false n (f .result) e)) (named-bytes (a .p) (start .pre .0) x (f .result) (omega (arith, leb-false n (f .result) e))))))
+    let n = a .t .nodes * a .t .width in (
+      λ e. kept-as (a .p) (start .pre .0) (a .id) (omega (arith, at-if1 .if1 .left)) (omega (arith, at-if2 .if2 .left, at-wide .wide .ensures)) (omega (arith, at-wide2 .wide2 .ensures, at-if3 .if3 .left))
+          (λ q l. sym (f .ensures .before q (omega (arith, l, leb-true (a .t .nodes * a .t .width) (f .result) e)))),
+      λ e x. f .ensures .here (omega (arith, leb-false n (f .result) e)) (named-bytes (a .p) (start .pre .0) x (f .result) (omega (arith, leb-false n (f .result) e))),
+    )))
