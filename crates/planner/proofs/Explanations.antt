@@ -229,7 +229,7 @@ module _ {th : Theory} {T : List Node} {pack places : List ℕ} {h : Context} {w
     left-memory =
         let before = n .told th K slot (omega (arith, bound)) (x .slotted) m .0 in
         let taken = left-mid (takenAt h) (omega arith) (omega (arith, x .laid .room)) in
-        memory-quiet h (record { taken = omega (arith, taken); within = λ l. omega (arith, taken, l); tables = λ q l g. left-mid q (omega (arith, l)) (omega (arith, g, before .within)) }) (x .laid) (omega (arith, bound)) (y .only .low) (λ q l g. left-mid q l (omega (arith, g, x .laid .room))) (λ q l g. left-mid q (omega (arith, l)) (omega (arith, g, x .laid .room))) before
+        memory-quiet h (record { taken = omega (arith, taken); within = λ l. omega (arith, ap (λ (k : ℕ). h .block * k) taken, l); tables = λ q l g. left-mid q (omega (arith, l)) (omega (arith, g, before .within)) }) (x .laid) (omega (arith, bound)) (y .only .low) (λ q l g. left-mid q l (omega (arith, g, x .laid .room))) (λ q l g. left-mid q (omega (arith, l)) (omega (arith, g, x .laid .room))) before
 
     -- what it leaves is noted
     pub step-left : {now : List ℕ} → r ≡ 0 → LeftNoted h t root a slot left now → Advanced th K h (meaning (t .characters) T root) a t was now slot r

@@ -103,6 +103,10 @@ first-same c e = ap (λ (t : List Node). meaning c t 0) e
 pub stride-on : (s : ℕ) {i j : ℕ} → i < j → s * i + s ≤ s * j
 stride-on s {i} {j} l = let next : i + 1 ≤ j = omega (arith, l) in omega (arith, mul-le-mul-left s next)
 
+-- a part of a number is no greater
+pub part-most : (n d : ℕ) → 0 < d → n / d ≤ n
+part-most n d l = let one : 1 ≤ d = omega (arith, l) in omega (arith, div-add-mod n d, mul-le-mul-right (n / d) one)
+
 -- a number lies behind one multiple of a stride
 pub stride-one : (s : ℕ) {a b r r′ : ℕ} → s * a + r ≡ s * b + r′ → r < s → r′ < s → a ≡ b
 stride-one s {a} {b} e l g = by-cases (decLe (a + 1) b) (λ k. absurd (omega (arith, e, l, g, stride-on s {i = a} {j = b} (omega (arith, k))))) (λ k. by-cases (decLe (b + 1) a) (λ m. absurd (omega (arith, e, l, g, stride-on s {i = b} {j = a} (omega (arith, m))))) (λ m. omega (arith, k, m)))
@@ -114,12 +118,12 @@ emptied h {was} {now} x q low high = let y : q ≡ h .memory + (q - (h .memory))
 -- tables that are kept stay as they are
 pub record Grown (h : Context) (was now : List ℕ) : Type 0 where
   pub taken : getD was (takenAt h) 0 ≤ getD now (takenAt h) 0
-  pub within : tablesAt h + 12 * getD was (takenAt h) 0 ≤ scratchAt → tablesAt h + 12 * getD now (takenAt h) 0 ≤ scratchAt
-  pub tables : (q : ℕ) → tablesAt h ≤ q → q < tablesAt h + 12 * getD was (takenAt h) 0 → getD now q 0 ≡ getD was q 0
+  pub within : tablesAt h + h .block * getD was (takenAt h) 0 ≤ scratchAt → tablesAt h + h .block * getD now (takenAt h) 0 ≤ scratchAt
+  pub tables : (q : ℕ) → tablesAt h ≤ q → q < tablesAt h + h .block * getD was (takenAt h) 0 → getD now q 0 ≡ getD was q 0
 
 -- only bytes of ids, steps and facts change
 pub grown-by : {h : Context} {was now : List ℕ} → getD now (takenAt h) 0 ≡ getD was (takenAt h) 0 → ((q : ℕ) → tablesAt h ≤ q → getD now q 0 ≡ getD was q 0) → Grown h was now
-grown-by e f = record { taken = omega (arith, e); within = λ l. omega (arith, e, l); tables = λ q l g. f q l }
+grown-by {h} e f = record { taken = omega (arith, e); within = λ l. omega (arith, ap (λ (k : ℕ). h .block * k) e, l); tables = λ q l g. f q l }
 
 module _ (h : Context) where
   abbrev w : ℕ
@@ -128,6 +132,14 @@ module _ (h : Context) where
   -- slots before the memory are fewer than 48
   pub slot-within : Laid h → (i : ℕ) → h .stride * i + h .stride ≤ h .memory → h .memory + i < h .memory + 48
   slot-within laid i l = by-cases (decLe 48 i) (λ k. absurd (omega (arith, l, laid .few, laid .wide, mul-le-mul-left (h .stride) k))) (λ k. omega (arith, k))
+
+  -- the table of an id begins no earlier than the tables
+  pub kept-from : (n : ℕ) → 0 < n → tablesAt h ≤ keptAt h n
+  kept-from n l = let one : 1 ≤ n = omega (arith, l) in omega (arith, mul-le-mul-left (h .block) one)
+
+  -- so many blocks lie before the scratch
+  pub blocks-most : Laid h → (n : ℕ) → n < 256 → tablesAt h + h .block * n ≤ scratchAt
+  blocks-most laid n l = let few : n ≤ 255 = omega (arith, l) in omega (arith, mul-le-mul-left (h .block) few, laid .room)
 
   -- tables of the same bytes
   pub table-moved : (was now : List ℕ) (a b : ℕ) → ((i : ℕ) → i < 1 + getD was a 0 * w → getD now (b + i) 0 ≡ getD was (a + i) 0) → tableOf (slotTable h now b) now ≡ tableOf (slotTable h was a) was
@@ -158,16 +170,16 @@ module _ (h : Context) where
 
   module _ {was now : List ℕ} (g : Grown h was now) where
     kept-byte : {n : ℕ} → Kept h was n → (i : ℕ) → i < 1 + getD was (keptAt h n) 0 * w → getD now (keptAt h n + i) 0 ≡ getD was (keptAt h n + i) 0
-    kept-byte {n} k i l = g .tables (keptAt h n + i) (omega (arith, k .some)) (omega (arith, k .inside, l))
+    kept-byte {n} k i l = g .tables (keptAt h n + i) (omega (arith, kept-from n (k .some))) (omega (arith, k .inside, l))
 
     kept-count : {n : ℕ} → Kept h was n → getD now (keptAt h n) 0 ≡ getD was (keptAt h n) 0
-    kept-count {n} k = g .tables (keptAt h n) (omega (arith, k .some)) (omega (arith, k .inside))
+    kept-count {n} k = g .tables (keptAt h n) (kept-from n (k .some)) (omega (arith, k .inside))
 
     pub kept-grown : {n : ℕ} → Kept h was n → Kept h now n
     kept-grown {n} k = record {
       some = k .some;
       few = omega (arith, kept-count k, k .few);
-      inside = subst (λ (c : ℕ). keptAt h n + 1 + c * w ≤ tablesAt h + 12 * getD now (takenAt h) 0) (sym (kept-count k)) (omega (arith, k .inside, g .taken));
+      inside = subst (λ (c : ℕ). keptAt h n + 1 + c * w ≤ tablesAt h + h .block * getD now (takenAt h) 0) (sym (kept-count k)) (omega (arith, k .inside, mul-le-mul-left (h .block) (g .taken)));
     }
 
     pub kept-table : {n : ℕ} → Kept h was n → tableOf (keptTable h now n) now ≡ tableOf (keptTable h was n) was
@@ -235,7 +247,7 @@ module _ (h : Context) where
   pub memory-clear : {th : Theory} {K limit : ℕ} {now : List ℕ} → Laid h → limit ≤ h .memory → ((q : ℕ) → h .memory ≤ q → q < tablesAt h → getD now q 0 ≡ 0) → Memory th K h limit now
   memory-clear laid few f = record {
     laid = laid;
-    within = omega (arith, f (takenAt h) (omega arith) (omega arith), laid .room);
+    within = omega (arith, ap (λ (k : ℕ). h .block * k) (f (takenAt h) (omega arith) (omega arith)), laid .room);
     slots = λ i l z. absurd (omega (arith, z, f (h .memory + i) (omega arith) (omega (arith, slot-within laid i (omega (arith, few, l))))));
     steps = λ i l z. absurd (omega (arith, z, f (stepsAt h + 4 * i) (omega arith) (omega (arith, l))));
     facts = λ i l z. absurd (omega (arith, z, f (factsAt h + 7 * i + 6) (omega arith) (omega (arith, l))));
@@ -247,13 +259,13 @@ module _ (h : Context) where
 
   module _ {t : Table} where
     -- a table with the count and the bytes of the one that is kept
-    pub kept-as : {now : List ℕ} → Before h now t → (n : ℕ) → 0 < n → 12 * n + t .nodes * t .width ≤ 12 * getD now (takenAt h) 0 + 11 → getD now (keptAt h n) 0 ≡ t .nodes
+    pub kept-as : {now : List ℕ} → Before h now t → (n : ℕ) → 0 < n → h .block * n + t .nodes * t .width < h .block * getD now (takenAt h) 0 + h .block → getD now (keptAt h n) 0 ≡ t .nodes
         → ((q : ℕ) → q < t .nodes * t .width → getD now (keptAt h n + 1 + q) 0 ≡ getD now (t .rows + q) 0) → HasId h now t n
     kept-as {now} b n some inside count same =
         let wide : w ≡ t .width = ap (λ (f : ℕ). f + h .characters) (b .fluents) ∙ ap (λ (c : ℕ). t .fluents + c) (b .characters) ∙ b .wide in
         let size : getD now (keptAt h n) 0 * w ≡ t .nodes * t .width = ap (λ (c : ℕ). c * w) count ∙ ap (λ (k : ℕ). t .nodes * k) wide in
         record {
-          kept = record { some = some; few = omega (arith, count, b .few); inside = omega (arith, size, inside) };
+          kept = record { some = some; few = omega (arith, count, b .few); inside = omega (arith, size, inside, b .laid .room) };
           count = count;
           same = ap (λ (c : ℕ). rowsAt now w (h .fluents) (h .characters) (keptAt h n + 1) c) count ∙ ap (λ (f : ℕ). rowsAt now w f (h .characters) (keptAt h n + 1) (t .nodes)) (b .fluents) ∙ ap (λ (c : ℕ). rowsAt now w (t .fluents) c (keptAt h n + 1) (t .nodes)) (b .characters)
               ∙ ap (λ (k : ℕ). rowsAt now k (t .fluents) (t .characters) (keptAt h n + 1) (t .nodes)) wide ∙ rows-same now now (t .width) (t .fluents) (t .characters) (t .rows) (keptAt h n + 1) (t .nodes) (omega (arith, b .wide)) same;
@@ -272,22 +284,31 @@ module _ (h : Context) where
     stored-none = record { small = omega arith; named = λ z. absurd (omega (arith, z)); only = record { low = λ q l. refl; high = λ q l. refl }; memory = λ p K limit few m. m }
 
     -- a table that is put behind those that are kept
-    module _ {was mid : List ℕ} {taken v : ℕ} (b : Before h was t) (e : getD was (takenAt h) 0 ≡ taken) (fits : 12 * taken + t .nodes * t .width ≤ 3059) (copied : PartCopied (set was (tablesAt h + 12 * taken) (t .nodes)) mid (t .rows) (tablesAt h + 12 * taken + 1) (t .nodes * t .width)) (is : v ≡ taken + t .nodes * t .width / 12 + 1) where
+    module _ {was mid : List ℕ} {taken v : ℕ} (b : Before h was t) (e : getD was (takenAt h) 0 ≡ taken) (fits : v ≤ 255) (copied : PartCopied (set was (tablesAt h + h .block * taken) (t .nodes)) mid (t .rows) (tablesAt h + h .block * taken + 1) (t .nodes * t .width)) (is : v ≡ taken + (t .nodes * t .width / h .block + 1)) where
       abbrev first : List ℕ
-      first = set was (tablesAt h + 12 * taken) (t .nodes)
+      first = set was (tablesAt h + h .block * taken) (t .nodes)
 
       abbrev last : List ℕ
       last = set mid (takenAt h) v
 
-      -- blocks of 12 bytes
-      blocks : (t .nodes * t .width / 12 * 12 ≤ t .nodes * t .width) × (t .nodes * t .width < t .nodes * t .width / 12 * 12 + 12)
-      blocks = let all = div-add-mod (t .nodes * t .width) 12 in let rest : t .nodes * t .width % 12 < 12 = mod-lt (t .nodes * t .width) (omega arith) in (omega (arith, all), omega (arith, all, rest))
+      -- the blocks that are taken then hold it, and lie before the scratch
+      taken-then : h .block * v ≡ h .block * taken + h .block * (t .nodes * t .width / h .block) + h .block
+      taken-then = let all = ap (λ (k : ℕ). h .block * k) is in omega (arith, all)
 
-      below : (q : ℕ) → q ≢ takenAt h → q < tablesAt h + 12 * taken → getD last q 0 ≡ getD was q 0
-      below q n l = getD-set-other mid (takenAt h) q v 0 n ∙ copied .low q (omega (arith, l)) ∙ getD-set-other was (tablesAt h + 12 * taken) q (t .nodes) 0 (λ z. omega (arith, z, l))
+      new-end : h .block * taken + t .nodes * t .width < h .block * v
+      new-end =
+          let all = div-add-mod (t .nodes * t .width) (h .block) in
+          let rest : t .nodes * t .width % h .block < h .block = mod-lt (t .nodes * t .width) (b .laid .blocks) in
+          omega (arith, all, rest, taken-then)
 
-      above : (q : ℕ) → tablesAt h + 12 * taken + 1 + t .nodes * t .width ≤ q → getD last q 0 ≡ getD was q 0
-      above q l = getD-set-other mid (takenAt h) q v 0 (λ z. omega (arith, z, l)) ∙ copied .high q (omega (arith, l)) ∙ getD-set-other was (tablesAt h + 12 * taken) q (t .nodes) 0 (λ z. omega (arith, z, l))
+      new-room : tablesAt h + h .block * v ≤ scratchAt
+      new-room = omega (arith, mul-le-mul-left (h .block) fits, b .laid .room)
+
+      below : (q : ℕ) → q ≢ takenAt h → q < tablesAt h + h .block * taken → getD last q 0 ≡ getD was q 0
+      below q n l = getD-set-other mid (takenAt h) q v 0 n ∙ copied .low q (omega (arith, l)) ∙ getD-set-other was (tablesAt h + h .block * taken) q (t .nodes) 0 (λ z. omega (arith, z, l))
+
+      above : (q : ℕ) → tablesAt h + h .block * taken + 1 + t .nodes * t .width ≤ q → getD last q 0 ≡ getD was q 0
+      above q l = getD-set-other mid (takenAt h) q v 0 (λ z. omega (arith, z, l)) ∙ copied .high q (omega (arith, l)) ∙ getD-set-other was (tablesAt h + h .block * taken) q (t .nodes) 0 (λ z. omega (arith, z, l))
 
       module _ (long : length mid ≡ length was) where
         pub new-taken : getD last (takenAt h) 0 ≡ v
@@ -295,20 +316,20 @@ module _ (h : Context) where
 
         new-count : getD last (keptAt h (taken + 1)) 0 ≡ t .nodes
         new-count =
-            let x : keptAt h (taken + 1) ≡ tablesAt h + 12 * taken = omega arith in
-            ap (λ (q : ℕ). getD last q 0) x ∙ getD-set-other mid (takenAt h) (tablesAt h + 12 * taken) v 0 (λ z. omega (arith, z)) ∙ copied .low (tablesAt h + 12 * taken) (omega arith) ∙ getD-set-same was (tablesAt h + 12 * taken) (t .nodes) 0 (omega (arith, fits, b .room))
+            let x : keptAt h (taken + 1) ≡ tablesAt h + h .block * taken = omega (arith, b .laid .room) in
+            ap (λ (q : ℕ). getD last q 0) x ∙ getD-set-other mid (takenAt h) (tablesAt h + h .block * taken) v 0 (λ z. omega (arith, z)) ∙ copied .low (tablesAt h + h .block * taken) (omega arith) ∙ getD-set-same was (tablesAt h + h .block * taken) (t .nodes) 0 (omega (arith, new-end, new-room, b .room))
 
         new-byte : (q : ℕ) → q < t .nodes * t .width → getD last (keptAt h (taken + 1) + 1 + q) 0 ≡ getD last (t .rows + q) 0
         new-byte q l =
-            let x : keptAt h (taken + 1) + 1 + q ≡ tablesAt h + 12 * taken + 1 + q = omega arith in
-            ap (λ (q : ℕ). getD last q 0) x ∙ getD-set-other mid (takenAt h) (tablesAt h + 12 * taken + 1 + q) v 0 (λ z. omega (arith, z)) ∙ copied .part q l ∙ getD-set-other was (tablesAt h + 12 * taken) (t .rows + q) (t .nodes) 0 (λ z. omega (arith, z, l, b .before)) ∙ sym (below (t .rows + q) (λ z. omega (arith, z, l, b .before)) (omega (arith, l, b .before)))
+            let x : keptAt h (taken + 1) + 1 + q ≡ tablesAt h + h .block * taken + 1 + q = omega (arith, b .laid .room) in
+            ap (λ (q : ℕ). getD last q 0) x ∙ getD-set-other mid (takenAt h) (tablesAt h + h .block * taken + 1 + q) v 0 (λ z. omega (arith, z)) ∙ copied .part q l ∙ getD-set-other was (tablesAt h + h .block * taken) (t .rows + q) (t .nodes) 0 (λ z. omega (arith, z, l, b .before)) ∙ sym (below (t .rows + q) (λ z. omega (arith, z, l, b .before)) (omega (arith, l, b .before)))
 
         pub stored-new : Stored h t was last (taken + 1)
         stored-new = record {
-          small = omega (arith, fits);
-          named = λ z. kept-as (before-now (length-set mid (takenAt h) v ∙ long) b) (taken + 1) (omega arith) (omega (arith, new-taken, is, blocks)) new-count new-byte;
-          only = record { low = λ q l. below q (λ z. omega (arith, z, l)) (omega (arith, l)); high = λ q l. above q (omega (arith, l, fits)) };
-          memory = λ p K limit few m. memory-quiet (record { taken = omega (arith, new-taken, is, e); within = λ l. omega (arith, new-taken, is, blocks, fits, b .laid .room); tables = λ q low high. below q (λ z. omega (arith, z, low)) (omega (arith, high, e)) }) (m .laid) few (λ q l. below q (λ z. omega (arith, z, l, few)) (omega (arith, l, few))) (λ q low high. below q (λ z. omega (arith, z, high)) (omega (arith, high))) (λ q low high. below q (λ z. omega (arith, z, low)) (omega (arith, high))) m;
+          small = omega (arith, fits, is);
+          named = λ z. kept-as (before-now (length-set mid (takenAt h) v ∙ long) b) (taken + 1) (omega arith) (omega (arith, ap (λ (k : ℕ). h .block * k) new-taken, new-end)) new-count new-byte;
+          only = record { low = λ q l. below q (λ z. omega (arith, z, l)) (omega (arith, l)); high = λ q l. above q (omega (arith, l, new-end, new-room)) };
+          memory = λ p K limit few m. memory-quiet (record { taken = omega (arith, new-taken, is, e); within = λ l. omega (arith, ap (λ (k : ℕ). h .block * k) new-taken, new-room); tables = λ q low high. below q (λ z. omega (arith, z, low)) (omega (arith, high, ap (λ (k : ℕ). h .block * k) e)) }) (m .laid) few (λ q l. below q (λ z. omega (arith, z, l, few)) (omega (arith, l, few))) (λ q low high. below q (λ z. omega (arith, z, high)) (omega (arith, high))) (λ q low high. below q (λ z. omega (arith, z, low)) (omega (arith, high))) m;
         }
 
     -- all else is forgotten first

@@ -1,12 +1,12 @@
 // A transposition table, behind the slots. Tables of states are interned in it: each is kept once, under a
 // number that is its id, by which what is known of steps and of lists is found.
 //
-// An id is the number of the table's first block of 12 bytes. A table is held byte for byte against the one that its
+// An id is the number of the table's first block, from 1 on. A table is held byte for byte against the one that its
 // hash leads to, so nothing proved depends on the hash. Where there is no room, all is forgotten. A state is handed on
 // as the slot that its table stands in.
 use crate::limits::Context;
+use crate::regions::BLOCKS;
 use crate::regions::HASHED;
-use crate::regions::KEPT;
 use crate::regions::TABLES;
 use crate::regions::TAKEN;
 use chart::bytes::clear;
@@ -59,10 +59,10 @@ pub fn has_id(work: &[u8], p: Context, t: Table, id: usize) -> bool
         return false;
     }
     let n = t.nodes * t.width;
-    if 12 * wide(work[p.memory + TAKEN]) + 11 < 12 * id + n {
+    if p.block * wide(work[p.memory + TAKEN]) + p.block <= p.block * id + n {
         return false;
     }
-    let at = p.memory + KEPT + 12 * id;
+    let at = p.memory + TABLES - p.block + p.block * id;
     if wide(work[at]) != t.nodes {
         return false;
     }
@@ -76,13 +76,14 @@ pub fn store(work: &mut [u8], p: Context, t: Table) -> usize
 {
     let n = t.nodes * t.width;
     let taken = wide(work[p.memory + TAKEN]);
-    if 3059 < 12 * taken + n {
+    let more = n / p.block + 1;
+    if BLOCKS < taken + more {
         return 0;
     }
-    let at = p.memory + TABLES + 12 * taken;
+    let at = p.memory + TABLES + p.block * taken;
     work[at] = t.nodes as u8;
     copy_part(work, t.rows, at + 1, n);
-    work[p.memory + TAKEN] = (taken + n / 12 + 1) as u8;
+    work[p.memory + TAKEN] = (taken + more) as u8;
     taken + 1
 }
 

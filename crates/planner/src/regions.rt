@@ -1,7 +1,7 @@
 // Where the memory keeps what, from its beginning on, as specs/Inner/Memory has it. It begins with the ids of the
 // tables in the slots, a byte for each slot.
 
-// How many blocks of 12 bytes are taken by tables.
+// How many blocks are taken by tables.
 pub const TAKEN: usize = 48;
 
 // Ids found by a hash, a byte for each.
@@ -16,8 +16,5 @@ pub const LISTS: usize = 690;
 // The tables that are kept, in blocks: so many bytes stand before them.
 pub const TABLES: usize = 2482;
 
-// The table of id n begins 12 n bytes behind this.
-pub const KEPT: usize = 2470;
-
-// How many bytes the memory takes.
-pub const MEMORY: usize = 5682;
+// How many blocks there are, as many as an id of one byte can tell apart.
+pub const BLOCKS: usize = 255;

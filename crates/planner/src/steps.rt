@@ -3,8 +3,8 @@ use crate::intern::id_of;
 use crate::intern::intern_slot;
 use crate::intern::table_in;
 use crate::limits::Context;
-use crate::regions::KEPT;
 use crate::regions::STEPS;
+use crate::regions::TABLES;
 use chart::bytes::copy_part;
 use pack::number::wide;
 use pack::refusal::CONDITION;
@@ -77,7 +77,7 @@ pub fn again(work: &mut [u8], p: Context, next: usize, slot: usize) -> u8
     if next == 0 {
         return CONDITION;
     }
-    let from = p.memory + KEPT + 12 * next;
+    let from = p.memory + TABLES - p.block + p.block * next;
     let nodes = wide(work[from]);
     copy_part(work, from, slot, 1 + nodes * (p.fluents + p.characters));
     work[p.memory + slot / p.stride] = next as u8;

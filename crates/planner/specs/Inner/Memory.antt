@@ -3,7 +3,7 @@
 use mathlib.Core.Path.{_≡_}
 use mathlib.Core.Logic.{_≢_}
 use mathlib.Core.List.{List}
-use Prim.Native.Nat.{ℕ, suc, _+_, _*_, _<_, _≤_}
+use Prim.Native.Nat.{ℕ, suc, _+_, _*_, _-_, _<_, _≤_}
 use lib.ListN.{length, getD}
 use Rattle.pack.specs.Syntax.{Theory}
 use Rattle.pack.specs.State.{State}
@@ -21,16 +21,17 @@ use Rattle.planner.specs.Inner.Lists.{slotTable, Above, Ends}
 use Rattle.transition.specs.Contracts.Stage.{slotRoom, scratchAt}
 
 -- slots of `stride` bytes from the buffer's start on, at most 48, each with room for a count and 32 rows; the memory
--- behind them, and a step's scratch behind that
+-- behind them, with 255 blocks for tables, and a step's scratch behind that
 pub record Laid (h : Context) : Type 0 where
   pub narrow : h .fluents + h .characters ≤ 30
   pub wide : slotRoom (h .fluents + h .characters) ≤ h .stride
   pub some : 1 < h .stride
   pub few : h .memory < 48 * h .stride
-  pub room : h .memory + 5682 ≤ scratchAt
+  pub blocks : 0 < h .block
+  pub room : h .memory + 2482 + 255 * h .block ≤ scratchAt
 
--- it begins with the id of the table in each slot; then how many blocks of 12 bytes are taken; behind that are ids found
--- by a hash, of which nothing is asked; then steps, lists and tables
+-- it begins with the id of the table in each slot; then how many blocks are taken; behind that are ids found by a hash,
+-- of which nothing is asked; then steps, lists and tables
 abbrev pub takenAt : Context → ℕ
 takenAt h = h .memory + 48
 
@@ -43,9 +44,9 @@ factsAt h = h .memory + 690
 abbrev pub tablesAt : Context → ℕ
 tablesAt h = h .memory + 2482
 
--- the table of an id begins with a block
+-- the table of an id begins with a block, that of 1 with the first
 abbrev pub keptAt : Context → ℕ → ℕ
-keptAt h n = h .memory + 2470 + 12 * n
+keptAt h n = h .memory + 2482 - h .block + h .block * n
 
 abbrev pub keptTable : Context → List ℕ → ℕ → Table
 keptTable h work n = slotTable h work (keptAt h n)
@@ -55,7 +56,7 @@ pub record Kept (h : Context) (work : List ℕ) (n : ℕ) : Type 0 where
   pub some : 0 < n
   pub few : getD work (keptAt h n) 0 ≤ 32
   pub inside : keptAt h n + 1 + getD work (keptAt h n) 0 * (h .fluents + h .characters)
-      ≤ tablesAt h + 12 * getD work (takenAt h) 0
+      ≤ tablesAt h + h .block * getD work (takenAt h) 0
 
 -- n is the id of a table
 pub record HasId (h : Context) (work : List ℕ) (t : Table) (n : ℕ) : Type 0 where
@@ -120,7 +121,7 @@ FactEntry p foresight h work a =
 -- all are true; of slots, those before a place
 pub record Memory (p : Theory) (foresight : ℕ) (h : Context) (limit : ℕ) (work : List ℕ) : Type 0 where
   pub laid : Laid h
-  pub within : tablesAt h + 12 * getD work (takenAt h) 0 ≤ scratchAt
+  pub within : tablesAt h + h .block * getD work (takenAt h) 0 ≤ scratchAt
   pub slots : (i : ℕ) → h .stride * i + h .stride ≤ limit → SlotEntry h work i
   pub steps : (i : ℕ) → i < 128 → StepEntry p h work (stepsAt h + 4 * i)
   pub facts : (i : ℕ) → i < 256 → FactEntry p foresight h work (factsAt h + 7 * i)

@@ -1,4 +1,4 @@
--- The sizes of the slots and of what stands before the memory. Assumes nothing.
+-- The sizes of the slots, of what stands before the memory, and of a block in it. Assumes nothing.
 use Prim.Native.Nat.{_+_, _*_}
 use native.Mathlib.Nat.{mul-le-mul-right}
 use native.Mathlib.Omega.{arith}
@@ -12,6 +12,11 @@ laid-out-spec =
     (tie.spec
     (λ c. search needs)
     (λ c. search needs)
+    (λ c. search needs)
+    (λ c.
+    let start = c .before in
+    let a = start .args in
+    omega (arith, mul-le-mul-right (1 + 32 * (a .c .fluents + a .c .characters)) (start .pre .2), start .pre))
     (λ c. search needs)
     (λ c.
     let start = c .before in
