@@ -29,7 +29,7 @@ use Rattle.chart.specs.Call.{workRoom}
 use Rattle.chart.specs.Chart.{Written, Starts}
 use Rattle.chart.specs.Laws.Lists.{stands, place}
 use Rattle.chart.specs.Laws.Unique.{some}
-use Rattle.chart.specs.Laws.Cells.{rows-most, rows-same}
+use Rattle.chart.specs.Laws.Cells.{rows-same}
 use Rattle.transition.specs.Happening.{nothing, actionOf, Plays}
 use Rattle.transition.specs.Laws.Settled.{plays-one, plays-refuses}
 use Rattle.transition.specs.Contracts.Play.{Setting, Left, PlayedIn}
@@ -42,7 +42,7 @@ use Rattle.planner.specs.Inner.Lists.{counted, slotTable, Other, AboveBy
 use Rattle.planner.specs.Inner.Lists as inner
 use Rattle.planner.specs.Inner.Memory.{takenAt, stepsAt, keptTable, HasId, StepFact, StepEntry, Memory, Fact, Place, Before, InSlot, Interning, StepRead, Noted, Slot, Again, LeftNoted}
 use Rattle.planner.specs.Inner.Explain.{Stage, Free, Told, Advanced}
-use Rattle.planner.proofs.TrueMemory.{fact-same, first-same, grown-by, before-now, named-state, memory-quiet, memory-fewer}
+use Rattle.planner.proofs.TrueMemory.{fact-same, first-same, before-now, named-state, memory-quiet, memory-fewer}
 
 -- Told: passed on
 pub told-none : {M : List ℕ → Type 0} {slot : ℕ} (was : List ℕ) {P : Type 0} → M was → (P → ⊥) → Told M slot was was false P
