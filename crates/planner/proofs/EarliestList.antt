@@ -4,6 +4,7 @@ use mathlib.Core.Path.{_≡_, refl, sym, ap, _∙_, subst}
 use mathlib.Core.Logic.{_≢_, ⊎-elim, by-cases}
 use mathlib.Core.List.{List, [], _∷_}
 use native.Mathlib.Decide.{decLe, ℕ-discrete}
+use native.Mathlib.Nat.{mul-le-mul-left, mul-le-mul-right}
 use native.Mathlib.Omega.{arith}
 use lib.ListN.{length, getD}
 use Rattle.pack.specs.Syntax.{Node, Theory, Rule}
@@ -24,8 +25,8 @@ use Rattle.transition.specs.Laws.Settled.{plays-one}
 use Rattle.planner.specs.declared.limits.Context.{Context}
 use Rattle.planner.specs.Ending.{Leads, Explained, authorUtility}
 use Rattle.planner.specs.Inner.Lists.{slotTable, Agreed, All, Ends, EndsBy}
-use Rattle.planner.specs.Inner.Memory.{memoryAt, Fact, Memory}
-use Rattle.planner.specs.Inner.Explain.{Stage}
+use Rattle.planner.specs.Inner.Memory.{Laid, Fact, Memory}
+use Rattle.planner.specs.Inner.Explain.{Stage, Free}
 use Rattle.planner.specs.Inner.Search.{Dry, Trail, Repeated, Put, Chosen, Best}
 use Rattle.planner.specs.Laws.Explaining.{Agreeing}
 use Rattle.planner.proofs.TrueMemory.{table-moved, state-moved}
@@ -40,7 +41,7 @@ pub best-from : {M : List ℕ → Type 0} {Good : List ℕ → ℕ → Type 0} {
 best-from low high b = record { none = b .none; some = b .some; low = λ q l. b .low q l ∙ low q l; high = λ q l. b .high q l ∙ high q l; memory = b .memory }
 
 -- more is put into the memory
-pub best-noted : {M : List ℕ → Type 0} {Good : List ℕ → ℕ → Type 0} {n : ℕ} {was now : List ℕ} {at slot : ℕ} {work mid work′ : List ℕ} {r : ℕ} → Best M Good n was now at slot work mid r → slot ≤ memoryAt → Below mid work′ memoryAt → Above mid work′ workRoom → M work′ → Best M Good n was now at slot work work′ r
+pub best-noted : {M : List ℕ → Type 0} {Good : List ℕ → ℕ → Type 0} {n : ℕ} {was now : List ℕ} {at slot : ℕ} {work mid work′ : List ℕ} {r far : ℕ} → Best M Good n was now at slot work mid r → slot ≤ far → Below mid work′ far → Above mid work′ workRoom → M work′ → Best M Good n was now at slot work work′ r
 best-noted b le low high m = record { none = b .none; some = b .some; low = λ q l. low q (omega arith) ∙ b .low q l; high = λ q l. high q l ∙ b .high q l; memory = m }
 
 -- one action more than the rest
@@ -51,60 +52,67 @@ best-same {M} {Good} {n} {n′} {was} {now} {at} {slot} {work} {work′} {r} e b
 pub fact-of-none : (th : Theory) (K e base : ℕ) (s : State) {left who : ℕ} → ((list : List ℕ) (v : ℕ) → length list ≡ left → ¬ Ends th K e base s list v) → Fact th K 3 (record { who = who; nesting = e; number = left; base = base }) s
 fact-of-none th K e base s f = record { no = λ z. absurd (omega (arith, z)); yes = λ z. absurd (omega (arith, z)); none = λ z. f; unexplained = λ z. absurd (omega (arith, z)); explained = λ z. absurd (omega (arith, z)) }
 
+-- a slot lies no further than one of a number at least as great, and a number no further than its slot
+pub slots-upto : (h : Context) {i n : ℕ} → i ≤ n → i * h .stride ≤ n * h .stride
+slots-upto h l = mul-le-mul-right (h .stride) l
+
+pub slots-most : (h : Context) (n : ℕ) → Laid h → n ≤ n * h .stride
+slots-most h n laid = let one : 1 ≤ h .stride = omega (arith, laid .some) in omega (arith, mul-le-mul-left n one)
+
 module _ (th : Theory) (K e base : ℕ) (s : State) where
   -- the author's path, one state longer
   module _ {h : Context} {was : List ℕ} {n left : ℕ} (trail : Trail th K e base h was n (suc left) s) where
-    trail-next : {now : List ℕ} {slot x : ℕ} {t : State} → slot ≡ n * 961 → Below was now (slot + 961) → 1 + getD now slot 0 * (h .fluents + h .characters) ≤ 961 → stateOf (slotTable h now slot) now 0 ≡ s
-        → Written (h .characters) (tableOf (slotTable h now (slot + 961)) now) → 1 + getD now (slot + 961) 0 * (h .fluents + h .characters) ≤ 961
+    trail-next : {now : List ℕ} {slot x : ℕ} {t : State} → slot ≡ n * h .stride → Below was now (slot + h .stride) → 1 + getD now slot 0 * (h .fluents + h .characters) ≤ h .stride → stateOf (slotTable h now slot) now 0 ≡ s
+        → Written (h .characters) (tableOf (slotTable h now (slot + h .stride)) now) → 1 + getD now (slot + h .stride) 0 * (h .fluents + h .characters) ≤ h .stride
         → Plays th s x t → Agreeing th All (Explained th K e) s x (actionOf th x .consenters) → Trail th K e base h now (n + 1) left t
     unfolding Leads
     trail-next {now} {slot} {x} {t} at low few here next fits plays agreed = record {
       before = λ i l. by-cases (ℕ-discrete i n)
-          (λ z. let same : stateOf (slotTable h now (i * 961)) now 0 ≡ s = ap (λ (q : ℕ). stateOf (slotTable h now q) now 0) (ap (λ (i : ℕ). i * 961) z ∙ sym at) ∙ here in
+          (λ z. let same : stateOf (slotTable h now (i * h .stride)) now 0 ≡ s = ap (λ (q : ℕ). stateOf (slotTable h now q) now 0) (ap (λ (i : ℕ). i * h .stride) z ∙ sym at) ∙ here in
           let up : left + (n + 1 - i) ≡ suc left = omega (arith, z) in
-          subst (Dry (Ends th K e base (stateOf (slotTable h now (i * 961)) now 0))) (sym up) (subst (λ (s : State). Dry (Ends th K e base s) (suc left)) (sym same) (trail .here)))
+          subst (Dry (Ends th K e base (stateOf (slotTable h now (i * h .stride)) now 0))) (sym up) (subst (λ (s : State). Dry (Ends th K e base s) (suc left)) (sym same) (trail .here)))
           (λ z. let less : i < n = omega (arith, l, z) in
           let up : left + (n + 1 - i) ≡ suc left + (n - i) = omega (arith, less) in
-          let same : stateOf (slotTable h now (i * 961)) now 0 ≡ stateOf (slotTable h was (i * 961)) was 0 = state-moved h was now (i * 961) (i * 961) (λ q g. low (i * 961 + q) (omega (arith, g, trail .small i (omega (arith, less)), at, less))) in
-          subst (Dry (Ends th K e base (stateOf (slotTable h now (i * 961)) now 0))) (sym up) (subst (λ (s : State). Dry (Ends th K e base s) (suc left + (n - i))) (sym same) (trail .before i less)));
+          let same : stateOf (slotTable h now (i * h .stride)) now 0 ≡ stateOf (slotTable h was (i * h .stride)) was 0 = state-moved h was now (i * h .stride) (i * h .stride) (λ q g. low (i * h .stride + q) (omega (arith, g, trail .small i (omega (arith, less)), at, slots-upto h {i = i} {n = n} (omega (arith, less))))) in
+          subst (Dry (Ends th K e base (stateOf (slotTable h now (i * h .stride)) now 0))) (sym up) (subst (λ (s : State). Dry (Ends th K e base s) (suc left + (n - i))) (sym same) (trail .before i less)));
       here = λ l v g q. trail .here (x ∷ l) v (omega (arith, g)) (q .0, (t, plays, agreed, q .1), q .2);
       written = λ i l. by-cases (decLe i n)
           (λ z. subst (Written (h .characters)) (sym (stays i z)) (trail .written i z))
           (λ z. subst (λ (q : ℕ). Written (h .characters) (tableOf (slotTable h now q) now)) (last i (omega (arith, l, z))) next);
       small = λ i l. by-cases (decLe i n)
-          (λ z. subst (λ (c : ℕ). 1 + c * (h .fluents + h .characters) ≤ 961) (sym (low (i * 961) (omega (arith, at, z)))) (trail .small i z))
-          (λ z. subst (λ (q : ℕ). 1 + getD now q 0 * (h .fluents + h .characters) ≤ 961) (last i (omega (arith, l, z))) fits);
+          (λ z. subst (λ (c : ℕ). 1 + c * (h .fluents + h .characters) ≤ h .stride) (sym (low (i * h .stride) (omega (arith, at, slots-upto h z, trail .small i z)))) (trail .small i z))
+          (λ z. subst (λ (q : ℕ). 1 + getD now q 0 * (h .fluents + h .characters) ≤ h .stride) (last i (omega (arith, l, z))) fits);
     }
       where
         -- a slot of the path so far
-        stays : (i : ℕ) → i ≤ n → tableOf (slotTable h now (i * 961)) now ≡ tableOf (slotTable h was (i * 961)) was
-        stays i z = table-moved h was now (i * 961) (i * 961) (λ q g. low (i * 961 + q) (omega (arith, g, trail .small i z, at, z)))
+        stays : (i : ℕ) → i ≤ n → tableOf (slotTable h now (i * h .stride)) now ≡ tableOf (slotTable h was (i * h .stride)) was
+        stays i z = table-moved h was now (i * h .stride) (i * h .stride) (λ q g. low (i * h .stride + q) (omega (arith, g, trail .small i z, at, slots-upto h z)))
 
         -- the new one
-        last : (i : ℕ) → i ≡ n + 1 → slot + 961 ≡ i * 961
-        last i z = omega (arith, at, z)
+        last : (i : ℕ) → i ≡ n + 1 → slot + h .stride ≡ i * h .stride
+        last i z = omega (arith, at, ap (λ (i : ℕ). i * h .stride) z)
 
   -- the path where its bytes stay
-  pub trail-same : {h : Context} {was now : List ℕ} {n left : ℕ} → Below was now (n * 961 + 961) → Trail th K e base h was n left s → Trail th K e base h now n left s
+  pub trail-same : {h : Context} {was now : List ℕ} {n left : ℕ} → Below was now (n * h .stride + h .stride) → Trail th K e base h was n left s → Trail th K e base h now n left s
   trail-same {h} {was} {now} {n} {left} low trail = record {
-    before = λ i l. subst (λ (s : State). Dry (Ends th K e base s) (left + (n - i))) (sym (state-moved h was now (i * 961) (i * 961) (λ q g. low (i * 961 + q) (omega (arith, g, trail .small i (omega (arith, l)), l))))) (trail .before i l);
+    before = λ i l. subst (λ (s : State). Dry (Ends th K e base s) (left + (n - i))) (sym (state-moved h was now (i * h .stride) (i * h .stride) (λ q g. low (i * h .stride + q) (omega (arith, g, trail .small i (omega (arith, l)), slots-upto h {i = i} {n = n} (omega (arith, l))))))) (trail .before i l);
     here = trail .here;
-    written = λ i l. subst (Written (h .characters)) (sym (table-moved h was now (i * 961) (i * 961) (λ q g. low (i * 961 + q) (omega (arith, g, trail .small i l, l))))) (trail .written i l);
-    small = λ i l. subst (λ (c : ℕ). 1 + c * (h .fluents + h .characters) ≤ 961) (sym (low (i * 961) (omega (arith, l)))) (trail .small i l);
+    written = λ i l. subst (Written (h .characters)) (sym (table-moved h was now (i * h .stride) (i * h .stride) (λ q g. low (i * h .stride + q) (omega (arith, g, trail .small i l, slots-upto h l))))) (trail .written i l);
+    small = λ i l. subst (λ (c : ℕ). 1 + c * (h .fluents + h .characters) ≤ h .stride) (sym (low (i * h .stride) (omega (arith, slots-upto h l, trail .small i l)))) (trail .small i l);
   }
 
   -- no path yet
-  trail-none : {h : Context} (work : List ℕ) {n : ℕ} → Written (h .characters) (tableOf (slotTable h work 0) work) → 1 + getD work 0 0 * (h .fluents + h .characters) ≤ 961 → authorUtility th s ≤ base → ((l : List ℕ) (v : ℕ) → 0 < length l → length l < n → ¬ Ends th K e base s l v) → Trail th K e base h work 0 n s
+  trail-none : {h : Context} (work : List ℕ) {n : ℕ} → Written (h .characters) (tableOf (slotTable h work 0) work) → 1 + getD work 0 0 * (h .fluents + h .characters) ≤ h .stride → authorUtility th s ≤ base → ((l : List ℕ) (v : ℕ) → 0 < length l → length l < n → ¬ Ends th K e base s l v) → Trail th K e base h work 0 n s
   unfolding Leads
   trail-none {h} work {n} first fits le f = record {
     before = λ i l. absurd (omega arith);
     here = none;
     written = λ i l. subst (λ (q : ℕ). Written (h .characters) (tableOf (slotTable h work q) work)) (at-none i l) first;
-    small = λ i l. subst (λ (q : ℕ). 1 + getD work q 0 * (h .fluents + h .characters) ≤ 961) (at-none i l) fits;
+    small = λ i l. subst (λ (q : ℕ). 1 + getD work q 0 * (h .fluents + h .characters) ≤ h .stride) (at-none i l) fits;
   }
     where
-      at-none : (i : ℕ) → i ≤ 0 → 0 ≡ i * 961
-      at-none i l = omega (arith, l)
+      at-none : (i : ℕ) → i ≤ 0 → 0 ≡ i * h .stride
+      at-none i l = let z : i ≡ 0 = omega (arith, l) in omega (arith, ap (λ (i : ℕ). i * h .stride) z)
 
       none : Dry (Ends th K e base s) n
       none [] v l (s′, q, (is, above)) = let same : authorUtility th s ≡ authorUtility th s′ = ap (authorUtility th) q in omega (arith, same, is, above, le)
@@ -245,23 +253,38 @@ module _ {th : Theory} {T : List Node} {pack places : List ℕ} {h : Context} {w
     agreed-to f d m q = f d m tt
 
 -- the path, and a step from the state in its last slot
-pub trail-step : {th : Theory} {T : List Node} {pack places : List ℕ} {h : Context} {was : List ℕ} (slot : ℕ) (x : Stage th T pack places h was (slotTable h was slot) (slot + 961)) (K e base : ℕ) {n left : ℕ} → Trail th K e base h was n (suc left) (meaning (h .characters) T 0) → slot ≡ n * 961
-    → (now : List ℕ) → Below was now (slot + 961) → length now ≡ length was → Written (h .characters) (tableOf (slotTable h now (slot + 961)) now) → 1 + getD now (slot + 961) 0 * (h .fluents + h .characters) ≤ 961 → {a : ℕ} {t : State} → Plays th (meaning (h .characters) T 0) a t → Agreeing th All (Explained th K e) (meaning (h .characters) T 0) a (actionOf th a .consenters) → Trail th K e base h now (n + 1) left t
+pub trail-step : {th : Theory} {T : List Node} {pack places : List ℕ} {h : Context} {was : List ℕ} (slot : ℕ) (x : Stage th T pack places h was (slotTable h was slot) (slot + h .stride)) (K e base : ℕ) {n left : ℕ} → Trail th K e base h was n (suc left) (meaning (h .characters) T 0) → slot ≡ n * h .stride
+    → (now : List ℕ) → Below was now (slot + h .stride) → length now ≡ length was → Written (h .characters) (tableOf (slotTable h now (slot + h .stride)) now) → 1 + getD now (slot + h .stride) 0 * (h .fluents + h .characters) ≤ h .stride → {a : ℕ} {t : State} → Plays th (meaning (h .characters) T 0) a t → Agreeing th All (Explained th K e) (meaning (h .characters) T 0) a (actionOf th a .consenters) → Trail th K e base h now (n + 1) left t
 trail-step {th} {T} {h = h} slot x K e base trail at now low long next fits plays agreed =
     let y = slot-same slot x low long in
     trail-next th K e base (meaning (h .characters) T 0) trail at low (stage-extent slot y) (stage-state y 0) next fits plays agreed
 
 -- no action is played yet
-pub trail-outset : {th : Theory} {T : List Node} {pack places : List ℕ} {h : Context} {was now : List ℕ} (K e base : ℕ) {n : ℕ} → Stage th T pack places h was (slotTable h was 0) 961
-    → Below was now 961 → length now ≡ length was → Written (h .characters) T → authorUtility th (meaning (h .characters) T 0) ≤ base
+pub trail-outset : {th : Theory} {T : List Node} {pack places : List ℕ} {h : Context} {was now : List ℕ} (K e base : ℕ) {n : ℕ} → Stage th T pack places h was (slotTable h was 0) (0 + h .stride)
+    → Below was now (0 + h .stride) → length now ≡ length was → Written (h .characters) T → authorUtility th (meaning (h .characters) T 0) ≤ base
     → ((l : List ℕ) (v : ℕ) → 0 < length l → length l < n → ¬ Ends th K e base (meaning (h .characters) T 0) l v) → Trail th K e base h now 0 n (meaning (h .characters) T 0)
 trail-outset {th} {T} {h = h} {now = now} K e base x low long first le f =
     let y = slot-same 0 x low long in
     trail-none th K e base (meaning (h .characters) T 0) {h = h} now (subst (Written (h .characters)) (sym (y .tabled .same)) first) (stage-extent 0 y) le f
 
 -- the slot behind the last of the path is the path's next
-pub on-path : {th : Theory} {T : List Node} {pack places : List ℕ} {h : Context} {work : List ℕ} {K : ℕ} (n : ℕ) → Stage th T pack places h work (slotTable h work (n * 961 + 961)) (n * 961 + 961 + 961) → Memory th K h (n * 961 + 961 + 961) work
-    → Stage th T pack places h work (slotTable h work ((n + 1) * 961)) ((n + 1) * 961 + 961) × Memory th K h ((n + 1) * 961 + 961) work
+pub on-path : {th : Theory} {T : List Node} {pack places : List ℕ} {h : Context} {work : List ℕ} {K : ℕ} (n : ℕ) → Stage th T pack places h work (slotTable h work (n * h .stride + h .stride)) (n * h .stride + h .stride + h .stride) → Memory th K h (n * h .stride + h .stride + h .stride) work
+    → Stage th T pack places h work (slotTable h work ((n + 1) * h .stride)) ((n + 1) * h .stride + h .stride) × Memory th K h ((n + 1) * h .stride + h .stride) work
 on-path {th} {T} {pack} {places} {h} {work} {K} n x m =
-    let e : n * 961 + 961 ≡ (n + 1) * 961 = omega arith in
-    (subst (λ (s : ℕ). Stage th T pack places h work (slotTable h work s) (s + 961)) e x, subst (λ (s : ℕ). Memory th K h (s + 961) work) e m)
+    let e : n * h .stride + h .stride ≡ (n + 1) * h .stride = omega arith in
+    (subst (λ (s : ℕ). Stage th T pack places h work (slotTable h work s) (s + h .stride)) e x, subst (λ (s : ℕ). Memory th K h (s + h .stride) work) e m)
+
+-- the first slot is the path's first
+outset : (h : Context) → 0 * h .stride ≡ 0
+outset h = omega arith
+
+module _ {th : Theory} {h : Context} {K : ℕ} where
+  pub at-outset : {T : List Node} {pack places work : List ℕ} → Stage th T pack places h work (slotTable h work 0) (0 + h .stride) → Memory th K h (0 + h .stride) work
+      → Stage th T pack places h work (slotTable h work (0 * h .stride)) (0 * h .stride + h .stride) × Memory th K h (0 * h .stride + h .stride) work
+  at-outset {T} {pack} {places} {work} x m = (subst (λ (s : ℕ). Stage th T pack places h work (slotTable h work s) (s + h .stride)) (sym (outset h)) x, subst (λ (s : ℕ). Memory th K h (s + h .stride) work) (sym (outset h)) m)
+
+  pub best-outset : {Good : List ℕ → ℕ → Type 0} {n : ℕ} {was now work work′ : List ℕ} {r : ℕ} → Best (Memory th K h (0 * h .stride + h .stride)) Good n was now 0 (0 * h .stride + h .stride) work work′ r → Best (Memory th K h (0 + h .stride)) Good n was now 0 (0 + h .stride) work work′ r
+  best-outset {Good} {n} {was} {now} {work} {work′} {r} b = subst (λ (s : ℕ). Best (Memory th K h (s + h .stride)) Good n was now 0 (s + h .stride) work work′ r) (outset h) b
+
+pub free-outset : (h : Context) (n : ℕ) → Free h 0 n → Free h (0 * h .stride) n
+free-outset h n f = omega (arith, f)

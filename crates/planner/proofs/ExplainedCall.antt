@@ -1,5 +1,5 @@
 -- Explained: what the checks leave, as the verdict asks it, and what it gives. Assumes nothing.
-use Prim.Native.Nat.{ℕ, _+_, _*_, _≤_}
+use Prim.Native.Nat.{ℕ, _+_, _*_, _<_, _≤_}
 use mathlib.Core.Path.{_≡_, refl, sym, ap, ap₂, _∙_, subst}
 use mathlib.Core.Bool.{Bool, true, false, _&&_}
 use mathlib.Core.List.{List, [], _∷_, map}
@@ -42,10 +42,12 @@ use Rattle.planner.specs.Promises.{Judgement}
 use Rattle.planner.specs.Laws.Answers.{explained-table-iff}
 use Rattle.planner.specs.Inner.Lists as slots
 use Rattle.planner.specs.Inner.Lists.{slotTable}
-use Rattle.planner.specs.Inner.Memory.{memoryAt, Memory}
+use Rattle.planner.specs.Inner.Memory.{Memory}
 use Rattle.planner.proofs.TrueMemory.{emptied, memory-clear}
 use Rattle.planner.proofs.Explanations.{stage-same}
-use Rattle.planner.specs.Inner.Explain.{Stage, Free, Told, Judging, Judgeable, Verdict}
+use Rattle.planner.specs.Inner.Layout.{laidOut}
+use Rattle.planner.specs.Inner.Explain.{Stage, Told, Judging, Judgeable, Verdict, VerdictOf}
+use Rattle.planner.proofs.Slots.{laid-fits, laid-free, first-count}
 
 module _ {th : Theory} {T : List Node} {pack places : List ℕ} {h : Context} {chart : List ℕ} {nodes c a K e : ℕ} {work : List ℕ} (x : Judging th T pack places h chart nodes c a K e work) where
   abbrev f : ℕ
@@ -57,34 +59,40 @@ module _ {th : Theory} {T : List Node} {pack places : List ℕ} {h : Context} {c
   abbrev pub judgeFrom : Table
   judgeFrom = record { rows = 1; nodes = nodes; fluents = f; characters = C; width = f + C }
 
-  pub judge-free : Free 0 (1 + K * e)
-  judge-free = omega (arith, mul-le-mul-left K (x .nested), mul-le-mul-right 3 (x .foreseen .1))
+  -- the first slot lies before the memory
+  pub judge-first : h .stride ≤ h .memory
+  judge-first = omega (arith, x .slots)
+
+  -- and the chart within it
+  judge-fits : 1 + nodes * (f + C) ≤ h .stride
+  judge-fits = let most : nodes * (f + C) ≤ 32 * (f + C) = mul-le-mul-right (f + C) (x .read .few) in omega (arith, most, x .laid .wide)
 
   module _ {mid : List ℕ} (y : TableCopied chart 1 nodes work mid 0 f C) where
-    pub judge-stage : Stage th T pack places h mid judgeFrom 961
+    pub judge-stage : Stage th T pack places h mid judgeFrom (0 + h .stride)
     judge-stage = record {
       theorized = x .theorized;
       tabled = read-tabled (x .read) (record { small = x .theorized .small; characters = x .same-characters; fluents = x .same-fluents }) (x .room) y;
       same-fluents = refl;
       same-characters = refl;
-      behind = omega (arith, read-small (x .read));
+      behind = omega (arith, judge-fits);
       room = omega (arith, y .long, x .room);
-      slotted = record { number = 0; rows = refl; counted = y .count; before = omega arith };
-      free = refl;
+      laid = x .laid;
+      slotted = record { number = 0; rows = omega arith; counted = first-count h mid ∙ y .count; before = omega arith };
+      free = omega arith;
     }
 
     -- the memory is empty then
-    module _ {then : List ℕ} (cl : Cleared mid then memoryAt 2482) (long : length then ≡ length mid) where
-      pub judge-ready : Stage th T pack places h then (slotTable h then 0) 961
-      judge-ready = subst (λ (n : ℕ). Stage th T pack places h then (slots.counted h 0 n) 961) (sym (cl .low 0 (omega arith) ∙ y .count)) (stage-same judge-stage (λ q l. cl .low q (omega arith)) long)
+    module _ {then : List ℕ} (cl : Cleared mid then (h .memory) 2482) (long : length then ≡ length mid) where
+      pub judge-ready : Stage th T pack places h then (slotTable h then 0) (0 + h .stride)
+      judge-ready = subst (λ (n : ℕ). Stage th T pack places h then (slots.counted h 0 n) (0 + h .stride)) (sym (cl .low 0 (omega (arith, judge-first, x .laid .some)) ∙ y .count)) (stage-same judge-stage (λ q l. cl .low q (omega (arith, l, judge-first))) long)
 
-      pub judge-memory : Memory th K h 961 then
-      judge-memory = memory-clear h (omega (arith, x .theorized .small .characters, x .theorized .small .fluents, x .same-characters, x .same-fluents)) (omega arith) (emptied cl)
+      pub judge-memory : Memory th K h (0 + h .stride) then
+      judge-memory = memory-clear h (x .laid) (omega (arith, judge-first)) (emptied h cl)
 
       pub judge-high : Above mid then workRoom
-      judge-high q l = cl .high q (omega arith)
+      judge-high q l = cl .high q (omega (arith, l, x .laid .room))
 
-    pub judge-verdict : {M : List ℕ → Type 0} {P : Type 0} {then mid′ now : List ℕ} {r : Bool} → Above mid then workRoom → Told M 961 then mid′ r P → Cleared mid′ now 0 workRoom → length now ≡ length work → Verdict P work now r
+    pub judge-verdict : {M : List ℕ → Type 0} {P : Type 0} {then mid′ now : List ℕ} {r : Bool} → Above mid then workRoom → Told M (0 + h .stride) then mid′ r P → Cleared mid′ now 0 workRoom → length now ≡ length work → Verdict P work now r
     judge-verdict high told cl long = record { sound = told .sound; complete = told .complete; scratch = cleared-all work cl (λ q g. told .high q g ∙ high q g ∙ y .above q (omega (arith, read-small (x .read)))) long (x .room) }
 
 module _ {pack places : List ℕ} (chart : List ℕ) (c a K e : ℕ) (work : List ℕ) {p : Contents} (got : PackRead pack places p) (nodes : Number) (under : repliedCount nodes ≡ with (replied (p .answer)) (λ u. counted p chart))
@@ -127,35 +135,50 @@ module _ {pack places : List ℕ} (chart : List ℕ) (c a K e : ℕ) (work : Lis
         nodes-read (x .accepted) (x .found) (first .read) (ap (λ (l : List (List Node)). getD (map length l) 0 0) (sym (first .same)) ∙ ap (λ (l : List ℕ). getD l 0 0) (x .long) ∙ g)
 
     abbrev pub context : Context
-    context = record { actions = p .actions; triggers = p .triggers; fluents = p .fluents; characters = p .characters; foresight = record { 0 = K } }
+    context = laidOut p (record { 0 = K }) (1 + K * e)
+
+    -- the numbers are those of something there
+    ranges : (c < p .characters) × (a < p .actions) × (0 < K) × (K ≤ 6) × (e ≤ 3)
+    ranges =
+        let (who, rest) = and-true (ltb c (p .characters)) (ltb a (p .actions) && (foresightLimit K && nestingLimit e)) (sym here ∙ accepted-now .2 .0 .in-range) in
+        let (what, limits) = and-true (ltb a (p .actions)) (foresightLimit K && nestingLimit e) rest in
+        let (foresight, nesting) = and-true (foresightLimit K) (nestingLimit e) limits in
+        let (low, high) = and-true (leb 1 K) (leb K 6) foresight in
+        (ltb-true c (p .characters) who, ltb-true a (p .actions) what, leb-true 1 K low, leb-true K 6 high, leb-true e 3 nesting)
+
+    -- what the context is made of
+    pub judge-sizes : (p .fluents ≤ 24) × (p .characters ≤ 6) × (1 + K * e ≤ 27)
+    judge-sizes =
+        let x = accepted-now .2 .0 in
+        let small = small-pack pack (x .thePack) (x .accepted) in
+        let (who, what, low, high, nested) = ranges in
+        (got .few, omega (arith, small .characters, x .found .characters), omega (arith, mul-le-mul-left K nested, mul-le-mul-right 3 high))
 
     ready : Judging theory (first .table) pack places context chart n c a K e work
     ready =
         let x = accepted-now .2 .0 in
-        let (who, rest) = and-true (ltb c (p .characters)) (ltb a (p .actions) && (foresightLimit K && nestingLimit e)) (sym here ∙ x .in-range) in
-        let (what, limits) = and-true (ltb a (p .actions)) (foresightLimit K && nestingLimit e) rest in
-        let (foresight, nesting) = and-true (foresightLimit K) (nestingLimit e) limits in
-        let (low, high) = and-true (leb 1 K) (leb K 6) foresight in
+        let (who, what, low, high, nested) = ranges in
         record {
           theorized = record { small = small-pack pack (x .thePack) (x .accepted); found = x .found .theory; short = short-pack pack (x .thePack) (x .accepted); marked = marked };
           read = read;
           same-characters = x .found .characters;
           same-fluents = x .found .fluents;
-          who = ltb-true c (p .characters) who;
-          what = ltb-true a (p .actions) what;
-          foreseen = (leb-true 1 K low, leb-true K 6 high);
-          nested = leb-true e 3 nesting;
+          who = who;
+          what = what;
+          foreseen = (low, high);
+          laid = laid-fits p (record { 0 = K }) (1 + K * e) (omega (arith, who)) judge-sizes;
+          slots = laid-free p (record { 0 = K }) (1 + K * e);
           room = leb-true workRoom (length work) (x .enough-there);
         }
 
-    pub judge-able : Judgeable pack places context chart n c a K e work
-    judge-able = (theory, (first .table, ready))
+    pub judge-able : (h : Context) → h ≡ context → Judgeable pack places h chart n c a (h .foresight .0) e work
+    judge-able h made = subst (λ (h : Context). Judgeable pack places h chart n c a (h .foresight .0) e work) (sym made) (theory, (first .table, ready))
 
-    pub judge-done : (now : List ℕ) (v : Bool) → ((th : Theory) (T : List Node) → Judging th T pack places context chart n c a K e work → Verdict (Explained th K e c a (meaning (p .characters) T 0)) work now v) → Judgement pack chart c a K e work now (judged.Verdict v)
+    pub judge-done : (h : Context) → h ≡ context → (now : List ℕ) (v : Bool) → VerdictOf pack places h chart n c a (h .foresight .0) e work now v → Judgement pack chart c a K e work now (judged.Verdict v)
     unfolding workAfter
-    judge-done now v put =
+    judge-done h made now v put =
         let (ns, g, (x, replies)) = accepted-now in
-        let z = put theory (first .table) ready in
+        let z = subst (λ (h : Context). VerdictOf pack places h chart n c a (h .foresight .0) e work now v) made put theory (first .table) ready in
         let table = fits-table (theory .characters) (theory .domains) (first .table) (chart-fits (record { bytewise = pack-bytes; accepted = x .accepted }) (record { bytewise = chart-bytes; accepted = first .read })) in
         let same : meaning (p .characters) (first .table) 0 ≡ meaning (theory .characters) (first .table) 0 = ap (λ (k : ℕ). meaning k (first .table) 0) (sym (x .found .characters)) in
         let iff = explained-table-iff theory (first .table) table K e c a in

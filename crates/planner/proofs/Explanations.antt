@@ -4,7 +4,7 @@ use mathlib.Core.Path.{_≡_, refl, sym, ap, _∙_, subst}
 use mathlib.Core.Bool.{Bool, true, false}
 use mathlib.Core.Logic.{_≢_}
 use mathlib.Core.List.{List, [], _∷_}
-use native.Mathlib.Nat.{mul-suc}
+use native.Mathlib.Nat.{mul-suc, mul-le-mul-right}
 use native.Mathlib.Omega.{arith}
 use lib.ListN.{length, getD}
 use lib.Dec.{ltb}
@@ -29,19 +29,20 @@ use Rattle.chart.specs.Call.{workRoom}
 use Rattle.chart.specs.Chart.{Written, Starts}
 use Rattle.chart.specs.Laws.Lists.{stands, place}
 use Rattle.chart.specs.Laws.Unique.{some}
-use Rattle.chart.specs.Laws.Cells.{rows-most, rows-same}
+use Rattle.chart.specs.Laws.Cells.{rows-same}
 use Rattle.transition.specs.Happening.{nothing, actionOf, Plays}
 use Rattle.transition.specs.Laws.Settled.{plays-one, plays-refuses}
 use Rattle.transition.specs.Contracts.Play.{Setting, Left, PlayedIn}
+use Rattle.transition.specs.Contracts.Stage.{scratchAt}
 use Rattle.transition.specs.Laws.ChangedRows.{tabled-same, small, row-inside, belief-is, belief-in as inside-table}
 use Rattle.planner.specs.declared.limits.Context.{Context}
 use Rattle.planner.specs.declared.entry.Key.{Key}
 use Rattle.planner.specs.Ending.{Leads, Explained, utilityTo}
 use Rattle.planner.specs.Inner.Lists.{counted, slotTable, Other, AboveBy, AboveBySome, Agreed}
 use Rattle.planner.specs.Inner.Lists as inner
-use Rattle.planner.specs.Inner.Memory.{stepsAt, keptTable, HasId, StepFact, StepEntry, Memory, Fact, Place, Before, InSlot, Interning, StepRead, Noted, Slot, Again, LeftNoted}
+use Rattle.planner.specs.Inner.Memory.{takenAt, stepsAt, keptTable, HasId, StepFact, StepEntry, Memory, Fact, Place, Before, InSlot, Interning, StepRead, Noted, Slot, Again, LeftNoted}
 use Rattle.planner.specs.Inner.Explain.{Stage, Free, Told, Advanced}
-use Rattle.planner.proofs.TrueMemory.{fact-same, first-same, grown-by, before-now, named-state, memory-quiet, memory-fewer}
+use Rattle.planner.proofs.TrueMemory.{fact-same, first-same, before-now, named-state, memory-quiet, memory-fewer}
 
 -- Told: passed on
 pub told-none : {M : List ℕ → Type 0} {slot : ℕ} (was : List ℕ) {P : Type 0} → M was → (P → ⊥) → Told M slot was was false P
@@ -68,13 +69,15 @@ module _ {th : Theory} {T : List Node} {pack places : List ℕ} {h : Context} {w
     same-characters = x .same-characters;
     behind = x .behind;
     room = omega (arith, long, x .room);
-    slotted = record { number = x .slotted .number; rows = x .slotted .rows; counted = low (961 * x .slotted .number) (omega (arith, x .free)) ∙ x .slotted .counted; before = x .slotted .before };
+    laid = x .laid;
+    slotted = record { number = x .slotted .number; rows = x .slotted .rows; counted = low (h .stride * x .slotted .number) (omega (arith, x .free)) ∙ x .slotted .counted; before = x .slotted .before };
     free = x .free;
   }
 
   -- a table before the memory
-  pub stage-before : slot ≤ 28832 → Before h was t
+  pub stage-before : slot ≤ h .memory → Before h was t
   stage-before f = record {
+    laid = x .laid;
     fluents = x .same-fluents;
     characters = x .same-characters;
     wide = x .tabled .fits .wide;
@@ -84,13 +87,13 @@ module _ {th : Theory} {T : List Node} {pack places : List ℕ} {h : Context} {w
     room = x .room;
   }
 
-  pub stage-slot : Free slot 1 → Slot h was slot
-  stage-slot f = record { narrow = omega (arith, small (x .tabled), x .same-fluents, x .same-characters); before = omega (arith, f); number = x .slotted .number + 1; is = omega (arith, x .free); room = x .room }
+  pub stage-slot : Free h slot 1 → Slot h was slot
+  stage-slot f = record { laid = x .laid; before = omega (arith, f); number = x .slotted .number + 1; is = omega (arith, x .free); room = x .room }
 
   pub stage-state : (root : ℕ) → stateOf t was root ≡ meaning C T root
   stage-state root = ap (λ (U : List Node). meaning C U root) (x .tabled .same)
 
-  pub stage-setting : Free slot 1 → Setting th T pack places (h .actions) (h .triggers) was t slot
+  pub stage-setting : Free h slot 1 → Setting th T pack places (h .actions) (h .triggers) was t slot
   stage-setting f = record { theorized = x .theorized; tabled = x .tabled; room = record { source = omega (arith, x .behind, f); slot-room = omega (arith, f); room = x .room } }
 
   -- where utility rules are found
@@ -113,7 +116,7 @@ module _ {th : Theory} {T : List Node} {pack places : List ℕ} {h : Context} {w
       ∙ ap (λ (U : List Node). condition.utility (meaning C U root) (getD (th .utilities) (c + 1) [])) (x .tabled .same) ∙ ap (λ (k : ℕ). condition.utility (meaning C T root) (getD (th .utilities) k [])) next
 
   -- a step into the first free slot
-  module _ (root : ℕ) {now : List ℕ} {K a r : ℕ} (y : Advanced th K h (meaning C T root) a t was now slot r) (f : Free slot 1) (long : length now ≡ length was) where
+  module _ (root : ℕ) {now : List ℕ} {K a r : ℕ} (y : Advanced th K h (meaning C T root) a t was now slot r) (f : Free h slot 1) (long : length now ≡ length was) where
     module _ (e : r ≡ 0) where
       abbrev pub nextTable : List Node
       nextTable = tableOf (slotTable h now slot) now
@@ -136,19 +139,17 @@ module _ {th : Theory} {T : List Node} {pack places : List ℕ} {h : Context} {w
       pub next-plays : Plays th (meaning C T root) a (meaning (h .characters) nextTable 0)
       next-plays = subst (Plays th (meaning C T root) a) (sym next-state) (y .plays e .1)
 
-      rows-small : getD now slot 0 * (h .fluents + h .characters) ≤ 960
-      rows-small =
-          let slim : h .fluents + h .characters ≤ 30 = omega (arith, small (x .tabled), x .same-fluents, x .same-characters) in
-          omega (arith, rows-most (left .few) slim)
+      rows-small : 1 + getD now slot 0 * (h .fluents + h .characters) ≤ h .stride
+      rows-small = let most : getD now slot 0 * (h .fluents + h .characters) ≤ 32 * (h .fluents + h .characters) = mul-le-mul-right (h .fluents + h .characters) (left .few) in omega (arith, most, x .laid .wide)
 
-      pub next-stage : Stage th nextTable pack places h now (slotTable h now slot) (slot + 961)
+      pub next-stage : Stage th nextTable pack places h now (slotTable h now slot) (slot + h .stride)
       next-stage = record {
         theorized = x .theorized;
         tabled = record {
           over = record { small = x .tabled .over .small; characters = x .tabled .over .characters ∙ sym (x .same-characters); fluents = x .tabled .over .fluents ∙ sym (x .same-fluents) };
           fits = record {
             wide = refl;
-            inside = omega (arith, rows-small, f, long, x .room);
+            inside = omega (arith, rows-small, f, long, x .room, x .laid .room);
             closed = subst (λ (c : ℕ). Rattle.pack.specs.State.Closed c nextTable) (sym (x .same-characters)) (starts .0 .ordered .closed);
           };
           same = refl;
@@ -159,13 +160,14 @@ module _ {th : Theory} {T : List Node} {pack places : List ℕ} {h : Context} {w
         same-characters = refl;
         behind = omega (arith, rows-small);
         room = omega (arith, long, x .room);
-        slotted = record { number = x .slotted .number + 1; rows = omega (arith, x .free); counted = let z : 961 * (x .slotted .number + 1) ≡ slot = omega (arith, x .free) in ap (λ (q : ℕ). getD now q 0) z; before = omega (arith, x .free) };
+        laid = x .laid;
+        slotted = record { number = x .slotted .number + 1; rows = omega (arith, x .free); counted = let z : h .stride * (x .slotted .number + 1) ≡ slot = omega (arith, x .free) in ap (λ (q : ℕ). getD now q 0) z; before = omega (arith, x .free) };
         free = omega (arith, x .free);
       }
 
 -- a step, known or made
-module _ {th : Theory} {T : List Node} {pack places : List ℕ} {h : Context} {was : List ℕ} {t : Table} {slot : ℕ} (x : Stage th T pack places h was t slot) (f : Free slot 1) (root : ℕ) where
-  bound : slot ≤ 28832
+module _ {th : Theory} {T : List Node} {pack places : List ℕ} {h : Context} {was : List ℕ} {t : Table} {slot : ℕ} (x : Stage th T pack places h was t slot) (f : Free h slot 1) (root : ℕ) where
+  bound : slot ≤ h .memory
   bound = omega (arith, f)
 
   -- the state of the row, where the table's bytes stay
@@ -180,7 +182,7 @@ module _ {th : Theory} {T : List Node} {pack places : List ℕ} {h : Context} {w
   same-rows now = ap (λ (f : ℕ). rowsBy now (f + h .characters) f (h .characters)) (x .same-fluents) ∙ ap (λ (c : ℕ). rowsBy now (t .fluents + c) (t .fluents) c) (x .same-characters) ∙ ap (λ (w : ℕ). rowsBy now w (t .fluents) (t .characters)) (x .tabled .fits .wide)
 
   -- it is known
-  module _ {K : ℕ} {mid : List ℕ} {id next a at : ℕ} (n : Interning h t was mid id) (long : length mid ≡ length was) (read : StepRead mid at id root a) (place : Place 128 stepsAt 4 at) (e : getD mid (at + 3) 0 ≡ next) (m : Memory th K h slot was) where
+  module _ {K : ℕ} {mid : List ℕ} {id next a at : ℕ} (n : Interning h t was mid id) (long : length mid ≡ length was) (read : StepRead mid at id root a) (place : Place 128 (stepsAt h) 4 at) (e : getD mid (at + 3) 0 ≡ next) (m : Memory th K h slot was) where
     abbrev mid-memory : Memory th K h slot mid × (0 < id → HasId h mid t id)
     mid-memory = n .told th K slot (omega (arith, bound)) (x .slotted) m
 
@@ -216,20 +218,27 @@ module _ {th : Theory} {T : List Node} {pack places : List ℕ} {h : Context} {w
     left-high : Above was left workRoom
     left-high q l = y .only .high q (omega (arith, l)) ∙ n .only .high q l
 
-    left-in : InSlot left t slot
-    left-in = record { number = x .slotted .number; rows = x .slotted .rows; counted = left-low (961 * x .slotted .number) (omega (arith, x .free)) ∙ x .slotted .counted; before = x .slotted .before }
+    left-in : InSlot h left t slot
+    left-in = record { number = x .slotted .number; rows = x .slotted .rows; counted = left-low (h .stride * x .slotted .number) (omega (arith, x .free)) ∙ x .slotted .counted; before = x .slotted .before }
+
+    -- the memory lies behind the slot and before the scratch
+    left-mid : (q : ℕ) → h .memory ≤ q → q < scratchAt → getD left q 0 ≡ getD mid q 0
+    left-mid q l g = y .only .mid q (omega (arith, l, f, x .laid .wide, x .same-fluents, x .same-characters, x .tabled .fits .wide)) g
 
     left-memory : Memory th K h slot left
-    left-memory = memory-quiet h (grown-by (y .only .high 43518 (omega arith)) (λ q l. y .only .high q (omega (arith, l)))) (omega (arith, bound)) (y .only .low) (λ q l g. y .only .high q (omega (arith, l))) (λ q l g. y .only .high q (omega (arith, l))) (n .told th K slot (omega (arith, bound)) (x .slotted) m .0)
+    left-memory =
+        let before = n .told th K slot (omega (arith, bound)) (x .slotted) m .0 in
+        let taken = left-mid (takenAt h) (omega arith) (omega (arith, x .laid .room)) in
+        memory-quiet h (record { taken = omega (arith, taken); within = λ l. omega (arith, ap (λ (k : ℕ). h .block * k) taken, l); tables = λ q l g. left-mid q (omega (arith, l)) (omega (arith, g, before .within)) }) (x .laid) (omega (arith, bound)) (y .only .low) (λ q l g. left-mid q l (omega (arith, g, x .laid .room))) (λ q l g. left-mid q (omega (arith, l)) (omega (arith, g, x .laid .room))) before
 
     -- what it leaves is noted
     pub step-left : {now : List ℕ} → r ≡ 0 → LeftNoted h t root a slot left now → Advanced th K h (meaning (t .characters) T root) a t was now slot r
     step-left {now} e z =
         let (s, plays, l) = y .plays e in
         let starts : Starts (h .characters) s (tableOf (slotTable h left slot) left) = subst (λ (c : ℕ). Starts c s (tableOf (slotTable h left slot) left)) (sym (x .same-characters)) (subst (Starts (t .characters) s) (sym (same-rows left)) (l .starts)) in
-        let most = rows-most {w = t .width} (l .few) (omega (arith, small (x .tabled), x .tabled .fits .wide)) in
+        let most : getD left slot 0 * t .width ≤ 32 * t .width = mul-le-mul-right (t .width) (l .few) in
         let count : getD now slot 0 ≡ getD left slot 0 = z .only .low slot (omega (arith, f)) in
-        let same : rowsBy now (t .width) (t .fluents) (t .characters) ≡ rowsBy left (t .width) (t .fluents) (t .characters) = ap (λ (k : ℕ). rowsAt now (t .width) (t .fluents) (t .characters) (slot + 1) k) count ∙ rows-same left now (t .width) (t .fluents) (t .characters) (slot + 1) (slot + 1) (getD left slot 0) (omega (arith, x .tabled .fits .wide)) (λ q g. z .only .low (slot + 1 + q) (omega (arith, g, most, f))) in
+        let same : rowsBy now (t .width) (t .fluents) (t .characters) ≡ rowsBy left (t .width) (t .fluents) (t .characters) = ap (λ (k : ℕ). rowsAt now (t .width) (t .fluents) (t .characters) (slot + 1) k) count ∙ rows-same left now (t .width) (t .fluents) (t .characters) (slot + 1) (slot + 1) (getD left slot 0) (omega (arith, x .tabled .fits .wide)) (λ q g. z .only .low (slot + 1 + q) (omega (arith, g, most, f, x .laid .wide, x .same-fluents, x .same-characters, x .tabled .fits .wide))) in
         let memory = z .memory th K left-in left-memory (s, subst (λ (u : State). Plays th u a s) (sym (row-state left left-low)) plays, starts) in
         record {
           plays = λ _. (s, plays, record { few = omega (arith, count, l .few); starts = subst (Starts (t .characters) s) (sym same) (l .starts) });
@@ -249,7 +258,7 @@ module _ {th : Theory} {T : List Node} {pack places : List ℕ} {h : Context} {w
       high = λ q l. z .only .high q l ∙ left-high q l;
       memory = z .memory th K slot (omega (arith, bound)) left-in left-memory (λ k named. record {
         kept = named .kept;
-        none = λ _ s plays. plays-refuses (subst (λ (u : State). Plays th u a s) (named-state h (record { fluents = x .same-fluents; characters = x .same-characters; wide = x .tabled .fits .wide; narrow = omega (arith, small (x .tabled), x .tabled .fits .wide); few = x .tabled .few; before = omega (arith, x .behind, bound); room = omega (arith, long, x .room) }) named root ∙ row-state left left-low) plays) (y .refuses e);
+        none = λ _ s plays. plays-refuses (subst (λ (u : State). Plays th u a s) (named-state h (record { laid = x .laid; fluents = x .same-fluents; characters = x .same-characters; wide = x .tabled .fits .wide; narrow = omega (arith, small (x .tabled), x .tabled .fits .wide); few = x .tabled .few; before = omega (arith, x .behind, bound); room = omega (arith, long, x .room) }) named root ∙ row-state left left-low) plays) (y .refuses e);
         left = λ g. absurd (omega (arith, g));
       });
       further = λ g. absurd (e g);
@@ -361,12 +370,20 @@ consenter-below d s at cs n e i l =
     omega (arith, between-within 0 (d .characters) 4 s at (c .value) (c .place) (c .left), Rattle.pack.specs.Laws.Reading.same-value g))
     (b .value) 0 (b .place) cs n (b .right) 0 i l
 
+-- fewer slots are free where more are
+pub free-fewer : (h : Context) (slot n m : ℕ) → m ≤ n → Free h slot n → Free h slot m
+free-fewer h slot n m l f = omega (arith, f, mul-le-mul-right (h .stride) l)
+
+-- one fewer from the next slot on
+pub free-next : (h : Context) (n left more : ℕ) → Free h (n * h .stride) (2 + left + more) → Free h ((n + 1) * h .stride) (1 + left + more)
+free-next h n left more f = omega (arith, f)
+
 pub one-less : (k e : ℕ) → 0 < e → k * e ≡ k * (e - 1) + k
 one-less k e l = let s : e ≡ suc (e - 1) = omega arith in ap (λ (e : ℕ). k * e) s ∙ mul-suc k (e - 1)
 
 -- the row that a character believes in, and the consenters of an action
 module _ {th : Theory} {T : List Node} {pack places : List ℕ} {h : Context} {was : List ℕ} {t : Table} {slot : ℕ} (x : Stage th T pack places h was t slot) where
-  pub stage-row : (root c : ℕ) → root < t .nodes → c < t .characters → (t .rows + root * t .width + t .fluents + c < slot) × (slot ≤ 28832 → slot < length was)
+  pub stage-row : (root c : ℕ) → root < t .nodes → c < t .characters → (t .rows + root * t .width + t .fluents + c < slot) × (slot ≤ h .memory → slot < length was)
   stage-row root c i l = (omega (arith, row-inside (x .tabled) root i, x .behind), λ g. omega (arith, x .room))
 
   pub stage-believed : {q : ℕ} (root c : ℕ) → root < t .nodes → c < t .characters → getD was (t .rows + root * t .width + t .fluents + c) 0 ≡ q → (belief (meaning (t .characters) T root) c ≡ meaning (t .characters) T q) × (q < t .nodes)
@@ -412,14 +429,14 @@ pub utility-in : (pack : List ℕ) (at : ℕ) (was : List ℕ) (root r : ℕ) {t
 utility-in pack at was root r e f = subst (UtilityIs pack at was root r) e f
 
 -- the table in a slot stays where its bytes do
-pub slot-same : {th : Theory} {T : List Node} {pack places : List ℕ} {h : Context} {was now : List ℕ} (slot : ℕ) → Stage th T pack places h was (slotTable h was slot) (slot + 961) → Below was now (slot + 961) → length now ≡ length was
-    → Stage th T pack places h now (slotTable h now slot) (slot + 961)
+pub slot-same : {th : Theory} {T : List Node} {pack places : List ℕ} {h : Context} {was now : List ℕ} (slot : ℕ) → Stage th T pack places h was (slotTable h was slot) (slot + h .stride) → Below was now (slot + h .stride) → length now ≡ length was
+    → Stage th T pack places h now (slotTable h now slot) (slot + h .stride)
 slot-same {th} {T} {pack} {places} {h} {was} {now} slot x low long =
-    subst (λ (n : ℕ). Stage th T pack places h now (counted h slot n) (slot + 961)) (sym (low slot (omega arith))) (stage-same x low long)
+    subst (λ (n : ℕ). Stage th T pack places h now (counted h slot n) (slot + h .stride)) (sym (low slot (omega arith))) (stage-same x low long)
 
 -- a table takes no more than its slot
-pub stage-extent : {th : Theory} {T : List Node} {pack places : List ℕ} {h : Context} {work : List ℕ} (slot : ℕ) {free : ℕ} → Stage th T pack places h work (slotTable h work slot) free → 1 + getD work slot 0 * (h .fluents + h .characters) ≤ 961
-stage-extent {h = h} slot x = omega (arith, rows-most {w = h .fluents + h .characters} (x .tabled .few) (omega (arith, small (x .tabled))))
+pub stage-extent : {th : Theory} {T : List Node} {pack places : List ℕ} {h : Context} {work : List ℕ} (slot : ℕ) {free : ℕ} → Stage th T pack places h work (slotTable h work slot) free → 1 + getD work slot 0 * (h .fluents + h .characters) ≤ h .stride
+stage-extent {h = h} {work = work} slot x = let most : getD work slot 0 * (h .fluents + h .characters) ≤ 32 * (h .fluents + h .characters) = mul-le-mul-right (h .fluents + h .characters) (x .tabled .few) in omega (arith, most, x .laid .wide)
 
 -- what is known of a state, by its table
 module _ {th : Theory} {T : List Node} {pack places : List ℕ} {h : Context} {work : List ℕ} {t : Table} {slot : ℕ} (x : Stage th T pack places h work t slot) where

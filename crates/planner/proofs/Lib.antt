@@ -4,6 +4,7 @@ pub mod Explanations
 pub mod Pruning
 pub mod Reckoning
 pub mod Bounds
+pub mod Slots
 pub mod ExplainedCall
 pub mod StartSlot
 pub mod SameBytes

@@ -24,6 +24,7 @@ use Rattle.pack.specs.declared.table.Table.{Table}
 use Rattle.pack.specs.Laws.Judged.{Left, Next, left-start, left-one, left-next, left-last, left-none, counted-starts, RuleParts, rule-parts}
 use Rattle.pack.specs.Laws.OneByte.{test-bytes}
 use Rattle.pack.specs.Laws.Rows.{upto-length, rows-at, value-at, cell-in}
+use Rattle.chart.specs.Call.{workRoom}
 use Rattle.transition.specs.Happening.{nothing, actionOf, Plays}
 use Rattle.transition.specs.Contracts.Play.{Theorized}
 use Rattle.transition.specs.Laws.ChangedRows as changing
@@ -427,7 +428,7 @@ module _ (pack places : List ℕ) (triggers a : ℕ) (work : List ℕ) (t : Tabl
     try-rules {whose} x = record { theory = x .theory; looking = trial-looking (x .trial); value = getD (x .theory .utilities) whose []; stands = rules-at (x .rules) (x .theory) (x .trial) }
 
 -- a table before the free slots, in which an action is looked at
-module _ {th : Theory} {T : List Node} {pack places : List ℕ} {h : Context} {was : List ℕ} {t : Table} {slot : ℕ} (x : Stage th T pack places h was t slot) (before : slot ≤ 28832) where
+module _ {th : Theory} {T : List Node} {pack places : List ℕ} {h : Context} {was : List ℕ} {t : Table} {slot : ℕ} (x : Stage th T pack places h was t slot) (before : slot ≤ workRoom) where
   module _ {a : ℕ} (l : a < h .actions) where
     stage-trial : Trial th pack places (h .triggers) a was t
     stage-trial = record { actions = h .actions; theorized = x .theorized; there = l; over = x .tabled .over; fits = x .tabled .fits; low = omega (arith, x .behind, before); some = x .tabled .some }
@@ -454,9 +455,9 @@ module _ {pack places : List ℕ} {h : Context} {work : List ℕ} {slot whose le
 pub below-far : (P : ℕ → Type 0) {n r : ℕ} → ((y : ℕ) → y < n → P y) → ((y : ℕ) → n ≤ y → y < r → P y) → (y : ℕ) → y < r → P y
 below-far P {n} {r} near far y l = elim (decLt y n) as (λ d. P y) [ yes h ↦ near y h | no h ↦ far y (omega (arith, h)) l ]
 
-module _ {th : Theory} {T : List Node} {pack places : List ℕ} {h : Context} {work : List ℕ} {slot : ℕ} (x : Stage th T pack places h work (slotTable h work slot) (slot + 961)) (before : slot + 961 ≤ 28832) where
+module _ {th : Theory} {T : List Node} {pack places : List ℕ} {h : Context} {work : List ℕ} {slot : ℕ} (x : Stage th T pack places h work (slotTable h work slot) (slot + h .stride)) (before : slot + h .stride ≤ h .memory) where
   pub stage-trying : {whose : ℕ} → whose < h .characters + 1 → Trying pack places h work slot whose
-  stage-trying l = record { before = before; room = x .room; narrow = omega (arith, changing.small (x .tabled)); each = λ a g. stage-tryable x before g l }
+  stage-trying l = record { before = before; behind = omega (arith, x .laid .room); some = omega (arith, x .laid .some); room = x .room; narrow = omega (arith, changing.small (x .tabled)); each = λ a g. stage-tryable x (omega (arith, before, x .laid .room)) g l }
 
   pub stage-skipped : {whose left base n r : ℕ} → Skipped pack places h work slot whose left base n r → (a : ℕ) → n ≤ a → a < r → (s : State) → Plays th (meaning (h .characters) T 0) a s → (left ≡ 0) × (utility s (getD (th .utilities) whose []) ≤ base)
-  stage-skipped {whose} s a f l = stage-hopeless x before (omega (arith, l, s .few)) whose (s .hopeless a f l)
+  stage-skipped {whose} s a f l = stage-hopeless x (omega (arith, before, x .laid .room)) (omega (arith, l, s .few)) whose (s .hopeless a f l)

@@ -5,6 +5,7 @@ use mathlib.Core.Bool.{Bool, true, false, _&&_}
 use mathlib.Core.Logic.{_⊎_, _≢_, inl, inr, ⊎-elim, by-cases}
 use mathlib.Core.List.{List, []}
 use native.Mathlib.Decide.{ℕ-discrete, decLe, decLt}
+use native.Mathlib.Nat.{mul-le-mul-right}
 use native.Mathlib.Omega.{arith}
 use lib.ListN.{length, getD, set, replicate}
 use lib.Seq.{getD-set-same, getD-set-other}
@@ -17,12 +18,14 @@ use Rattle.pack.specs.Grammar.{dimensions, conditionAt, rulesAt}
 use Rattle.pack.specs.Contracts.Contents.{Gives}
 use Rattle.pack.specs.Contracts.Table.{stateOf}
 use Rattle.pack.specs.declared.table.Table.{Table}
+use Rattle.chart.specs.Call.{workRoom}
 use Rattle.transition.specs.Happening.{nothing, actionOf}
 use Rattle.planner.specs.declared.limits.Context.{Context}
 use Rattle.planner.specs.declared.prune.Course.{Course}
 use Rattle.planner.specs.Ending.{Explained}
 use Rattle.planner.specs.Inner.Lists.{slotTable, Other, Above, All, Ends}
-use Rattle.planner.specs.Inner.Explain.{Stage}
+use Rattle.planner.specs.Inner.Memory.{Laid}
+use Rattle.planner.specs.Inner.Explain.{Stage, Free}
 use Rattle.planner.specs.Inner.Look.{marked, among, Looking, Lookable, Looked}
 use Rattle.planner.specs.Inner.Levels.{upTo, Levelling, Levels, Marking, OutOfReach}
 use Rattle.planner.specs.Inner.Reach.{couldHold, couldPass, couldExceed, Levelled, none-reached, Played, leads-played, unequal}
@@ -139,7 +142,7 @@ pub levels-none : {p : Theory} {h : Context} {s : State} → Levels p h s (repli
 levels-none = record { few = λ a. omega (arith, zeros 32 a); each = λ j a l. absurd (omega (arith, l)) }
 
 -- in the end
-module _ {th : Theory} {T : List Node} {pack places : List ℕ} {h : Context} {work : List ℕ} {t : Table} {slot : ℕ} (x : Stage th T pack places h work t slot) (before : slot ≤ 28832) where
+module _ {th : Theory} {T : List Node} {pack places : List ℕ} {h : Context} {work : List ℕ} {t : Table} {slot : ℕ} (x : Stage th T pack places h work t slot) (before : slot ≤ workRoom) where
   pub stage-level : {ahead : List ℕ} → length ahead ≡ 32 → Levelling th pack places h work t ahead
   stage-level e = record { theorized = x .theorized; over = x .tabled .over; fits = x .tabled .fits; low = omega (arith, x .behind, before); some = x .tabled .some; long = omega (arith, e, x .theorized .found .mostActions) }
 
@@ -164,6 +167,10 @@ module _ {th : Theory} {T : List Node} {pack places : List ℕ} {h : Context} {w
               let is = sym (ap (λ (b : Bool). b && marked (getD ahead a 0) i) (le-leb 0 a (omega arith))) ∙ q in
               let (some, few) = mark-there (getD ahead a 0) i is in
               ap (λ (b : Bool). b && marked (getD ahead a 0) (suc i)) (le-leb 0 a (omega arith)) ∙ mark-is some (omega (arith, few))
+
+-- slots that lie before the memory are few
+pub free-few : (h : Context) (slot n : ℕ) → Laid h → Free h slot n → n < 48
+free-few h slot n laid free = by-cases (decLe 48 n) (λ k. absurd (omega (arith, free, laid .few, mul-le-mul-right (h .stride) k))) (λ k. omega (arith, k))
 
 -- what that says of a character's lists, and of the author's
 module _ (th : Theory) (K e : ℕ) where

@@ -5,6 +5,7 @@ use mathlib.Core.Logic.{by-cases}
 use mathlib.Core.Bool.{Bool, _&&_}
 use mathlib.Core.List.{List, [], _++_}
 use native.Mathlib.Decide.{ℕ-discrete, decLe}
+use native.Mathlib.Nat.{mul-le-mul-left, mul-le-mul-right}
 use native.Mathlib.Omega.{arith}
 use lib.ListN.{length, getD, drop}
 use lib.Dec.{leb}
@@ -28,10 +29,9 @@ use Rattle.chart.specs.Laws.Answers.{fits-table}
 use Rattle.chart.specs.Laws.Unique.{some}
 use Rattle.chart.specs.Contracts.Put.{Cleared}
 use Rattle.chart.specs.Laws.Arguments.{and-true}
-use Rattle.chart.specs.Laws.Cells.{cells-length, rows-most}
+use Rattle.chart.specs.Laws.Cells.{cells-length}
 use Rattle.chart.specs.Laws.ChartBytes.{front-back}
 use Rattle.chart.specs.Laws.Checks.{nodes-packed, lent, checks, Accepted, refused-by, accepted-by, left-alone, check-none}
-use Rattle.chart.specs.Laws.LoadedNodes.{read-slim}
 use Rattle.chart.specs.Laws.LookedUp.{cleared-all}
 use Rattle.transition.specs.Laws.Loaded.{short-pack}
 use Rattle.planner.specs.declared.Found.{Found}
@@ -47,16 +47,18 @@ use Rattle.planner.specs.Laws.Answers.{search-table-iff}
 use Rattle.planner.specs.Inner.Lists.{slotTable, Ends}
 use Rattle.planner.specs.Inner.Explain.{Stage}
 use Rattle.planner.specs.Inner.Memory.{Memory}
+use Rattle.planner.specs.Inner.Layout.{laidOut}
 use Rattle.planner.proofs.TrueMemory.{memory-clear}
-use Rattle.planner.specs.Inner.Search.{Laying, LaidStart, Chosen, Best, Shortest, Seeking, Seekable, SearchPut}
+use Rattle.planner.proofs.Slots.{laid-fits, laid-free, first-count}
+use Rattle.planner.specs.Inner.Search.{Laying, LaidStart, Chosen, Best, Shortest, Seeking, Seekable, SearchPut, SearchPutFrom}
 
 module _ {Good : List ℕ → ℕ → Type 0} where
   -- no list of fewer than n actions, and none of n
   pub shorter : {n : ℕ} → ((l : List ℕ) (v : ℕ) → 0 < length l → length l < n → ¬ Good l v) → ((l : List ℕ) (v : ℕ) → length l ≡ n → ¬ Good l v) → (l : List ℕ) (v : ℕ) → 0 < length l → length l < n + 1 → ¬ Good l v
   shorter {n} f g l v h k = by-cases (ℕ-discrete (length l) n) (λ e. g l v e) (λ e. f l v h (omega (arith, e)))
 
-  module _ {story : ℕ} {was work mid : List ℕ} (low : Below work mid 961) (high : Above work mid workRoom) where
-    pub shortest-found : {M : List ℕ → Type 0} {n : ℕ} {work′ now : List ℕ} {r : ℕ} → 0 < n → n ≤ story → ((l : List ℕ) (v : ℕ) → 0 < length l → length l < n → ¬ Good l v) → 0 < r → Best M Good n was now 0 961 mid work′ r → Shortest Good story was now work work′ (record { count = n; after = r })
+  module _ {h : Context} {story : ℕ} {was work mid : List ℕ} (low : Below work mid (0 + h .stride)) (high : Above work mid workRoom) where
+    pub shortest-found : {M : List ℕ → Type 0} {n : ℕ} {work′ now : List ℕ} {r : ℕ} → 0 < n → n ≤ story → ((l : List ℕ) (v : ℕ) → 0 < length l → length l < n → ¬ Good l v) → 0 < r → Best M Good n was now 0 (0 + h .stride) mid work′ r → Shortest h Good story was now work work′ (record { count = n; after = r })
     shortest-found {M} {n} pos le f l b = record {
       none = λ e. absurd (omega (arith, e));
       some = λ h. b .some l;
@@ -66,7 +68,7 @@ module _ {Good : List ℕ → ℕ → Type 0} where
       high = λ q l. b .high q l ∙ high q l;
     }
 
-    pub shortest-none : {n : ℕ} {now : List ℕ} → story < n → now ≡ was → ((l : List ℕ) (v : ℕ) → 0 < length l → length l < n → ¬ Good l v) → Shortest Good story was now work mid (record { count = 0; after = 0 })
+    pub shortest-none : {n : ℕ} {now : List ℕ} → story < n → now ≡ was → ((l : List ℕ) (v : ℕ) → 0 < length l → length l < n → ¬ Good l v) → Shortest h Good story was now work mid (record { count = 0; after = 0 })
     shortest-none le same f = record {
       none = λ e. (same, λ l v h k. f l v h (omega (arith, k, le)));
       some = λ h. absurd (omega arith);
@@ -84,22 +86,26 @@ module _ {th : Theory} {T : List Node} {pack places : List ℕ} {h : Context} {f
   abbrev C : ℕ
   C = h .characters
 
+  -- the first slot lies before the memory
+  seek-first : h .stride ≤ h .memory
+  seek-first = omega (arith, x .slots)
+
   pub seek-laying : Laying T pack first nodes h work
-  seek-laying = record { end = x .end; read = x .read; room = x .room }
+  seek-laying = record { end = x .end; read = x .read; laid = x .laid; slot = seek-first; room = x .room }
 
   module _ {then : List ℕ} (y : LaidStart T h work then) (long : length then ≡ length work) where
     abbrev pub seekTable : List Node
     seekTable = tableOf (slotTable h then 0) then
 
-    rows-small : getD then 0 0 * (f + C) ≤ 960
-    rows-small = omega (arith, rows-most (y .few) (read-slim (x .read) .0))
+    rows-small : 1 + getD then 0 0 * (f + C) ≤ h .stride
+    rows-small = let most : getD then 0 0 * (f + C) ≤ 32 * (f + C) = mul-le-mul-right (f + C) (y .few) in omega (arith, most, x .laid .wide)
 
-    pub seek-slot : Stage th seekTable pack places h then (slotTable h then 0) 961
+    pub seek-slot : Stage th seekTable pack places h then (slotTable h then 0) (0 + h .stride)
     seek-slot = record {
       theorized = x .theorized;
       tabled = record {
         over = record { small = x .theorized .small; characters = x .same-characters; fluents = x .same-fluents };
-        fits = record { wide = refl; inside = omega (arith, rows-small, long, x .room); closed = y .starts .0 .ordered .closed };
+        fits = record { wide = refl; inside = omega (arith, rows-small, seek-first, x .laid .room, long, x .room); closed = y .starts .0 .ordered .closed };
         same = refl;
         few = y .few;
         some = omega (arith, some seekTable (y .starts .0 .ordered .whole), rows-length then (f + C) f C 1 (getD then 0 0));
@@ -108,12 +114,13 @@ module _ {th : Theory} {T : List Node} {pack places : List ℕ} {h : Context} {f
       same-characters = refl;
       behind = omega (arith, rows-small);
       room = omega (arith, long, x .room);
-      slotted = record { number = 0; rows = refl; counted = refl; before = omega arith };
-      free = refl;
+      laid = x .laid;
+      slotted = record { number = 0; rows = omega arith; counted = first-count h then; before = omega arith };
+      free = omega arith;
     }
 
-    pub seek-memory : Memory th foresight h 961 then
-    seek-memory = memory-clear h (read-slim (x .read) .0) (omega arith) (y .empty)
+    pub seek-memory : Memory th foresight h (0 + h .stride) then
+    seek-memory = memory-clear h (x .laid) (omega (arith, seek-first)) (y .empty)
 
     seek-means : meaning C seekTable 0 ≡ meaning C T 0
     seek-means = y .starts .1
@@ -126,10 +133,10 @@ module _ {th : Theory} {T : List Node} {pack places : List ℕ} {h : Context} {f
       pub seek-from : base ≡ authorUtility th (meaning C T 0)
       seek-from = is ∙ ap (authorUtility th) seek-means
 
-    pub seek-same : {base : ℕ} {list′ work′ : List ℕ} {r : Ended} → Shortest (Ends th foresight nesting base (meaning C seekTable 0)) story list list′ then work′ r → Shortest (Ends th foresight nesting base (meaning C T 0)) story list list′ then work′ r
-    seek-same {base} {list′} {work′} {r} z = subst (λ (s : State). Shortest (Ends th foresight nesting base s) story list list′ then work′ r) seek-means z
+    pub seek-same : {base : ℕ} {list′ work′ : List ℕ} {r : Ended} → Shortest h (Ends th foresight nesting base (meaning C seekTable 0)) story list list′ then work′ r → Shortest h (Ends th foresight nesting base (meaning C T 0)) story list list′ then work′ r
+    seek-same {base} {list′} {work′} {r} z = subst (λ (s : State). Shortest h (Ends th foresight nesting base s) story list list′ then work′ r) seek-means z
 
-    module _ {base : ℕ} (is : base ≡ authorUtility th (meaning C T 0)) {list′ work′ now : List ℕ} {r : Ended} (z : Shortest (Ends th foresight nesting base (meaning C T 0)) story list list′ then work′ r) (cl : Cleared work′ now 0 workRoom) (long′ : length now ≡ length work) (listed : length list′ ≡ length list) where
+    module _ {base : ℕ} (is : base ≡ authorUtility th (meaning C T 0)) {list′ work′ now : List ℕ} {r : Ended} (z : Shortest h (Ends th foresight nesting base (meaning C T 0)) story list list′ then work′ r) (cl : Cleared work′ now 0 workRoom) (long′ : length now ≡ length work) (listed : length list′ ≡ length list) where
       abbrev s : State
       s = meaning C T 0
 
@@ -230,10 +237,26 @@ module _ {pack places : List ℕ} (T K E : ℕ) (list work : List ℕ) {p : Cont
     theNodes = accepted-now .2 .0 .thePack .nodes
 
     abbrev pub context : Context
-    context = record { actions = p .actions; triggers = p .triggers; fluents = p .fluents; characters = p .characters; foresight = record { 0 = K } }
+    context = laidOut p (record { 0 = K }) (1 + T + K * E)
 
     fit : ChartFits (theory .characters) (theory .domains) theNodes
     fit = let y = accepted-now .2 .0 in pack-exactly pack bytes (y .thePack) .0 (y .accepted) .0 .nodes
+
+    -- the limits are within theirs
+    ranges : (T ≤ 8) × (0 < K) × (K ≤ 6) × (E ≤ 3)
+    ranges =
+        let (told, rest) = and-true (storyLimit T) (foresightLimit K && nestingLimit E) (sym within ∙ accepted-now .2 .0 .in-range) in
+        let (foresight, nesting) = and-true (foresightLimit K) (nestingLimit E) rest in
+        let (least, most) = and-true (leb 1 K) (leb K 6) foresight in
+        (leb-true T 8 (and-true (leb 1 T) (leb T 8) told .1), leb-true 1 K least, leb-true K 6 most, leb-true E 3 nesting)
+
+    -- what the context is made of
+    pub search-sizes : (p .fluents ≤ 24) × (p .characters ≤ 6) × (1 + T + K * E ≤ 27)
+    search-sizes =
+        let y = accepted-now .2 .0 in
+        let small = small-pack pack (y .thePack) (y .accepted) in
+        let (told, least, most, nested) = ranges in
+        (got .few, omega (arith, small .characters, y .found .characters), omega (arith, told, mul-le-mul-left K nested, mul-le-mul-right 3 most))
 
     ready : Seeking theory theNodes pack places context (p .first) (p .nodes) T K E list work
     ready =
@@ -241,30 +264,30 @@ module _ {pack places : List ℕ} (T K E : ℕ) (list work : List ℕ) {p : Cont
         let x = y .thePack in
         let g = y .found in
         let (list-room, work-room) = and-true (fits listRoom list) (fits workRoom work) (y .enough-there) in
-        let (told, rest) = and-true (storyLimit T) (foresightLimit K && nestingLimit E) (sym within ∙ y .in-range) in
-        let (foresight, nesting) = and-true (foresightLimit K) (nestingLimit E) rest in
-        let (least, most) = and-true (leb 1 K) (leb K 6) foresight in
+        let (told, least, most, nested) = ranges in
+        let some = pack-exactly pack bytes x .0 (y .accepted) .0 .characters .0 in
         record {
           theorized = record { small = small-pack pack x (y .accepted); found = g .theory; short = short-pack pack x (y .accepted); marked = marked };
           end = g .rows .end;
           read = nodes-packed bytes (y .accepted) g;
           same-characters = g .characters;
           same-fluents = g .fluents;
-          storied = leb-true T 8 (and-true (leb 1 T) (leb T 8) told .1);
-          foreseen = (leb-true 1 K least, leb-true K 6 most);
-          nested = leb-true E 3 nesting;
+          storied = told;
+          foreseen = (least, most);
+          laid = laid-fits p (record { 0 = K }) (1 + T + K * E) (omega (arith, some, g .characters)) search-sizes;
+          slots = laid-free p (record { 0 = K }) (1 + T + K * E);
           list-room = leb-true listRoom (length list) list-room;
           room = leb-true workRoom (length work) work-room;
         }
 
-    pub search-able : Seekable pack places context (p .first) (p .nodes) T K E list work
-    search-able = (theory, (theNodes, ready))
+    pub search-able : (h : Context) → h ≡ context → Seekable pack places h (p .first) (p .nodes) T (h .foresight .0) E list work
+    search-able h made = subst (λ (h : Context). Seekable pack places h (p .first) (p .nodes) T (h .foresight .0) E list work) (sym made) (theory, (theNodes, ready))
 
-    pub search-done : (list′ work′ : List ℕ) (v : Found) → ((th : Theory) (t : List Node) → Seeking th t pack places context (p .first) (p .nodes) T K E list work → SearchPut th T K E (meaning (p .characters) t 0) list list′ work work′ v) → Searching pack T K E list work list′ work′ v
+    pub search-done : (h : Context) → h ≡ context → (list′ work′ : List ℕ) (v : Found) → SearchPutFrom pack places h (p .first) (p .nodes) T (h .foresight .0) E list list′ work work′ v → Searching pack T K E list work list′ work′ v
     unfolding workAfter resultAfter
-    search-done list′ work′ v put =
+    search-done h made list′ work′ v put =
         let (ns, g, (y, replies)) = accepted-now in
-        let z = put theory theNodes ready in
+        let z = subst (λ (h : Context). SearchPutFrom pack places h (p .first) (p .nodes) T (h .foresight .0) E list list′ work work′ v) made put theory theNodes ready in
         let same : meaning (p .characters) theNodes 0 ≡ meaning (theory .characters) theNodes 0 = ap (λ (k : ℕ). meaning k theNodes 0) (sym (y .found .characters)) in
         let so : searchTable theory T K E theNodes ≡ z .answer = search-table-iff theory theNodes (fits-table (theory .characters) (theory .domains) theNodes fit) T K E (z .answer) .0 (subst (λ (s : State). Searched theory T K E s (z .answer)) same (z .is-so)) in
         let gave : theReply ≡ answerReply (z .answer) = replies ∙ ap answerReply so in

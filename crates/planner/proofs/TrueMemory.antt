@@ -5,7 +5,7 @@ use mathlib.Core.Bool.{Bool, true, false}
 use mathlib.Core.Logic.{_≢_, _⊎_, inl, inr, ⊎-elim, by-cases}
 use mathlib.Core.List.{List}
 use native.Mathlib.Decide.{ℕ-discrete, decLe}
-use native.Mathlib.Nat.{mul-comm, zero-mul, div-add-mod, mod-lt}
+use native.Mathlib.Nat.{mul-comm, zero-mul, div-add-mod, mod-lt, mul-le-mul-left, mul-le-mul-right}
 use native.Mathlib.Omega.{arith}
 use lib.ListN.{length, getD, set, length-set}
 use lib.Seq.{getD-set-same, getD-set-other}
@@ -17,13 +17,14 @@ use Rattle.pack.specs.declared.table.Table.{Table}
 use Rattle.chart.specs.Chart.{Starts}
 use Rattle.transition.specs.Happening.{Plays}
 use Rattle.chart.specs.Call.{workRoom}
+use Rattle.transition.specs.Contracts.Stage.{scratchAt}
 use Rattle.chart.specs.Contracts.Put.{Cleared, PartCopied}
 use Rattle.chart.specs.Contracts.Level.{Agrees, SameByte}
 use Rattle.chart.specs.Laws.Cells.{rows-same, row-in, rows-most}
 use Rattle.planner.specs.declared.limits.Context.{Context}
 use Rattle.planner.specs.declared.entry.Key.{Key}
 use Rattle.planner.specs.Inner.Lists.{slotTable}
-use Rattle.planner.specs.Inner.Memory.{memoryAt, takenAt, stepsAt, factsAt, tablesAt, keptAt, keptTable, Kept, HasId, StepFact, Fact, keyAt, SlotEntry, StepEntry, FactEntry, Memory, Place, Before, InSlot, Only, Stored, Interning, Storable, KeyPut, Recalled, Remembered, StepRead, StepPut, Noted, Slot, Again, LeftNoted}
+use Rattle.planner.specs.Inner.Memory.{Laid, takenAt, stepsAt, factsAt, tablesAt, keptAt, keptTable, Kept, HasId, StepFact, Fact, keyAt, SlotEntry, StepEntry, FactEntry, Memory, Place, Before, InSlot, Only, Stored, Interning, Storable, KeyPut, Recalled, Remembered, StepRead, StepPut, Noted, Slot, Again, LeftNoted}
 
 -- a mark that says nothing
 pub fact-none : (th : Theory) (K : ℕ) (k : Key) (s : State) → Fact th K 0 k s
@@ -98,22 +99,47 @@ fact-same th K {m} {m′} {k} {k′} {s} {s′} e f g x = subst (λ (m : ℕ). F
 pub first-same : (c : ℕ) {t u : List Node} → t ≡ u → meaning c t 0 ≡ meaning c u 0
 first-same c e = ap (λ (t : List Node). meaning c t 0) e
 
+-- of two multiples of a stride the greater is a stride further
+pub stride-on : (s : ℕ) {i j : ℕ} → i < j → s * i + s ≤ s * j
+stride-on s {i} {j} l = let next : i + 1 ≤ j = omega (arith, l) in omega (arith, mul-le-mul-left s next)
+
+-- a part of a number is no greater
+pub part-most : (n d : ℕ) → 0 < d → n / d ≤ n
+part-most n d l = let one : 1 ≤ d = omega (arith, l) in omega (arith, div-add-mod n d, mul-le-mul-right (n / d) one)
+
+-- a number lies behind one multiple of a stride
+pub stride-one : (s : ℕ) {a b r r′ : ℕ} → s * a + r ≡ s * b + r′ → r < s → r′ < s → a ≡ b
+stride-one s {a} {b} e l g = by-cases (decLe (a + 1) b) (λ k. absurd (omega (arith, e, l, g, stride-on s {i = a} {j = b} (omega (arith, k))))) (λ k. by-cases (decLe (b + 1) a) (λ m. absurd (omega (arith, e, l, g, stride-on s {i = b} {j = a} (omega (arith, m))))) (λ m. omega (arith, k, m)))
+
 -- ids, steps and facts that are forgotten
-pub emptied : {was now : List ℕ} → Cleared was now memoryAt 2482 → (q : ℕ) → memoryAt ≤ q → q < tablesAt → getD now q 0 ≡ 0
-emptied {was} {now} x q low high = let y : q ≡ memoryAt + (q - memoryAt) = omega (arith, low) in ap (λ (q : ℕ). getD now q 0) y ∙ x .clear (q - memoryAt) (omega (arith, low, high))
+pub emptied : (h : Context) {was now : List ℕ} → Cleared was now (h .memory) 2482 → (q : ℕ) → h .memory ≤ q → q < tablesAt h → getD now q 0 ≡ 0
+emptied h {was} {now} x q low high = let y : q ≡ h .memory + (q - (h .memory)) = omega (arith, low) in ap (λ (q : ℕ). getD now q 0) y ∙ x .clear (q - (h .memory)) (omega (arith, low, high))
 
 -- tables that are kept stay as they are
-pub record Grown (was now : List ℕ) : Type 0 where
-  pub taken : getD was takenAt 0 ≤ getD now takenAt 0
-  pub tables : (q : ℕ) → tablesAt ≤ q → q < tablesAt + 12 * getD was takenAt 0 → getD now q 0 ≡ getD was q 0
+pub record Grown (h : Context) (was now : List ℕ) : Type 0 where
+  pub taken : getD was (takenAt h) 0 ≤ getD now (takenAt h) 0
+  pub within : tablesAt h + h .block * getD was (takenAt h) 0 ≤ scratchAt → tablesAt h + h .block * getD now (takenAt h) 0 ≤ scratchAt
+  pub tables : (q : ℕ) → tablesAt h ≤ q → q < tablesAt h + h .block * getD was (takenAt h) 0 → getD now q 0 ≡ getD was q 0
 
 -- only bytes of ids, steps and facts change
-pub grown-by : {was now : List ℕ} → getD now takenAt 0 ≡ getD was takenAt 0 → ((q : ℕ) → tablesAt ≤ q → getD now q 0 ≡ getD was q 0) → Grown was now
-grown-by e f = record { taken = omega (arith, e); tables = λ q l g. f q l }
+pub grown-by : {h : Context} {was now : List ℕ} → getD now (takenAt h) 0 ≡ getD was (takenAt h) 0 → ((q : ℕ) → tablesAt h ≤ q → getD now q 0 ≡ getD was q 0) → Grown h was now
+grown-by {h} e f = record { taken = omega (arith, e); within = λ l. omega (arith, ap (λ (k : ℕ). h .block * k) e, l); tables = λ q l g. f q l }
 
 module _ (h : Context) where
   abbrev w : ℕ
   w = h .fluents + h .characters
+
+  -- slots before the memory are fewer than 48
+  pub slot-within : Laid h → (i : ℕ) → h .stride * i + h .stride ≤ h .memory → h .memory + i < h .memory + 48
+  slot-within laid i l = by-cases (decLe 48 i) (λ k. absurd (omega (arith, l, laid .few, laid .wide, mul-le-mul-left (h .stride) k))) (λ k. omega (arith, k))
+
+  -- the table of an id begins no earlier than the tables
+  pub kept-from : (n : ℕ) → 0 < n → tablesAt h ≤ keptAt h n
+  kept-from n l = let one : 1 ≤ n = omega (arith, l) in omega (arith, mul-le-mul-left (h .block) one)
+
+  -- so many blocks lie before the scratch
+  pub blocks-most : Laid h → (n : ℕ) → n < 256 → tablesAt h + h .block * n ≤ scratchAt
+  blocks-most laid n l = let few : n ≤ 255 = omega (arith, l) in omega (arith, mul-le-mul-left (h .block) few, laid .room)
 
   -- tables of the same bytes
   pub table-moved : (was now : List ℕ) (a b : ℕ) → ((i : ℕ) → i < 1 + getD was a 0 * w → getD now (b + i) 0 ≡ getD was (a + i) 0) → tableOf (slotTable h now b) now ≡ tableOf (slotTable h was a) was
@@ -129,35 +155,35 @@ module _ (h : Context) where
   state-moved was now a b f = ap (λ (T : List Node). meaning (h .characters) T 0) (table-moved was now a b f)
 
   -- a table in a slot, as one of its fields
-  pub slot-table : {work : List ℕ} {t : Table} {limit : ℕ} → Before h work t → (x : InSlot work t limit) → tableOf (slotTable h work (961 * x .number)) work ≡ tableOf t work
+  pub slot-table : {work : List ℕ} {t : Table} {limit : ℕ} → Before h work t → (x : InSlot h work t limit) → tableOf (slotTable h work (h .stride * x .number)) work ≡ tableOf t work
   slot-table {work} {t} b x =
       let wide : w ≡ t .width = ap (λ (f : ℕ). f + h .characters) (b .fluents) ∙ ap (λ (c : ℕ). t .fluents + c) (b .characters) ∙ b .wide in
-      ap (λ (n : ℕ). rowsAt work w (h .fluents) (h .characters) (961 * x .number + 1) n) (x .counted)
+      ap (λ (n : ℕ). rowsAt work w (h .fluents) (h .characters) (h .stride * x .number + 1) n) (x .counted)
       ∙ ap (λ (a : ℕ). rowsAt work w (h .fluents) (h .characters) a (t .nodes)) (sym (x .rows))
       ∙ ap (λ (f : ℕ). rowsAt work w f (h .characters) (t .rows) (t .nodes)) (b .fluents)
       ∙ ap (λ (c : ℕ). rowsAt work w (t .fluents) c (t .rows) (t .nodes)) (b .characters)
       ∙ ap (λ (k : ℕ). rowsAt work k (t .fluents) (t .characters) (t .rows) (t .nodes)) wide
 
   -- a table before the memory stays where only the memory changes
-  pub before-same : {was : List ℕ} (now : List ℕ) {t : Table} → Before h was t → ((q : ℕ) → q < memoryAt → getD now q 0 ≡ getD was q 0) → tableOf t now ≡ tableOf t was
+  pub before-same : {was : List ℕ} (now : List ℕ) {t : Table} → Before h was t → ((q : ℕ) → q < h .memory → getD now q 0 ≡ getD was q 0) → tableOf t now ≡ tableOf t was
   before-same {was} now {t} b low = rows-same was now (t .width) (t .fluents) (t .characters) (t .rows) (t .rows) (t .nodes) (omega (arith, b .wide)) (λ q l. low (t .rows + q) (omega (arith, b .before, l)))
 
-  module _ {was now : List ℕ} (g : Grown was now) where
-    kept-byte : {n : ℕ} → Kept h was n → (i : ℕ) → i < 1 + getD was (keptAt n) 0 * w → getD now (keptAt n + i) 0 ≡ getD was (keptAt n + i) 0
-    kept-byte {n} k i l = g .tables (keptAt n + i) (omega (arith, k .some)) (omega (arith, k .inside, l))
+  module _ {was now : List ℕ} (g : Grown h was now) where
+    kept-byte : {n : ℕ} → Kept h was n → (i : ℕ) → i < 1 + getD was (keptAt h n) 0 * w → getD now (keptAt h n + i) 0 ≡ getD was (keptAt h n + i) 0
+    kept-byte {n} k i l = g .tables (keptAt h n + i) (omega (arith, kept-from n (k .some))) (omega (arith, k .inside, l))
 
-    kept-count : {n : ℕ} → Kept h was n → getD now (keptAt n) 0 ≡ getD was (keptAt n) 0
-    kept-count {n} k = g .tables (keptAt n) (omega (arith, k .some)) (omega (arith, k .inside))
+    kept-count : {n : ℕ} → Kept h was n → getD now (keptAt h n) 0 ≡ getD was (keptAt h n) 0
+    kept-count {n} k = g .tables (keptAt h n) (kept-from n (k .some)) (omega (arith, k .inside))
 
     pub kept-grown : {n : ℕ} → Kept h was n → Kept h now n
     kept-grown {n} k = record {
       some = k .some;
       few = omega (arith, kept-count k, k .few);
-      inside = subst (λ (c : ℕ). keptAt n + 1 + c * w ≤ tablesAt + 12 * getD now takenAt 0) (sym (kept-count k)) (omega (arith, k .inside, g .taken));
+      inside = subst (λ (c : ℕ). keptAt h n + 1 + c * w ≤ tablesAt h + h .block * getD now (takenAt h) 0) (sym (kept-count k)) (omega (arith, k .inside, mul-le-mul-left (h .block) (g .taken)));
     }
 
     pub kept-table : {n : ℕ} → Kept h was n → tableOf (keptTable h now n) now ≡ tableOf (keptTable h was n) was
-    kept-table {n} k = table-moved was now (keptAt n) (keptAt n) (kept-byte k)
+    kept-table {n} k = table-moved was now (keptAt h n) (keptAt h n) (kept-byte k)
 
     pub named-grown : {t t′ : Table} {n : ℕ} → t .nodes ≡ t′ .nodes → tableOf t′ now ≡ tableOf t was → HasId h was t n → HasId h now t′ n
     named-grown c e x = record { kept = kept-grown (x .kept); count = kept-count (x .kept) ∙ x .count ∙ c; same = kept-table (x .kept) ∙ x .same ∙ sym e }
@@ -173,12 +199,12 @@ module _ (h : Context) where
     }
 
     -- entries whose bytes stay
-    slot-entry : {limit : ℕ} → w ≤ 30 → ((q : ℕ) → q < limit → getD now q 0 ≡ getD was q 0) → (i : ℕ) → 961 * i + 961 ≤ limit → getD now (memoryAt + i) 0 ≡ getD was (memoryAt + i) 0 → SlotEntry h was i → SlotEntry h now i
-    slot-entry narrow low i l e f z =
+    slot-entry : {limit : ℕ} → Laid h → ((q : ℕ) → q < limit → getD now q 0 ≡ getD was q 0) → (i : ℕ) → h .stride * i + h .stride ≤ limit → getD now (h .memory + i) 0 ≡ getD was (h .memory + i) 0 → SlotEntry h was i → SlotEntry h now i
+    slot-entry laid low i l e f z =
         let x = f (omega (arith, e, z)) in
-        let most = rows-most (x .kept .few) narrow in
-        let size : getD was (961 * i) 0 * w ≤ 960 = omega (arith, most, ap (λ (n : ℕ). n * w) (x .count)) in
-        subst (HasId h now (slotTable h now (961 * i))) (sym e) (named-grown (sym (low (961 * i) (omega (arith, l)))) (table-moved was now (961 * i) (961 * i) (λ j m. low (961 * i + j) (omega (arith, l, m, size)))) x)
+        let most : getD was (keptAt h (getD was (h .memory + i) 0)) 0 * w ≤ 32 * w = mul-le-mul-right w (x .kept .few) in
+        let size : 1 + getD was (h .stride * i) 0 * w ≤ h .stride = omega (arith, most, laid .wide, ap (λ (n : ℕ). n * w) (x .count)) in
+        subst (HasId h now (slotTable h now (h .stride * i))) (sym e) (named-grown (sym (low (h .stride * i) (omega (arith, l)))) (table-moved was now (h .stride * i) (h .stride * i) (λ j m. low (h .stride * i + j) (omega (arith, l, m, size)))) x)
 
     step-entry : {th : Theory} (a : ℕ) → ((q : ℕ) → a ≤ q → q < a + 4 → getD now q 0 ≡ getD was q 0) → StepEntry th h was a → StepEntry th h now a
     step-entry {th} a e f z =
@@ -202,52 +228,54 @@ module _ (h : Context) where
 
     -- the memory where tables that are kept and all but some entries stay
     pub memory-but : {th : Theory} {K limit : ℕ} → ((q : ℕ) → q < limit → getD now q 0 ≡ getD was q 0)
-        → ((i : ℕ) → 961 * i + 961 ≤ limit → (getD now (memoryAt + i) 0 ≡ getD was (memoryAt + i) 0) ⊎ SlotEntry h now i)
-        → ((i : ℕ) → i < 128 → ((q : ℕ) → stepsAt + 4 * i ≤ q → q < stepsAt + 4 * i + 4 → getD now q 0 ≡ getD was q 0) ⊎ StepEntry th h now (stepsAt + 4 * i))
-        → ((i : ℕ) → i < 256 → ((q : ℕ) → factsAt + 7 * i ≤ q → q < factsAt + 7 * i + 7 → getD now q 0 ≡ getD was q 0) ⊎ FactEntry th K h now (factsAt + 7 * i)) → Memory th K h limit was → Memory th K h limit now
+        → ((i : ℕ) → h .stride * i + h .stride ≤ limit → (getD now (h .memory + i) 0 ≡ getD was (h .memory + i) 0) ⊎ SlotEntry h now i)
+        → ((i : ℕ) → i < 128 → ((q : ℕ) → stepsAt h + 4 * i ≤ q → q < stepsAt h + 4 * i + 4 → getD now q 0 ≡ getD was q 0) ⊎ StepEntry th h now (stepsAt h + 4 * i))
+        → ((i : ℕ) → i < 256 → ((q : ℕ) → factsAt h + 7 * i ≤ q → q < factsAt h + 7 * i + 7 → getD now q 0 ≡ getD was q 0) ⊎ FactEntry th K h now (factsAt h + 7 * i)) → Memory th K h limit was → Memory th K h limit now
     memory-but low a b c m = record {
-      narrow = m .narrow;
-      slots = λ i l. ⊎-elim (λ e. slot-entry (m .narrow) low i l e (m .slots i l)) (λ x. x) (a i l);
-      steps = λ i l. ⊎-elim (λ e. step-entry (stepsAt + 4 * i) e (m .steps i l)) (λ x. x) (b i l);
-      facts = λ i l. ⊎-elim (λ e. fact-entry (factsAt + 7 * i) e (m .facts i l)) (λ x. x) (c i l);
+      laid = m .laid;
+      within = g .within (m .within);
+      slots = λ i l. ⊎-elim (λ e. slot-entry (m .laid) low i l e (m .slots i l)) (λ x. x) (a i l);
+      steps = λ i l. ⊎-elim (λ e. step-entry (stepsAt h + 4 * i) e (m .steps i l)) (λ x. x) (b i l);
+      facts = λ i l. ⊎-elim (λ e. fact-entry (factsAt h + 7 * i) e (m .facts i l)) (λ x. x) (c i l);
     }
 
     -- entries all stay
-    pub memory-quiet : {th : Theory} {K limit : ℕ} → limit ≤ memoryAt → ((q : ℕ) → q < limit → getD now q 0 ≡ getD was q 0) → ((q : ℕ) → memoryAt ≤ q → q < takenAt → getD now q 0 ≡ getD was q 0) → ((q : ℕ) → stepsAt ≤ q → q < tablesAt → getD now q 0 ≡ getD was q 0) → Memory th K h limit was → Memory th K h limit now
-    memory-quiet few low ids mid = memory-but low (λ i l. inl (ids (memoryAt + i) (omega arith) (omega (arith, few, l)))) (λ i l. inl (λ q a b. mid q (omega (arith, a)) (omega (arith, b, l)))) (λ i l. inl (λ q a b. mid q (omega (arith, a)) (omega (arith, b, l))))
+    pub memory-quiet : {th : Theory} {K limit : ℕ} → Laid h → limit ≤ h .memory → ((q : ℕ) → q < limit → getD now q 0 ≡ getD was q 0) → ((q : ℕ) → h .memory ≤ q → q < takenAt h → getD now q 0 ≡ getD was q 0) → ((q : ℕ) → stepsAt h ≤ q → q < tablesAt h → getD now q 0 ≡ getD was q 0) → Memory th K h limit was → Memory th K h limit now
+    memory-quiet laid few low ids mid = memory-but low (λ i l. inl (ids (h .memory + i) (omega arith) (slot-within laid i (omega (arith, few, l))))) (λ i l. inl (λ q a b. mid q (omega (arith, a)) (omega (arith, b, l)))) (λ i l. inl (λ q a b. mid q (omega (arith, a)) (omega (arith, b, l))))
 
   -- nothing is known
-  pub memory-clear : {th : Theory} {K limit : ℕ} {now : List ℕ} → w ≤ 30 → limit ≤ memoryAt → ((q : ℕ) → memoryAt ≤ q → q < tablesAt → getD now q 0 ≡ 0) → Memory th K h limit now
-  memory-clear narrow few f = record {
-    narrow = narrow;
-    slots = λ i l z. absurd (omega (arith, z, f (memoryAt + i) (omega arith) (omega (arith, few, l))));
-    steps = λ i l z. absurd (omega (arith, z, f (stepsAt + 4 * i) (omega arith) (omega (arith, l))));
-    facts = λ i l z. absurd (omega (arith, z, f (factsAt + 7 * i + 6) (omega arith) (omega (arith, l))));
+  pub memory-clear : {th : Theory} {K limit : ℕ} {now : List ℕ} → Laid h → limit ≤ h .memory → ((q : ℕ) → h .memory ≤ q → q < tablesAt h → getD now q 0 ≡ 0) → Memory th K h limit now
+  memory-clear laid few f = record {
+    laid = laid;
+    within = omega (arith, ap (λ (k : ℕ). h .block * k) (f (takenAt h) (omega arith) (omega arith)), laid .room);
+    slots = λ i l z. absurd (omega (arith, z, f (h .memory + i) (omega arith) (omega (arith, slot-within laid i (omega (arith, few, l))))));
+    steps = λ i l z. absurd (omega (arith, z, f (stepsAt h + 4 * i) (omega arith) (omega (arith, l))));
+    facts = λ i l z. absurd (omega (arith, z, f (factsAt h + 7 * i + 6) (omega arith) (omega (arith, l))));
   }
 
   -- fewer slots
   pub memory-fewer : {th : Theory} {K limit limit′ : ℕ} {now : List ℕ} → limit′ ≤ limit → Memory th K h limit now → Memory th K h limit′ now
-  memory-fewer l m = record { narrow = m .narrow; slots = λ i g. m .slots i (omega (arith, l, g)); steps = m .steps; facts = m .facts }
+  memory-fewer l m = record { laid = m .laid; within = m .within; slots = λ i g. m .slots i (omega (arith, l, g)); steps = m .steps; facts = m .facts }
 
   module _ {t : Table} where
     -- a table with the count and the bytes of the one that is kept
-    pub kept-as : {now : List ℕ} → Before h now t → (n : ℕ) → 0 < n → 12 * n + t .nodes * t .width ≤ 12 * getD now takenAt 0 + 11 → getD now (keptAt n) 0 ≡ t .nodes
-        → ((q : ℕ) → q < t .nodes * t .width → getD now (keptAt n + 1 + q) 0 ≡ getD now (t .rows + q) 0) → HasId h now t n
+    pub kept-as : {now : List ℕ} → Before h now t → (n : ℕ) → 0 < n → h .block * n + t .nodes * t .width < h .block * getD now (takenAt h) 0 + h .block → getD now (keptAt h n) 0 ≡ t .nodes
+        → ((q : ℕ) → q < t .nodes * t .width → getD now (keptAt h n + 1 + q) 0 ≡ getD now (t .rows + q) 0) → HasId h now t n
     kept-as {now} b n some inside count same =
         let wide : w ≡ t .width = ap (λ (f : ℕ). f + h .characters) (b .fluents) ∙ ap (λ (c : ℕ). t .fluents + c) (b .characters) ∙ b .wide in
-        let size : getD now (keptAt n) 0 * w ≡ t .nodes * t .width = ap (λ (c : ℕ). c * w) count ∙ ap (λ (k : ℕ). t .nodes * k) wide in
+        let size : getD now (keptAt h n) 0 * w ≡ t .nodes * t .width = ap (λ (c : ℕ). c * w) count ∙ ap (λ (k : ℕ). t .nodes * k) wide in
         record {
-          kept = record { some = some; few = omega (arith, count, b .few); inside = omega (arith, size, inside) };
+          kept = record { some = some; few = omega (arith, count, b .few); inside = omega (arith, size, inside, b .laid .room) };
           count = count;
-          same = ap (λ (c : ℕ). rowsAt now w (h .fluents) (h .characters) (keptAt n + 1) c) count ∙ ap (λ (f : ℕ). rowsAt now w f (h .characters) (keptAt n + 1) (t .nodes)) (b .fluents) ∙ ap (λ (c : ℕ). rowsAt now w (t .fluents) c (keptAt n + 1) (t .nodes)) (b .characters)
-              ∙ ap (λ (k : ℕ). rowsAt now k (t .fluents) (t .characters) (keptAt n + 1) (t .nodes)) wide ∙ rows-same now now (t .width) (t .fluents) (t .characters) (t .rows) (keptAt n + 1) (t .nodes) (omega (arith, b .wide)) same;
+          same = ap (λ (c : ℕ). rowsAt now w (h .fluents) (h .characters) (keptAt h n + 1) c) count ∙ ap (λ (f : ℕ). rowsAt now w f (h .characters) (keptAt h n + 1) (t .nodes)) (b .fluents) ∙ ap (λ (c : ℕ). rowsAt now w (t .fluents) c (keptAt h n + 1) (t .nodes)) (b .characters)
+              ∙ ap (λ (k : ℕ). rowsAt now k (t .fluents) (t .characters) (keptAt h n + 1) (t .nodes)) wide ∙ rows-same now now (t .width) (t .fluents) (t .characters) (t .rows) (keptAt h n + 1) (t .nodes) (omega (arith, b .wide)) same;
         }
 
     pub table-size : {work : List ℕ} → Before h work t → t .nodes * t .width ≤ 960
     table-size b = omega (arith, rows-most (b .few) (b .narrow))
 
     pub before-now : {was now : List ℕ} → length now ≡ length was → Before h was t → Before h now t
-    before-now long b = record { fluents = b .fluents; characters = b .characters; wide = b .wide; narrow = b .narrow; few = b .few; before = b .before; room = omega (arith, long, b .room) }
+    before-now long b = record { laid = b .laid; fluents = b .fluents; characters = b .characters; wide = b .wide; narrow = b .narrow; few = b .few; before = b .before; room = omega (arith, long, b .room) }
 
     pub stored-known : {was : List ℕ} {r : ℕ} → r < 256 → HasId h was t r → Stored h t was was r
     stored-known small x = record { small = small; named = λ z. x; only = record { low = λ q l. refl; high = λ q l. refl }; memory = λ p K limit few m. m }
@@ -256,96 +284,114 @@ module _ (h : Context) where
     stored-none = record { small = omega arith; named = λ z. absurd (omega (arith, z)); only = record { low = λ q l. refl; high = λ q l. refl }; memory = λ p K limit few m. m }
 
     -- a table that is put behind those that are kept
-    module _ {was mid : List ℕ} {taken v : ℕ} (b : Before h was t) (e : getD was takenAt 0 ≡ taken) (fits : 12 * taken + t .nodes * t .width ≤ 3059) (copied : PartCopied (set was (tablesAt + 12 * taken) (t .nodes)) mid (t .rows) (tablesAt + 12 * taken + 1) (t .nodes * t .width)) (is : v ≡ taken + t .nodes * t .width / 12 + 1) where
+    module _ {was mid : List ℕ} {taken v : ℕ} (b : Before h was t) (e : getD was (takenAt h) 0 ≡ taken) (fits : v ≤ 255) (copied : PartCopied (set was (tablesAt h + h .block * taken) (t .nodes)) mid (t .rows) (tablesAt h + h .block * taken + 1) (t .nodes * t .width)) (is : v ≡ taken + (t .nodes * t .width / h .block + 1)) where
       abbrev first : List ℕ
-      first = set was (tablesAt + 12 * taken) (t .nodes)
+      first = set was (tablesAt h + h .block * taken) (t .nodes)
 
       abbrev last : List ℕ
-      last = set mid takenAt v
+      last = set mid (takenAt h) v
 
-      -- blocks of 12 bytes
-      blocks : (t .nodes * t .width / 12 * 12 ≤ t .nodes * t .width) × (t .nodes * t .width < t .nodes * t .width / 12 * 12 + 12)
-      blocks = let all = div-add-mod (t .nodes * t .width) 12 in let rest : t .nodes * t .width % 12 < 12 = mod-lt (t .nodes * t .width) (omega arith) in (omega (arith, all), omega (arith, all, rest))
+      -- the blocks that are taken then hold it, and lie before the scratch
+      taken-then : h .block * v ≡ h .block * taken + h .block * (t .nodes * t .width / h .block) + h .block
+      taken-then = let all = ap (λ (k : ℕ). h .block * k) is in omega (arith, all)
 
-      below : (q : ℕ) → q ≢ takenAt → q < tablesAt + 12 * taken → getD last q 0 ≡ getD was q 0
-      below q n l = getD-set-other mid takenAt q v 0 n ∙ copied .low q (omega (arith, l)) ∙ getD-set-other was (tablesAt + 12 * taken) q (t .nodes) 0 (λ z. omega (arith, z, l))
+      new-end : h .block * taken + t .nodes * t .width < h .block * v
+      new-end =
+          let all = div-add-mod (t .nodes * t .width) (h .block) in
+          let rest : t .nodes * t .width % h .block < h .block = mod-lt (t .nodes * t .width) (b .laid .blocks) in
+          omega (arith, all, rest, taken-then)
 
-      above : (q : ℕ) → tablesAt + 12 * taken + 1 + t .nodes * t .width ≤ q → getD last q 0 ≡ getD was q 0
-      above q l = getD-set-other mid takenAt q v 0 (λ z. omega (arith, z, l)) ∙ copied .high q (omega (arith, l)) ∙ getD-set-other was (tablesAt + 12 * taken) q (t .nodes) 0 (λ z. omega (arith, z, l))
+      new-room : tablesAt h + h .block * v ≤ scratchAt
+      new-room = omega (arith, mul-le-mul-left (h .block) fits, b .laid .room)
+
+      below : (q : ℕ) → q ≢ takenAt h → q < tablesAt h + h .block * taken → getD last q 0 ≡ getD was q 0
+      below q n l = getD-set-other mid (takenAt h) q v 0 n ∙ copied .low q (omega (arith, l)) ∙ getD-set-other was (tablesAt h + h .block * taken) q (t .nodes) 0 (λ z. omega (arith, z, l))
+
+      above : (q : ℕ) → tablesAt h + h .block * taken + 1 + t .nodes * t .width ≤ q → getD last q 0 ≡ getD was q 0
+      above q l = getD-set-other mid (takenAt h) q v 0 (λ z. omega (arith, z, l)) ∙ copied .high q (omega (arith, l)) ∙ getD-set-other was (tablesAt h + h .block * taken) q (t .nodes) 0 (λ z. omega (arith, z, l))
 
       module _ (long : length mid ≡ length was) where
-        pub new-taken : getD last takenAt 0 ≡ v
-        new-taken = getD-set-same mid takenAt v 0 (omega (arith, long, b .room))
+        pub new-taken : getD last (takenAt h) 0 ≡ v
+        new-taken = getD-set-same mid (takenAt h) v 0 (omega (arith, long, b .room))
 
-        new-count : getD last (keptAt (taken + 1)) 0 ≡ t .nodes
+        new-count : getD last (keptAt h (taken + 1)) 0 ≡ t .nodes
         new-count =
-            let x : keptAt (taken + 1) ≡ tablesAt + 12 * taken = omega arith in
-            ap (λ (q : ℕ). getD last q 0) x ∙ getD-set-other mid takenAt (tablesAt + 12 * taken) v 0 (λ z. omega (arith, z)) ∙ copied .low (tablesAt + 12 * taken) (omega arith) ∙ getD-set-same was (tablesAt + 12 * taken) (t .nodes) 0 (omega (arith, fits, b .room))
+            let x : keptAt h (taken + 1) ≡ tablesAt h + h .block * taken = omega (arith, b .laid .room) in
+            ap (λ (q : ℕ). getD last q 0) x ∙ getD-set-other mid (takenAt h) (tablesAt h + h .block * taken) v 0 (λ z. omega (arith, z)) ∙ copied .low (tablesAt h + h .block * taken) (omega arith) ∙ getD-set-same was (tablesAt h + h .block * taken) (t .nodes) 0 (omega (arith, new-end, new-room, b .room))
 
-        new-byte : (q : ℕ) → q < t .nodes * t .width → getD last (keptAt (taken + 1) + 1 + q) 0 ≡ getD last (t .rows + q) 0
+        new-byte : (q : ℕ) → q < t .nodes * t .width → getD last (keptAt h (taken + 1) + 1 + q) 0 ≡ getD last (t .rows + q) 0
         new-byte q l =
-            let x : keptAt (taken + 1) + 1 + q ≡ tablesAt + 12 * taken + 1 + q = omega arith in
-            ap (λ (q : ℕ). getD last q 0) x ∙ getD-set-other mid takenAt (tablesAt + 12 * taken + 1 + q) v 0 (λ z. omega (arith, z)) ∙ copied .part q l ∙ getD-set-other was (tablesAt + 12 * taken) (t .rows + q) (t .nodes) 0 (λ z. omega (arith, z, l, b .before)) ∙ sym (below (t .rows + q) (λ z. omega (arith, z, l, b .before)) (omega (arith, l, b .before)))
+            let x : keptAt h (taken + 1) + 1 + q ≡ tablesAt h + h .block * taken + 1 + q = omega (arith, b .laid .room) in
+            ap (λ (q : ℕ). getD last q 0) x ∙ getD-set-other mid (takenAt h) (tablesAt h + h .block * taken + 1 + q) v 0 (λ z. omega (arith, z)) ∙ copied .part q l ∙ getD-set-other was (tablesAt h + h .block * taken) (t .rows + q) (t .nodes) 0 (λ z. omega (arith, z, l, b .before)) ∙ sym (below (t .rows + q) (λ z. omega (arith, z, l, b .before)) (omega (arith, l, b .before)))
 
         pub stored-new : Stored h t was last (taken + 1)
         stored-new = record {
-          small = omega (arith, fits);
-          named = λ z. kept-as (before-now (length-set mid takenAt v ∙ long) b) (taken + 1) (omega arith) (omega (arith, new-taken, is, blocks)) new-count new-byte;
-          only = record { low = λ q l. below q (λ z. omega (arith, z, l)) (omega (arith, l)); high = λ q l. above q (omega (arith, l, fits)) };
-          memory = λ p K limit few m. memory-quiet (record { taken = omega (arith, new-taken, is, e); tables = λ q low high. below q (λ z. omega (arith, z, low)) (omega (arith, high, e)) }) few (λ q l. below q (λ z. omega (arith, z, l, few)) (omega (arith, l, few))) (λ q low high. below q (λ z. omega (arith, z, high)) (omega (arith, high))) (λ q low high. below q (λ z. omega (arith, z, low)) (omega (arith, high))) m;
+          small = omega (arith, fits, is);
+          named = λ z. kept-as (before-now (length-set mid (takenAt h) v ∙ long) b) (taken + 1) (omega arith) (omega (arith, ap (λ (k : ℕ). h .block * k) new-taken, new-end)) new-count new-byte;
+          only = record { low = λ q l. below q (λ z. omega (arith, z, l)) (omega (arith, l)); high = λ q l. above q (omega (arith, l, new-end, new-room)) };
+          memory = λ p K limit few m. memory-quiet (record { taken = omega (arith, new-taken, is, e); within = λ l. omega (arith, ap (λ (k : ℕ). h .block * k) new-taken, new-room); tables = λ q low high. below q (λ z. omega (arith, z, low)) (omega (arith, high, ap (λ (k : ℕ). h .block * k) e)) }) (m .laid) few (λ q l. below q (λ z. omega (arith, z, l, few)) (omega (arith, l, few))) (λ q low high. below q (λ z. omega (arith, z, high)) (omega (arith, high))) (λ q low high. below q (λ z. omega (arith, z, low)) (omega (arith, high))) m;
         }
 
     -- all else is forgotten first
-    pub stored-anew : {was mid cleared now : List ℕ} {r : ℕ} → Only was mid → Cleared mid cleared memoryAt 2482 → Stored h t cleared now r → Stored h t was now r
-    stored-anew {was} {mid} {cleared} {now} o c x = record {
+    pub stored-anew : {was mid cleared now : List ℕ} {r : ℕ} → Laid h → Only h was mid → Cleared mid cleared (h .memory) 2482 → Stored h t cleared now r → Stored h t was now r
+    stored-anew {was} {mid} {cleared} {now} laid o c x = record {
       small = x .small;
       named = x .named;
-      only = record { low = λ q l. x .only .low q l ∙ c .low q l ∙ o .low q l; high = λ q l. x .only .high q l ∙ c .high q (omega (arith, l)) ∙ o .high q l };
-      memory = λ p K limit few m. x .memory p K limit few (memory-clear (m .narrow) few (emptied c));
+      only = record { low = λ q l. x .only .low q l ∙ c .low q l ∙ o .low q l; high = λ q l. x .only .high q l ∙ c .high q (omega (arith, l, laid .room)) ∙ o .high q l };
+      memory = λ p K limit few m. x .memory p K limit few (memory-clear (m .laid) few (emptied h c));
     }
 
     -- an id found by a hash
-    pub stored-hashed : {was mid : List ℕ} {r q : ℕ} (v : ℕ) → Before h mid t → Stored h t was mid r → 43520 ≤ q → q < stepsAt → Stored h t was (set mid q v) r
+    pub stored-hashed : {was mid : List ℕ} {r q : ℕ} (v : ℕ) → Before h mid t → Stored h t was mid r → h .memory + 50 ≤ q → q < stepsAt h → Stored h t was (set mid q v) r
     stored-hashed {was} {mid} {r} {q} v b x low high =
         let other : (a : ℕ) → a ≢ q → getD (set mid q v) a 0 ≡ getD mid a 0 = λ a n. getD-set-other mid q a v 0 n in
-        let g : Grown mid (set mid q v) = grown-by (other takenAt (λ z. omega (arith, z, low))) (λ a l. other a (λ z. omega (arith, z, l, high))) in
+        let g : Grown h mid (set mid q v) = grown-by (other (takenAt h) (λ z. omega (arith, z, low))) (λ a l. other a (λ z. omega (arith, z, l, high))) in
         record {
           small = x .small;
           named = λ z. named-grown g refl (before-same (set mid q v) b (λ a l. other a (λ z. omega (arith, z, l, low)))) (x .named z);
           only = record { low = λ a l. other a (λ z. omega (arith, z, l, low)) ∙ x .only .low a l; high = λ a l. other a (λ z. omega (arith, z, l, high)) ∙ x .only .high a l };
-          memory = λ p K limit few m. memory-quiet g few (λ a l. other a (λ z. omega (arith, z, l, few, low))) (λ a _ l. other a (λ z. omega (arith, z, l, low))) (λ a l _. other a (λ z. omega (arith, z, l, high))) (x .memory p K limit few m);
+          memory = λ p K limit few m. memory-quiet g (m .laid) few (λ a l. other a (λ z. omega (arith, z, l, few, low))) (λ a _ l. other a (λ z. omega (arith, z, l, low))) (λ a l _. other a (λ z. omega (arith, z, l, high))) (x .memory p K limit few m);
         }
 
     -- the number of a slot
-    slot-number : {work : List ℕ} {limit : ℕ} (x : InSlot work t limit) → t .rows / 961 ≡ x .number
-    slot-number x = let all = div-add-mod (t .rows) 961 in let rest : t .rows % 961 < 961 = mod-lt (t .rows) (omega arith) in omega (arith, all, rest, x .rows)
+    slot-number : {work : List ℕ} {limit : ℕ} → Laid h → (x : InSlot h work t limit) → t .rows / h .stride ≡ x .number
+    slot-number laid x =
+        let all = div-add-mod (t .rows) (h .stride) in
+        let rest : t .rows % h .stride < h .stride = mod-lt (t .rows) (omega (arith, laid .wide)) in
+        stride-one (h .stride) {a = t .rows / h .stride} {b = x .number} {r = t .rows % h .stride} {r′ = 1} (omega (arith, all, x .rows)) rest (laid .some)
+
+    -- it is below 48
+    pub row-index : {work : List ℕ} → Before h work t → t .rows / h .stride ≤ 47
+    row-index b =
+        let all = div-add-mod (t .rows) (h .stride) in
+        by-cases (decLe 48 (t .rows / h .stride)) (λ k. absurd (omega (arith, all, b .before, b .laid .few, mul-le-mul-left (h .stride) k))) (λ k. omega (arith, k))
 
     -- a table that is known by its slot
-    pub slot-named : {was : List ℕ} {p : Theory} {K limit r : ℕ} → Before h was t → getD was (43470 + t .rows / 961) 0 ≡ r → InSlot was t limit → Memory p K h limit was → 0 < r → HasId h was t r
+    pub slot-named : {was : List ℕ} {p : Theory} {K limit r : ℕ} → Before h was t → getD was (h .memory + t .rows / h .stride) 0 ≡ r → InSlot h was t limit → Memory p K h limit was → 0 < r → HasId h was t r
     slot-named {was} {r = r} b e x m z =
-        let e′ : getD was (memoryAt + x .number) 0 ≡ r = ap (λ (i : ℕ). getD was (43470 + i) 0) (sym (slot-number x)) ∙ e in
+        let e′ : getD was (h .memory + x .number) 0 ≡ r = ap (λ (i : ℕ). getD was (h .memory + i) 0) (sym (slot-number (b .laid) x)) ∙ e in
         let y = m .slots (x .number) (x .before) (omega (arith, e′, z)) in
         subst (HasId h was t) e′ (record { kept = y .kept; count = y .count ∙ x .counted; same = y .same ∙ slot-table b x })
 
-    pub naming-known : {was : List ℕ} {r : ℕ} → Before h was t → r < 256 → getD was (43470 + t .rows / 961) 0 ≡ r → Interning h t was was r
+    pub naming-known : {was : List ℕ} {r : ℕ} → Before h was t → r < 256 → getD was (h .memory + t .rows / h .stride) 0 ≡ r → Interning h t was was r
     naming-known b small e = record { small = small; only = record { low = λ q l. refl; high = λ q l. refl }; told = λ p K limit few x m. (m, slot-named b e x m) }
 
     -- and is from now on
     module _ {was mid : List ℕ} {r : ℕ} (long : length mid ≡ length was) (b : Before h was t) (x : Stored h t was mid r) where
       abbrev at : ℕ
-      at = 43470 + t .rows / 961
+      at = h .memory + t .rows / h .stride
 
       abbrev now : List ℕ
       now = set mid at r
 
-      index : t .rows / 961 ≤ 45
-      index = let all = div-add-mod (t .rows) 961 in let rest : t .rows % 961 < 961 = mod-lt (t .rows) (omega arith) in omega (arith, all, rest, b .before)
+      index : t .rows / h .stride ≤ 47
+      index = row-index b
 
       other : (q : ℕ) → q ≢ at → getD now q 0 ≡ getD mid q 0
       other q n = getD-set-other mid at q r 0 n
 
-      grown : Grown mid now
-      grown = grown-by (other takenAt (λ z. omega (arith, z, index))) (λ q l. other q (λ z. omega (arith, z, l, index)))
+      grown : Grown h mid now
+      grown = grown-by (other (takenAt h) (λ z. omega (arith, z, index))) (λ q l. other q (λ z. omega (arith, z, l, index)))
 
       kept-now : tableOf t now ≡ tableOf t mid
       kept-now = before-same now (before-now long b) (λ q l. other q (λ z. omega (arith, z, l)))
@@ -353,17 +399,17 @@ module _ (h : Context) where
       named : 0 < r → HasId h now t r
       named z = named-grown grown refl kept-now (x .named z)
 
-      slots : {limit : ℕ} → InSlot was t limit → (i : ℕ) → (getD now (memoryAt + i) 0 ≡ getD mid (memoryAt + i) 0) ⊎ SlotEntry h now i
+      slots : {limit : ℕ} → InSlot h was t limit → (i : ℕ) → (getD now (h .memory + i) 0 ≡ getD mid (h .memory + i) 0) ⊎ SlotEntry h now i
       slots s i = by-cases (ℕ-discrete i (s .number))
           (λ e. inr (λ z.
-          let here : getD now (memoryAt + i) 0 ≡ r = ap (λ (i : ℕ). getD now (43470 + i) 0) (e ∙ sym (slot-number s)) ∙ getD-set-same mid at r 0 (omega (arith, long, b .room, index)) in
+          let here : getD now (h .memory + i) 0 ≡ r = ap (λ (i : ℕ). getD now (h .memory + i) 0) (e ∙ sym (slot-number (b .laid) s)) ∙ getD-set-same mid at r 0 (omega (arith, long, b .room, index)) in
           let y = named (omega (arith, here, z)) in
-          let back : (q : ℕ) → q < memoryAt → getD now q 0 ≡ getD was q 0 = λ q l. other q (λ z. omega (arith, z, l)) ∙ x .only .low q l in
-          let s′ : InSlot now t (961 * s .number + 961) = record { number = s .number; rows = s .rows; counted = back (961 * s .number) (omega (arith, s .rows, b .before)) ∙ s .counted; before = omega arith } in
-          subst (HasId h now (slotTable h now (961 * i))) (sym here)
-          (subst (λ (i : ℕ). HasId h now (slotTable h now (961 * i)) r) (sym e)
+          let back : (q : ℕ) → q < h .memory → getD now q 0 ≡ getD was q 0 = λ q l. other q (λ z. omega (arith, z, l)) ∙ x .only .low q l in
+          let s′ : InSlot h now t (h .stride * s .number + h .stride) = record { number = s .number; rows = s .rows; counted = back (h .stride * s .number) (omega (arith, s .rows, b .before)) ∙ s .counted; before = omega arith } in
+          subst (HasId h now (slotTable h now (h .stride * i))) (sym here)
+          (subst (λ (i : ℕ). HasId h now (slotTable h now (h .stride * i)) r) (sym e)
           (record { kept = y .kept; count = y .count ∙ sym (s′ .counted); same = y .same ∙ sym (slot-table (before-now (length-set mid at r ∙ long) b) s′) }))))
-          (λ n. inl (other (memoryAt + i) (λ z. n (omega (arith, z, slot-number s)))))
+          (λ n. inl (other (h .memory + i) (λ z. n (omega (arith, z, slot-number (b .laid) s)))))
 
       pub naming-new : Interning h t was now r
       naming-new = record {
@@ -380,12 +426,12 @@ module _ (h : Context) where
       pub recalled-none : {mid : List ℕ} {k : Key} {r : ℕ} → Interning h t was mid r → Recalled h t k was mid 0
       recalled-none x = record { only = x .only; told = λ p K limit few s m. (x .told p K limit few s m .0, fact-none p K _ _) }
 
-      pub recalled : {mid : List ℕ} {k : Key} {r a : ℕ} → length mid ≡ length was → Interning h t was mid r → 0 < r → Place 256 factsAt 7 a → getD mid (a + 6) 0 ≡ r → keyAt mid a ≡ k → Recalled h t k was mid (getD mid a 0)
+      pub recalled : {mid : List ℕ} {k : Key} {r a : ℕ} → length mid ≡ length was → Interning h t was mid r → 0 < r → Place 256 (factsAt h) 7 a → getD mid (a + 6) 0 ≡ r → keyAt mid a ≡ k → Recalled h t k was mid (getD mid a 0)
       recalled {mid} {k} {r} {a} long x some place e key = record {
         only = x .only;
         told = λ p K limit few s m.
             let (m′, named) = x .told p K limit few s m in
-            let e′ : getD mid (factsAt + 7 * place .number + 6) 0 ≡ r = ap (λ (a : ℕ). getD mid (a + 6) 0) (sym (place .is)) ∙ e in
+            let e′ : getD mid (factsAt h + 7 * place .number + 6) 0 ≡ r = ap (λ (a : ℕ). getD mid (a + 6) 0) (sym (place .is)) ∙ e in
             let (kept, fact) = m′ .facts (place .number) (place .few) (omega (arith, e′, some)) in
             let here = subst (λ (a : ℕ). Fact p K (getD mid a 0) (keyAt mid a) (stateOf (keptTable h mid (getD mid (a + 6) 0)) mid 0)) (sym (place .is)) fact in
             (m′, fact-same p K refl key (first-same (h .characters) (ap (λ (n : ℕ). tableOf (keptTable h mid n) mid) e) ∙ named-state (before-now long b) (named some) 0 ∙ first-same (t .characters) (before-same mid b (x .only .low))) here);
@@ -394,11 +440,11 @@ module _ (h : Context) where
       pub remembered-none : {mid : List ℕ} {m : ℕ} {k : Key} {r : ℕ} → Interning h t was mid r → Remembered h t m k was mid
       remembered-none x = record { only = x .only; memory = λ p K limit few s y f. x .told p K limit few s y .0 }
 
-      module _ {mid put : List ℕ} {m r a : ℕ} {k : Key} (long : length mid ≡ length was) (long′ : length put ≡ length mid) (x : Interning h t was mid r) (some : 0 < r) (place : Place 256 factsAt 7 a) (key : KeyPut mid put a m k) where
+      module _ {mid put : List ℕ} {m r a : ℕ} {k : Key} (long : length mid ≡ length was) (long′ : length put ≡ length mid) (x : Interning h t was mid r) (some : 0 < r) (place : Place 256 (factsAt h) 7 a) (key : KeyPut mid put a m k) where
         abbrev noted : List ℕ
         noted = set put (a + 6) r
 
-        bounds : (factsAt ≤ a) × (a + 7 ≤ tablesAt)
+        bounds : (factsAt h ≤ a) × (a + 7 ≤ tablesAt h)
         bounds = (omega (arith, place .is), omega (arith, place .is, place .few))
 
         low : (q : ℕ) → q < a → getD noted q 0 ≡ getD mid q 0
@@ -410,8 +456,8 @@ module _ (h : Context) where
         kept : (d : ℕ) → d < 6 → getD noted (a + d) 0 ≡ getD put (a + d) 0
         kept d l = getD-set-other put (a + 6) (a + d) r 0 (λ z. omega (arith, z, l))
 
-        put-grown : Grown mid noted
-        put-grown = grown-by (low takenAt (omega (arith, bounds))) (λ q l. high q (omega (arith, l, bounds)))
+        put-grown : Grown h mid noted
+        put-grown = grown-by (low (takenAt h) (omega (arith, bounds))) (λ q l. high q (omega (arith, l, bounds)))
 
         new : (p : Theory) (K : ℕ) → HasId h mid t r → Fact p K m k (stateOf t was 0) → FactEntry p K h noted a
         new p K named fact z =
@@ -430,9 +476,9 @@ module _ (h : Context) where
           only = record { low = λ q l. low q (omega (arith, l, bounds)) ∙ x .only .low q l; high = λ q l. high q (omega (arith, l, bounds)) ∙ x .only .high q l };
           memory = λ p K limit few s y fact.
               let (m′, named) = x .told p K limit few s y in
-              memory-but put-grown (λ q l. low q (omega (arith, l, few, bounds))) (λ i l. inl (low (memoryAt + i) (omega (arith, l, few, bounds)))) (λ i l. inl (λ q g u. low q (omega (arith, u, l, bounds))))
+              memory-but put-grown (λ q l. low q (omega (arith, l, few, bounds))) (λ i l. inl (low (h .memory + i) (omega (arith, slot-within (y .laid) i (omega (arith, l, few)), bounds)))) (λ i l. inl (λ q g u. low q (omega (arith, u, l, bounds))))
               (λ i l. by-cases (ℕ-discrete i (place .number))
-              (λ z. inr (subst (λ (i : ℕ). FactEntry p K h noted (factsAt + 7 * i)) (sym z) (subst (FactEntry p K h noted) (place .is) (new p K (named some) fact))))
+              (λ z. inr (subst (λ (i : ℕ). FactEntry p K h noted (factsAt h + 7 * i)) (sym z) (subst (FactEntry p K h noted) (place .is) (new p K (named some) fact))))
               (λ z. inl (λ q g u. by-cases (decLe i (place .number)) (λ v. low q (omega (arith, u, v, z, place .is))) (λ v. high q (omega (arith, g, v, place .is))))))
               m′;
         }
@@ -489,12 +535,12 @@ module _ (h : Context) where
   width = h .fluents + h .characters
 
   -- a step put down
-  module _ {t : Table} {was now : List ℕ} {id root a next at : ℕ} (b : Before h was t) (e : getD was (43470 + t .rows / 961) 0 ≡ id) (some : 0 < id) (place : Place 128 stepsAt 4 at) (put : StepPut was now at id root a next) where
-    step-bounds : (stepsAt ≤ at) × (at + 4 ≤ factsAt)
+  module _ {t : Table} {was now : List ℕ} {id root a next at : ℕ} (b : Before h was t) (e : getD was (h .memory + t .rows / h .stride) 0 ≡ id) (some : 0 < id) (place : Place 128 (stepsAt h) 4 at) (put : StepPut was now at id root a next) where
+    step-bounds : (stepsAt h ≤ at) × (at + 4 ≤ factsAt h)
     step-bounds = (omega (arith, place .is), omega (arith, place .is, place .few))
 
-    step-kept : Grown was now
-    step-kept = grown-by (put .low takenAt (omega (arith, step-bounds))) (λ q l. put .high q (omega (arith, l, step-bounds)))
+    step-kept : Grown h was now
+    step-kept = grown-by (put .low (takenAt h) (omega (arith, step-bounds))) (λ q l. put .high q (omega (arith, l, step-bounds)))
 
     new-step : {p : Theory} → StepFact p h was id root a next → StepEntry p h now at
     new-step {p} x z =
@@ -507,78 +553,86 @@ module _ (h : Context) where
     noted-step = record {
       only = record { low = λ q l. put .low q (omega (arith, l, step-bounds)); high = λ q l. put .high q (omega (arith, l, step-bounds)) };
       memory = λ p K limit few s m f.
-          memory-but h step-kept (λ q l. put .low q (omega (arith, l, few, step-bounds))) (λ i l. inl (put .low (memoryAt + i) (omega (arith, l, few, step-bounds))))
+          memory-but h step-kept (λ q l. put .low q (omega (arith, l, few, step-bounds))) (λ i l. inl (put .low (h .memory + i) (omega (arith, slot-within h (m .laid) i (omega (arith, l, few)), step-bounds))))
           (λ i l. by-cases (ℕ-discrete i (place .number))
-          (λ z. inr (subst (λ (i : ℕ). StepEntry p h now (stepsAt + 4 * i)) (sym z) (subst (StepEntry p h now) (place .is) (new-step (f id (slot-named h b e s m some))))))
+          (λ z. inr (subst (λ (i : ℕ). StepEntry p h now (stepsAt h + 4 * i)) (sym z) (subst (StepEntry p h now) (place .is) (new-step (f id (slot-named h b e s m some))))))
           (λ z. inl (λ q g u. by-cases (decLe i (place .number)) (λ v. put .low q (omega (arith, u, v, z, place .is))) (λ v. put .high q (omega (arith, g, v, place .is))))))
           (λ i l. inl (λ q g u. put .high q (omega (arith, g, step-bounds)))) m;
     }
 
   -- one slot more
-  pub memory-more : {p : Theory} {K : ℕ} {now : List ℕ} (n : ℕ) {limit : ℕ} → limit ≡ 961 * n → Memory p K h limit now → SlotEntry h now n → Memory p K h (limit + 961) now
+  pub memory-more : {p : Theory} {K : ℕ} {now : List ℕ} (n : ℕ) {limit : ℕ} → limit ≡ h .stride * n → Memory p K h limit now → SlotEntry h now n → Memory p K h (limit + h .stride) now
   memory-more {now = now} n e m x = record {
-    narrow = m .narrow;
-    slots = λ i l. by-cases (ℕ-discrete i n) (λ z. subst (SlotEntry h now) (sym z) x) (λ z. m .slots i (omega (arith, l, e, z)));
+    laid = m .laid;
+    within = m .within;
+    slots = λ i l. by-cases (ℕ-discrete i n) (λ z. subst (SlotEntry h now) (sym z) x) (λ z. m .slots i (by-cases (decLe (i + 1) n) (λ k. omega (arith, e, stride-on (h .stride) {i = i} {j = n} (omega (arith, k)))) (λ k. absurd (omega (arith, l, e, z, k, m .laid .wide, stride-on (h .stride) {i = n} {j = i} (omega (arith, k, z)))))));
     steps = m .steps;
     facts = m .facts;
   }
 
   -- where a slot's id stands
   module _ {work : List ℕ} {slot : ℕ} (s : Slot h work slot) where
-    slot-index : slot / 961 ≡ s .number
-    slot-index = let all = div-add-mod slot 961 in let rest : slot % 961 < 961 = mod-lt slot (omega arith) in omega (arith, all, rest, s .is)
+    slot-index : slot / h .stride ≡ s .number
+    slot-index =
+        let all = div-add-mod slot (h .stride) in
+        let rest : slot % h .stride < h .stride = mod-lt slot (omega (arith, s .laid .wide)) in
+        stride-one (h .stride) {a = slot / h .stride} {b = s .number} {r = slot % h .stride} {r′ = 0} (omega (arith, all, s .is)) rest (omega (arith, s .laid .wide))
 
-    pub slot-few : slot / 961 ≤ 29
-    slot-few = omega (arith, slot-index, s .is, s .before)
+    pub slot-few : slot / h .stride ≤ 47
+    slot-few = omega (arith, slot-index, slot-within h (s .laid) (s .number) (omega (arith, s .is, s .before)))
+
+    -- a slot before it has another number
+    slot-other : (i : ℕ) → h .stride * i + h .stride ≤ slot → i ≡ slot / h .stride → ⊥
+    slot-other i l z = omega (arith, l, s .is, s .laid .some, ap (λ (i : ℕ). h .stride * i) (z ∙ slot-index))
 
   -- the id of a slot is forgotten
   module _ {was : List ℕ} {slot : ℕ} (s : Slot h was slot) where
     abbrev pub nameless : List ℕ
-    nameless = set was (43470 + slot / 961) 0
+    nameless = set was (h .memory + slot / h .stride) 0
 
-    nameless-other : (q : ℕ) → q ≢ 43470 + slot / 961 → getD nameless q 0 ≡ getD was q 0
-    nameless-other q n = getD-set-other was (43470 + slot / 961) q 0 0 n
+    nameless-other : (q : ℕ) → q ≢ h .memory + slot / h .stride → getD nameless q 0 ≡ getD was q 0
+    nameless-other q n = getD-set-other was (h .memory + slot / h .stride) q 0 0 n
 
-    pub nameless-only : Only was nameless
+    pub nameless-only : Only h was nameless
     nameless-only = record { low = λ q l. nameless-other q (λ z. omega (arith, z, l)); high = λ q l. nameless-other q (λ z. omega (arith, z, l, slot-few s)) }
 
-    pub memory-nameless : {p : Theory} {K : ℕ} → Memory p K h slot was → Memory p K h (slot + 961) nameless
+    pub memory-nameless : {p : Theory} {K : ℕ} → Memory p K h slot was → Memory p K h (slot + h .stride) nameless
     memory-nameless m = memory-more (s .number) (s .is)
-        (memory-but h (grown-by (nameless-other takenAt (λ z. omega (arith, z, slot-few s))) (λ q l. nameless-other q (λ z. omega (arith, z, l, slot-few s)))) (λ q l. nameless-other q (λ z. omega (arith, z, l, s .before)))
-        (λ i l. inl (nameless-other (memoryAt + i) (λ z. omega (arith, z, l, s .is, slot-index s)))) (λ i l. inl (λ q g u. nameless-other q (λ z. omega (arith, z, g, slot-few s)))) (λ i l. inl (λ q g u. nameless-other q (λ z. omega (arith, z, g, slot-few s)))) m)
-        (λ z. let e : getD nameless (memoryAt + s .number) 0 ≡ 0 = ap (λ (i : ℕ). getD nameless (43470 + i) 0) (sym (slot-index s)) ∙ getD-set-same was (43470 + slot / 961) 0 0 (omega (arith, slot-few s, s .room)) in absurd (omega (arith, e, z)))
+        (memory-but h (grown-by (nameless-other (takenAt h) (λ z. omega (arith, z, slot-few s))) (λ q l. nameless-other q (λ z. omega (arith, z, l, slot-few s)))) (λ q l. nameless-other q (λ z. omega (arith, z, l, s .before)))
+        (λ i l. inl (nameless-other (h .memory + i) (λ z. slot-other s i l (omega (arith, z))))) (λ i l. inl (λ q g u. nameless-other q (λ z. omega (arith, z, g, slot-few s)))) (λ i l. inl (λ q g u. nameless-other q (λ z. omega (arith, z, g, slot-few s)))) m)
+        (λ z. let e : getD nameless (h .memory + s .number) 0 ≡ 0 = ap (λ (i : ℕ). getD nameless (h .memory + i) 0) (sym (slot-index s)) ∙ getD-set-same was (h .memory + slot / h .stride) 0 0 (omega (arith, slot-few s, s .room)) in absurd (omega (arith, e, z)))
 
   -- the table of an id is copied into a slot
-  module _ {was mid : List ℕ} {slot next : ℕ} (s : Slot h was slot) (taken : getD was takenAt 0 < 256) (k : Kept h was next) (copied : PartCopied was mid (keptAt next) slot (1 + getD was (keptAt next) 0 * width)) (long : length mid ≡ length was) where
+  module _ {was mid : List ℕ} {slot next : ℕ} (s : Slot h was slot) (taken : getD was (takenAt h) 0 < 256) (k : Kept h was next) (copied : PartCopied was mid (keptAt h next) slot (1 + getD was (keptAt h next) 0 * width)) (long : length mid ≡ length was) where
     abbrev again : List ℕ
-    again = set mid (43470 + slot / 961) next
+    again = set mid (h .memory + slot / h .stride) next
 
-    again-size : getD was (keptAt next) 0 * width ≤ 960
-    again-size = omega (arith, rows-most (k .few) (s .narrow))
+    again-size : 1 + getD was (keptAt h next) 0 * width ≤ h .stride
+    again-size = let most : getD was (keptAt h next) 0 * width ≤ 32 * width = mul-le-mul-right width (k .few) in omega (arith, most, s .laid .wide)
 
-    again-other : (q : ℕ) → q ≢ 43470 + slot / 961 → getD again q 0 ≡ getD mid q 0
-    again-other q n = getD-set-other mid (43470 + slot / 961) q next 0 n
+    again-other : (q : ℕ) → q ≢ h .memory + slot / h .stride → getD again q 0 ≡ getD mid q 0
+    again-other q n = getD-set-other mid (h .memory + slot / h .stride) q next 0 n
 
     again-low : (q : ℕ) → q < slot → getD again q 0 ≡ getD was q 0
     again-low q l = again-other q (λ z. omega (arith, z, l, s .before)) ∙ copied .low q l
 
-    again-high : (q : ℕ) → takenAt ≤ q → getD again q 0 ≡ getD was q 0
+    again-high : (q : ℕ) → takenAt h ≤ q → getD again q 0 ≡ getD was q 0
     again-high q l = again-other q (λ z. omega (arith, z, l, slot-few s)) ∙ copied .high q (omega (arith, l, s .before, again-size))
 
-    again-grown : Grown was again
-    again-grown = grown-by (again-high takenAt (omega arith)) (λ q l. again-high q (omega (arith, l)))
+    again-grown : Grown h was again
+    again-grown = grown-by (again-high (takenAt h) (omega arith)) (λ q l. again-high q (omega (arith, l)))
 
-    again-byte : (i : ℕ) → i < 1 + getD was (keptAt next) 0 * width → getD again (slot + i) 0 ≡ getD was (keptAt next + i) 0
+    again-byte : (i : ℕ) → i < 1 + getD was (keptAt h next) 0 * width → getD again (slot + i) 0 ≡ getD was (keptAt h next + i) 0
     again-byte i l = again-other (slot + i) (λ z. omega (arith, z, l, s .before, again-size)) ∙ copied .part i l
 
     again-table : tableOf (slotTable h again slot) again ≡ tableOf (keptTable h was next) was
-    again-table = table-moved h was again (keptAt next) slot again-byte
+    again-table = table-moved h was again (keptAt h next) slot again-byte
 
-    again-count : getD again slot 0 ≡ getD was (keptAt next) 0
-    again-count = let x : slot ≡ slot + 0 = omega arith in let y : keptAt next + 0 ≡ keptAt next = omega arith in ap (λ (q : ℕ). getD again q 0) x ∙ again-byte 0 (omega arith) ∙ ap (λ (q : ℕ). getD was q 0) y
+    again-count : getD again slot 0 ≡ getD was (keptAt h next) 0
+    again-count = let x : slot ≡ slot + 0 = omega arith in let y : keptAt h next + 0 ≡ keptAt h next = omega arith in ap (λ (q : ℕ). getD again q 0) x ∙ again-byte 0 (omega arith) ∙ ap (λ (q : ℕ). getD was q 0) y
 
     again-memory : {p : Theory} {K : ℕ} → Memory p K h slot was → Memory p K h slot again
-    again-memory m = memory-but h again-grown again-low (λ i l. inl (again-other (memoryAt + i) (λ z. omega (arith, z, l, s .is, slot-index s)) ∙ copied .high (memoryAt + i) (omega (arith, s .before, again-size)))) (λ i l. inl (λ q g u. again-high q (omega (arith, g)))) (λ i l. inl (λ q g u. again-high q (omega (arith, g)))) m
+    again-memory m = memory-but h again-grown again-low (λ i l. inl (again-other (h .memory + i) (λ z. slot-other s i l (omega (arith, z))) ∙ copied .high (h .memory + i) (omega (arith, s .before, again-size)))) (λ i l. inl (λ q g u. again-high q (omega (arith, g)))) (λ i l. inl (λ q g u. again-high q (omega (arith, g)))) m
 
     again-named : HasId h again (slotTable h again slot) next
     again-named = record { kept = kept-grown h again-grown k; count = let c = kept-count h again-grown k in c ∙ sym again-count; same = kept-table h again-grown k ∙ sym again-table }
@@ -592,8 +646,8 @@ module _ (h : Context) where
       memory = λ p K m. (
         again-memory m,
         λ z. memory-more (s .number) (s .is) (again-memory m) (λ y.
-            let here : getD again (memoryAt + s .number) 0 ≡ next = ap (λ (i : ℕ). getD again (43470 + i) 0) (sym (slot-index s)) ∙ getD-set-same mid (43470 + slot / 961) next 0 (omega (arith, slot-few s, s .room, long)) in
-            subst (HasId h again (slotTable h again (961 * s .number))) (sym here) (subst (λ (a : ℕ). HasId h again (slotTable h again a) next) (s .is) again-named)),
+            let here : getD again (h .memory + s .number) 0 ≡ next = ap (λ (i : ℕ). getD again (h .memory + i) 0) (sym (slot-index s)) ∙ getD-set-same mid (h .memory + slot / h .stride) next 0 (omega (arith, slot-few s, s .room, long)) in
+            subst (HasId h again (slotTable h again (h .stride * s .number))) (sym here) (subst (λ (a : ℕ). HasId h again (slotTable h again a) next) (s .is) again-named)),
       );
     }
 
@@ -609,23 +663,23 @@ module _ (h : Context) where
     nameless-count = nameless-other s slot (λ z. omega (arith, z, s .before))
 
     nameless-long : length (nameless s) ≡ length was
-    nameless-long = length-set was (43470 + slot / 961) 0
+    nameless-long = length-set was (h .memory + slot / h .stride) 0
 
     pub left-before : Before h (nameless s) left
-    left-before = record { fluents = refl; characters = refl; wide = refl; narrow = s .narrow; few = omega (arith, nameless-count, few); before = omega (arith, rows-most {n = getD (nameless s) slot 0} {k = 32} (omega (arith, nameless-count, few)) (s .narrow), s .before); room = omega (arith, nameless-long, s .room) }
+    left-before = record { laid = s .laid; fluents = refl; characters = refl; wide = refl; narrow = s .laid .narrow; few = omega (arith, nameless-count, few); before = let most : getD (nameless s) slot 0 * width ≤ 32 * width = mul-le-mul-right width (omega (arith, nameless-count, few)) in omega (arith, most, s .laid .wide, s .before); room = omega (arith, nameless-long, s .room) }
 
-    left-in : InSlot (nameless s) left (slot + 961)
+    left-in : InSlot h (nameless s) left (slot + h .stride)
     left-in = record { number = s .number; rows = ap (λ (a : ℕ). a + 1) (s .is); counted = ap (λ (a : ℕ). getD (nameless s) a 0) (sym (s .is)); before = omega (arith, s .is) }
 
     module _ {t : Table} {mid : List ℕ} {next : ℕ} (b : Before h was t) (long : length mid ≡ length was) (x : Interning h left (nameless s) mid next) where
-      left-low : (q : ℕ) → q < memoryAt → getD mid q 0 ≡ getD was q 0
+      left-low : (q : ℕ) → q < h .memory → getD mid q 0 ≡ getD was q 0
       left-low q l = x .only .low q l ∙ nameless-only s .low q l
 
-      left-only : Only was mid
+      left-only : Only h was mid
       left-only = record { low = left-low; high = λ q l. x .only .high q l ∙ nameless-only s .high q l }
 
-      left-memory : {p : Theory} {K : ℕ} → Memory p K h slot was → Memory p K h (slot + 961) mid × (0 < next → HasId h mid left next)
-      left-memory {p} {K} m = x .told p K (slot + 961) (omega (arith, s .before)) left-in (memory-nameless s m)
+      left-memory : {p : Theory} {K : ℕ} → Memory p K h slot was → Memory p K h (slot + h .stride) mid × (0 < next → HasId h mid left next)
+      left-memory {p} {K} m = x .told p K (slot + h .stride) (omega (arith, s .before)) left-in (memory-nameless s m)
 
       pub left-unnoted : {root a : ℕ} → LeftNoted h t root a slot was mid
       left-unnoted = record { only = left-only; memory = λ p K i m f. left-memory m .0 }
@@ -636,8 +690,9 @@ module _ (h : Context) where
         memory = λ p K i m (u, plays, starts).
             let (m′, named) = left-memory m in
             let here = before-same h mid b left-low in
-            let there : tableOf left mid ≡ tableOf (slotTable h was slot) was = ap (λ (n : ℕ). rowsAt mid width (h .fluents) (h .characters) (slot + 1) n) nameless-count ∙ rows-same was mid width (h .fluents) (h .characters) (slot + 1) (slot + 1) (getD was slot 0) (omega arith) (λ q l. left-low (slot + 1 + q) (omega (arith, l, rows-most few (s .narrow), s .before))) in
-            y .memory p K (slot + 961) (omega (arith, s .before)) (record { number = i .number; rows = i .rows; counted = left-low (961 * i .number) (omega (arith, i .before, s .before)) ∙ i .counted; before = omega (arith, i .before) }) m′
+            let most : getD was slot 0 * width ≤ 32 * width = mul-le-mul-right width few in
+            let there : tableOf left mid ≡ tableOf (slotTable h was slot) was = ap (λ (n : ℕ). rowsAt mid width (h .fluents) (h .characters) (slot + 1) n) nameless-count ∙ rows-same was mid width (h .fluents) (h .characters) (slot + 1) (slot + 1) (getD was slot 0) (omega arith) (λ q l. left-low (slot + 1 + q) (omega (arith, l, most, s .laid .wide, s .before))) in
+            y .memory p K (slot + h .stride) (omega (arith, s .before)) (record { number = i .number; rows = i .rows; counted = left-low (h .stride * i .number) (omega (arith, i .before, s .before)) ∙ i .counted; before = omega (arith, i .before) }) m′
             (λ n z. record {
               kept = z .kept;
               none = λ e. absurd (omega (arith, e, some));

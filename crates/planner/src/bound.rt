@@ -21,7 +21,6 @@ ghost use Rattle.pack.specs.Contracts.Judge.{Readable, Tells};
 ghost use Rattle.planner.specs.Inner.Lists.{slotTable};
 ghost use Rattle.planner.specs.Inner.Explain.{Staged, Free};
 ghost use Rattle.planner.specs.Inner.Bound.{exceeds, NoReason};
-ghost use Rattle.transition.specs.Contracts.Stage.{slotRoom};
 
 // Whether some rule, of those at a place, is above base.
 pub fn can_exceed(pack: &[u8], at: usize, base: usize) -> bool
@@ -50,8 +49,8 @@ pub fn can_exceed(pack: &[u8], at: usize, base: usize) -> bool
 // Whether a deed's character can have no reason for its action in the state in a slot: the action's condition fails in
 // what the character believes, or no rule of the character is above what that belief is worth to it.
 pub fn pointless(pack: &[u8], places: &[u16], p: Context, work: &[u8], slot: usize, d: Deed) -> bool
-    requires { ⌜ Staged (now pack) (now places) p (now work) (slotTable p (now work) slot) (slot + slotRoom)
-        × (d .who < p .characters) × (d .action < p .actions) × Free slot 1 ⌝ }
+    requires { ⌜ Staged (now pack) (now places) p (now work) (slotTable p (now work) slot) (slot + p .stride)
+        × (d .who < p .characters) × (d .action < p .actions) × Free p slot 1 ⌝ }
     ensures { λ r. ⌜ NoReason (now (pack .entry)) (now (places .entry)) p slot (now (work .entry)) (d .who)
         (d .action) r ⌝ }
 {

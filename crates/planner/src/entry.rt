@@ -9,9 +9,10 @@ ghost use mathlib.Core.Path.{_≡_};
 ghost use mathlib.Core.Bool.{true};
 ghost use Prim.Native.Nat.{_+_, _*_, _<_, _≤_};
 ghost use lib.ListN.{length};
+ghost use Rattle.transition.specs.Contracts.Stage.{scratchAt};
 ghost use Rattle.planner.specs.Inner.Lists.{slotTable};
 ghost use Rattle.planner.specs.Inner.Memory.{Before, Place, Storable, KeyPut, Recalled, Remembered};
-ghost use Rattle.planner.specs.Inner.Memory.{goalKey, deedKey, keyAt};
+ghost use Rattle.planner.specs.Inner.Memory.{factsAt, goalKey, deedKey, keyAt};
 
 // What a list is looked for: whose it is, at which nesting its actions are to be explained, and above which utility it
 // is to end.
@@ -64,12 +65,12 @@ pub fn deed_key(d: Deed) -> Key
 }
 
 // The place of the entry for an id and a key.
-pub fn entry_at(id: usize, k: Key) -> usize
-    requires { ⌜ id < 256 ⌝ }
-    ensures { λ r. ⌜ Place 256 44160 7 r ⌝ }
+pub fn entry_at(p: Context, id: usize, k: Key) -> usize
+    requires { ⌜ (p .memory ≤ scratchAt) × (id < 256) ⌝ }
+    ensures { λ r. ⌜ Place 256 (factsAt p) 7 r ⌝ }
 {
     let h = id * 11 + k.who % 8 * 37 + k.number % 32 * 5 + k.nesting % 4;
-    LISTS + 7 * (h % 256)
+    p.memory + LISTS + 7 * (h % 256)
 }
 
 // Whether an entry has a key.
@@ -117,7 +118,7 @@ pub fn recall(work: &mut [u8], p: Context, slot: usize, k: Key) -> u8
     if id == 0 {
         return 0;
     }
-    let at = entry_at(id, k);
+    let at = entry_at(p, id, k);
     if wide(work[at + 6]) != id {
         return 0;
     }
@@ -149,7 +150,7 @@ pub fn remember(work: &mut [u8], p: Context, slot: usize, mark: u8, k: Key)
 {
     let id = id_of(work, p, slot);
     if storable(id, k) {
-        let at = entry_at(id, k);
+        let at = entry_at(p, id, k);
         put_key(work, at, mark, k);
         work[at + 6] = id as u8;
     }

@@ -25,14 +25,12 @@ use pack::places::CHARACTER_UTILITIES;
 use pack::places::CONSENTERS;
 use pack::write::consenter;
 use pack::write::consenters;
-use transition::regions::SLOT;
 ghost use mathlib.Core.Path.{_≡_};
 ghost use mathlib.Core.Bool.{true, false};
 ghost use Prim.Native.Nat.{suc, _+_, _*_, _<_, _≤_};
 ghost use Rattle.planner.specs.Ending.{Explained};
 ghost use Rattle.planner.specs.Inner.Lists.{slotTable, Other, Above, AboveBy, AboveBySome, Agreed};
 ghost use Rattle.planner.specs.Inner.Explain.{Prepared, Free, Answers};
-ghost use Rattle.transition.specs.Contracts.Stage.{slotRoom};
 
 // Whether a deed is explained: not where there can be no reason for it, else as is known or as is found out.
 pub fn explained(
@@ -43,9 +41,9 @@ pub fn explained(
     slot: usize,
     d: Deed,
 ) -> bool
-    requires { ⌜ Prepared (now pack) (now places) p (now work) (slotTable p (now work) slot) (slot + slotRoom)
+    requires { ⌜ Prepared (now pack) (now places) p (now work) (slotTable p (now work) slot) (slot + p .stride)
         × (d .who < p .characters) × (d .action < p .actions) × (0 < p .foresight .0) × (p .foresight .0 ≤ 6)
-        × Free slot (1 + p .foresight .0 * d .nesting .0) ⌝ }
+        × Free p slot (1 + p .foresight .0 * d .nesting .0) ⌝ }
     ensures { λ r. ⌜ Answers (now (pack .entry)) (now (places .entry)) p slot (now (work .entry))
         (now (work .exit)) r (λ th s. Explained th (p .foresight .0) (d .nesting .0) (d .who) (d .action) s) ⌝ }
 {
@@ -77,9 +75,9 @@ pub fn explains(
     slot: usize,
     d: Deed,
 ) -> bool
-    requires { ⌜ Prepared (now pack) (now places) p (now work) (slotTable p (now work) slot) (slot + slotRoom)
+    requires { ⌜ Prepared (now pack) (now places) p (now work) (slotTable p (now work) slot) (slot + p .stride)
         × (d .who < p .characters) × (d .action < p .actions) × (0 < p .foresight .0) × (p .foresight .0 ≤ 6)
-        × Free slot (1 + p .foresight .0 * d .nesting .0) × (0 < d .nesting .0) ⌝ }
+        × Free p slot (1 + p .foresight .0 * d .nesting .0) × (0 < d .nesting .0) ⌝ }
     ensures { λ r. ⌜ Answers (now (pack .entry)) (now (places .entry)) p slot (now (work .entry))
         (now (work .exit)) r (λ th s. Explained th (p .foresight .0) (d .nesting .0) (d .who) (d .action) s) ⌝ }
 {
@@ -88,7 +86,7 @@ pub fn explains(
     if number != 0 {
         return false;
     }
-    let next = slot + SLOT;
+    let next = slot + p.stride;
     let before = table_in(work, p, slot);
     let base = utility(
         pack,
@@ -116,9 +114,9 @@ pub fn extends(
     g: Goal,
     left: usize,
 ) -> bool
-    requires { ⌜ Prepared (now pack) (now places) p (now work) (slotTable p (now work) slot) (slot + slotRoom)
+    requires { ⌜ Prepared (now pack) (now places) p (now work) (slotTable p (now work) slot) (slot + p .stride)
         × (g .who < p .characters) × (0 < p .foresight .0) × (p .foresight .0 ≤ 6)
-        × Free slot (1 + left + p .foresight .0 * g .nesting .0) ⌝ }
+        × Free p slot (1 + left + p .foresight .0 * g .nesting .0) ⌝ }
     ensures { λ r. ⌜ Answers (now (pack .entry)) (now (places .entry)) p slot (now (work .entry))
         (now (work .exit)) r
         (λ th s. Above th (p .foresight .0) (g .nesting .0) (g .who) (g .base) (suc left) s) ⌝ }
@@ -176,9 +174,9 @@ pub fn extends_by(
     g: Goal,
     left: usize,
 ) -> bool
-    requires { ⌜ Prepared (now pack) (now places) p (now work) (slotTable p (now work) slot) (slot + slotRoom)
+    requires { ⌜ Prepared (now pack) (now places) p (now work) (slotTable p (now work) slot) (slot + p .stride)
         × (g .who < p .characters) × (0 < p .foresight .0) × (p .foresight .0 ≤ 6)
-        × Free slot (2 + left + p .foresight .0 * g .nesting .0) ⌝ }
+        × Free p slot (2 + left + p .foresight .0 * g .nesting .0) ⌝ }
     ensures { λ r. ⌜ Answers (now (pack .entry)) (now (places .entry)) p slot (now (work .entry))
         (now (work .exit)) r
         (λ th s. AboveBySome th (p .foresight .0) (g .nesting .0) (g .who) (g .base) (suc left) s) ⌝ }
@@ -211,9 +209,9 @@ pub fn via(
     g: Goal,
     left: usize,
 ) -> bool
-    requires { ⌜ Prepared (now pack) (now places) p (now work) (slotTable p (now work) slot) (slot + slotRoom)
+    requires { ⌜ Prepared (now pack) (now places) p (now work) (slotTable p (now work) slot) (slot + p .stride)
         × (g .who < p .characters) × (x < p .actions) × (0 < p .foresight .0) × (p .foresight .0 ≤ 6)
-        × Free slot (2 + left + p .foresight .0 * g .nesting .0) ⌝ }
+        × Free p slot (2 + left + p .foresight .0 * g .nesting .0) ⌝ }
     ensures { λ r. ⌜ Answers (now (pack .entry)) (now (places .entry)) p slot (now (work .entry))
         (now (work .exit)) r
         (λ th s. AboveBy th (p .foresight .0) (g .nesting .0) (g .who) (g .base) (suc left) x s) ⌝ }
@@ -232,7 +230,7 @@ pub fn via(
     if number != 0 {
         return false;
     }
-    extends(pack, places, p, work, slot + SLOT, g, left)
+    extends(pack, places, p, work, slot + p.stride, g, left)
 }
 
 // Whether the deed's action is explained to each of its consenters other than the one whose deed it is.
@@ -244,9 +242,9 @@ pub fn allowed(
     slot: usize,
     d: Deed,
 ) -> bool
-    requires { ⌜ Prepared (now pack) (now places) p (now work) (slotTable p (now work) slot) (slot + slotRoom)
+    requires { ⌜ Prepared (now pack) (now places) p (now work) (slotTable p (now work) slot) (slot + p .stride)
         × (d .action < p .actions) × (0 < p .foresight .0) × (p .foresight .0 ≤ 6)
-        × Free slot (1 + p .foresight .0 * d .nesting .0) ⌝ }
+        × Free p slot (1 + p .foresight .0 * d .nesting .0) ⌝ }
     ensures { λ r. ⌜ Answers (now (pack .entry)) (now (places .entry)) p slot (now (work .entry))
         (now (work .exit)) r (λ th s. Agreed th (p .foresight .0) (d .nesting .0) (d .who) (d .action) s) ⌝ }
 {
@@ -274,9 +272,9 @@ pub fn fine(
     c: usize,
     d: Deed,
 ) -> bool
-    requires { ⌜ Prepared (now pack) (now places) p (now work) (slotTable p (now work) slot) (slot + slotRoom)
+    requires { ⌜ Prepared (now pack) (now places) p (now work) (slotTable p (now work) slot) (slot + p .stride)
         × (c < p .characters) × (d .action < p .actions) × (0 < p .foresight .0) × (p .foresight .0 ≤ 6)
-        × Free slot (1 + p .foresight .0 * d .nesting .0) ⌝ }
+        × Free p slot (1 + p .foresight .0 * d .nesting .0) ⌝ }
     ensures { λ r. ⌜ Answers (now (pack .entry)) (now (places .entry)) p slot (now (work .entry))
         (now (work .exit)) r
         (λ th s. Other (d .who) c → Explained th (p .foresight .0) (d .nesting .0) c (d .action) s) ⌝ }

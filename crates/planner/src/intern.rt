@@ -1,14 +1,12 @@
-// A transposition table, behind a step's scratch. Tables of states are interned in it: each is kept once, under a
+// A transposition table, behind the slots. Tables of states are interned in it: each is kept once, under a
 // number that is its id, by which what is known of steps and of lists is found.
 //
-// An id is the number of the table's first block of 12 bytes. A table is held byte for byte against the one that its
+// An id is the number of the table's first block, from 1 on. A table is held byte for byte against the one that its
 // hash leads to, so nothing proved depends on the hash. Where there is no room, all is forgotten. A state is handed on
 // as the slot that its table stands in.
 use crate::limits::Context;
-use crate::regions::BEFORE_TABLES;
+use crate::regions::BLOCKS;
 use crate::regions::HASHED;
-use crate::regions::IDS;
-use crate::regions::KEPT;
 use crate::regions::TABLES;
 use crate::regions::TAKEN;
 use chart::bytes::clear;
@@ -16,9 +14,8 @@ use chart::bytes::copy_part;
 use chart::values::first_other;
 use pack::number::wide;
 use pack::table::Table;
-use transition::regions::SLOT;
 ghost use mathlib.Core.Path.{_≡_};
-ghost use mathlib.Core.Bool.{true};
+ghost use mathlib.Core.Bool.{true, false};
 ghost use Prim.Native.Nat.{_+_, _*_, _<_, _≤_};
 ghost use lib.ListN.{length};
 ghost use Rattle.planner.specs.Inner.Lists.{slotTable};
@@ -55,16 +52,17 @@ pub fn hash(work: &[u8], from: usize, n: usize) -> usize
 // Whether a table is the one that is kept under an id.
 pub fn has_id(work: &[u8], p: Context, t: Table, id: usize) -> bool
     requires { ⌜ Before p (now work) t × (id < 256) ⌝ }
-    ensures { λ r. ⌜ (r ≡ true → HasId p (now (work .entry)) t id) ⌝ }
+    ensures { λ r. ⌜ (r ≡ true → HasId p (now (work .entry)) t id)
+        × (r ≡ false → ¬ HasId p (now (work .entry)) t id) ⌝ }
 {
     if id == 0 {
         return false;
     }
     let n = t.nodes * t.width;
-    if 12 * wide(work[TAKEN]) + 11 < 12 * id + n {
+    if p.block * wide(work[p.memory + TAKEN]) + p.block <= p.block * id + n {
         return false;
     }
-    let at = KEPT + 12 * id;
+    let at = p.memory + TABLES - p.block + p.block * id;
     if wide(work[at]) != t.nodes {
         return false;
     }
@@ -77,14 +75,15 @@ pub fn store(work: &mut [u8], p: Context, t: Table) -> usize
     ensures { λ r. ⌜ Stored p t (now (work .entry)) (now (work .exit)) r ⌝ }
 {
     let n = t.nodes * t.width;
-    let taken = wide(work[TAKEN]);
-    if 3059 < 12 * taken + n {
+    let taken = wide(work[p.memory + TAKEN]);
+    let more = n / p.block + 1;
+    if BLOCKS < taken + more {
         return 0;
     }
-    let at = TABLES + 12 * taken;
+    let at = p.memory + TABLES + p.block * taken;
     work[at] = t.nodes as u8;
     copy_part(work, t.rows, at + 1, n);
-    work[TAKEN] = (taken + n / 12 + 1) as u8;
+    work[p.memory + TAKEN] = (taken + more) as u8;
     taken + 1
 }
 
@@ -97,7 +96,7 @@ pub fn keep(work: &mut [u8], p: Context, t: Table) -> usize
     if id != 0 {
         return id;
     }
-    clear(work, IDS, BEFORE_TABLES);
+    clear(work, p.memory, TABLES);
     store(work, p, t)
 }
 
@@ -106,7 +105,7 @@ pub fn intern(work: &mut [u8], p: Context, t: Table) -> usize
     requires { ⌜ Before p (now work) t ⌝ }
     ensures { λ r. ⌜ Stored p t (now (work .entry)) (now (work .exit)) r ⌝ }
 {
-    let at = HASHED + hash(work, t.rows, t.nodes * t.width);
+    let at = p.memory + HASHED + hash(work, t.rows, t.nodes * t.width);
     let known = wide(work[at]);
     if has_id(work, p, t, known) {
         return known;
@@ -123,7 +122,7 @@ pub fn intern_slot(work: &mut [u8], p: Context, slot: usize) -> usize
 {
     let t = table_in(work, p, slot);
     let id = intern(work, p, t);
-    work[IDS + (slot + 1) / SLOT] = id as u8;
+    work[p.memory + (slot + 1) / p.stride] = id as u8;
     id
 }
 
@@ -132,7 +131,7 @@ pub fn id_of(work: &mut [u8], p: Context, slot: usize) -> usize
     requires { ⌜ Before p (now work) (slotTable p (now work) slot) ⌝ }
     ensures { λ r. ⌜ Interning p (slotTable p (now (work .entry)) slot) (now (work .entry)) (now (work .exit)) r ⌝ }
 {
-    let known = wide(work[IDS + (slot + 1) / SLOT]);
+    let known = wide(work[p.memory + (slot + 1) / p.stride]);
     if known != 0 {
         return known;
     }

@@ -91,7 +91,7 @@ pub fn within_reach(
     if h.left < 2 {
         return true;
     }
-    if wide(work[TAKEN]) < ENOUGH {
+    if wide(work[p.memory + TAKEN]) < ENOUGH {
         return true;
     }
     let t = table_in(work, p, slot);

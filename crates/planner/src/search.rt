@@ -1,11 +1,10 @@
 // Search: the list search of the author, shortest lists first, and the public call. A state is row 0 of the table in a
 // slot of the work buffer; the slots behind it are free.
 //
-// Iterative deepening (`deepen`) over a depth-limited search (`completes`). The memory is emptied in two parts, one
-// before the nodes are laid out and one after: each is below 2,048 bytes, up to which C's `memset` writes by plain
-// stores. The list is written on the way back from its end, so nothing is put down where there is none; `none` is a
-// utility of 0, since one above another is at least 1. Everybody is asked: the character left out is the number of
-// characters, which no consenter has.
+// Iterative deepening (`deepen`) over a depth-limited search (`completes`). The memory is emptied in two parts: each is
+// below 2,048 bytes, up to which C's `memset` writes by plain stores. The list is written on the way back from its end,
+// so nothing is put down where there is none; `none` is a utility of 0, since one above another is at least 1.
+// Everybody is asked: the character left out is the number of characters, which no consenter has.
 use crate::Found;
 use crate::bound::can_exceed;
 use crate::entry::AUTHOR;
@@ -20,14 +19,13 @@ use crate::limits::Context;
 use crate::limits::Foresight;
 use crate::limits::Nesting;
 use crate::limits::Story;
+use crate::limits::laid_out;
 use crate::limits::searchable;
 use crate::prune::Hope;
 use crate::prune::next_promising;
 use crate::reach::within_reach;
-use crate::regions::BEFORE_LISTS;
-use crate::regions::IDS;
 use crate::regions::LISTS;
-use crate::regions::OF_LISTS;
+use crate::regions::TABLES;
 use crate::steps::known_step;
 use chart::bytes::clear;
 use chart::bytes::copy_part;
@@ -46,7 +44,6 @@ use pack::number::wide;
 use pack::places::PLACES;
 use pack::places::UTILITIES;
 use pack::refusal::NO_ENDING;
-use transition::regions::SLOT;
 ghost use mathlib.Core.Path.{_≡_};
 ghost use mathlib.Core.Bool.{true, false, _&&_};
 ghost use mathlib.Core.List.{List};
@@ -59,7 +56,6 @@ ghost use Rattle.planner.specs.Inner.Explain.{Staged, Free};
 ghost use Rattle.planner.specs.Inner.Search.{Underway, Finds, EndsHere, Outset, Repeated, OnPath, Laying};
 ghost use Rattle.planner.specs.Inner.Search.{Layable, LaidStart, ShortestFrom, Seekable, SearchPutFrom};
 ghost use Rattle.planner.specs.Promises.{Searching};
-ghost use Rattle.transition.specs.Contracts.Stage.{slotRoom};
 
 // The list that was found: how many actions it has, and the author's utility at its end; no actions where there is
 // none.
@@ -82,13 +78,13 @@ pub fn completes(
 ) -> usize
     requires { ⌜ Underway (g .nesting .0) (g .base) (now pack) (now places) p (now work) done left
         × (0 < p .foresight .0) × (p .foresight .0 ≤ 6)
-        × Free (done * slotRoom) (1 + left + p .foresight .0 * g .nesting .0)
+        × Free p (done * p .stride) (1 + left + p .foresight .0 * g .nesting .0)
         × (done + left ≤ length (now list)) ⌝ }
     ensures { λ r. ⌜ Finds (g .nesting .0) (g .base) (now (pack .entry)) (now (places .entry)) p done left
         (now (list .entry)) (now (list .exit)) (now (work .entry)) (now (work .exit)) r
         (λ th. Ends th (p .foresight .0) (g .nesting .0) (g .base)) ⌝ }
 {
-    let slot = done * SLOT;
+    let slot = done * p.stride;
     if left == 0 {
         return ends(pack, places, p, work, slot, g.base);
     }
@@ -126,7 +122,7 @@ pub fn extent(work: &[u8], p: Context, slot: usize) -> usize
 // Whether the state in a slot, the last of `done` + 1, is one of those in the slots before it. Written charts stand in
 // them, so equal bytes are the same state, and only they are.
 pub fn repeats(work: &[u8], p: Context, slot: usize, done: usize) -> bool
-    requires { ⌜ Before p (now work) (slotTable p (now work) slot) × (slot ≡ done * slotRoom)
+    requires { ⌜ Before p (now work) (slotTable p (now work) slot) × (slot ≡ done * p .stride)
         × OnPath p (now work) done ⌝ }
     ensures { λ r. ⌜ (r ≡ true → Repeated p (now (work .entry)) slot done)
         × (r ≡ false → ¬ Repeated p (now (work .entry)) slot done) ⌝ }
@@ -134,7 +130,7 @@ pub fn repeats(work: &[u8], p: Context, slot: usize, done: usize) -> bool
     let n = extent(work, p, slot);
     let mut i = 0;
     while i < done {
-        if n <= first_other(work, slot, i * SLOT, n) {
+        if n <= first_other(work, slot, i * p.stride, n) {
             return true;
         }
         i += 1;
@@ -155,13 +151,13 @@ pub fn completes_after(
 ) -> usize
     requires { ⌜ Underway (g .nesting .0) (g .base) (now pack) (now places) p (now work) done (suc left)
         × (0 < p .foresight .0) × (p .foresight .0 ≤ 6)
-        × Free (done * slotRoom) (2 + left + p .foresight .0 * g .nesting .0)
+        × Free p (done * p .stride) (2 + left + p .foresight .0 * g .nesting .0)
         × (done + suc left ≤ length (now list)) ⌝ }
     ensures { λ r. ⌜ Finds (g .nesting .0) (g .base) (now (pack .entry)) (now (places .entry)) p done (suc left)
         (now (list .entry)) (now (list .exit)) (now (work .entry)) (now (work .exit)) r
         (λ th. Ends th (p .foresight .0) (g .nesting .0) (g .base)) ⌝ }
 {
-    let slot = done * SLOT;
+    let slot = done * p.stride;
     let actions = p.actions;
     let hope = Hope {
         whose: 0,
@@ -181,8 +177,8 @@ pub fn completes_after(
 
 // The author's utility in the state in a slot where it is above base, or 0.
 pub fn ends(pack: &[u8], places: &[u16], p: Context, work: &[u8], slot: usize, base: usize) -> usize
-    requires { ⌜ Staged (now pack) (now places) p (now work) (slotTable p (now work) slot) (slot + slotRoom)
-        × Free slot 1 ⌝ }
+    requires { ⌜ Staged (now pack) (now places) p (now work) (slotTable p (now work) slot) (slot + p .stride)
+        × Free p slot 1 ⌝ }
     ensures { λ r. ⌜ EndsHere base (now (pack .entry)) (now (places .entry)) p slot (now (work .entry)) r ⌝ }
 {
     let t = table_in(work, p, slot);
@@ -204,13 +200,13 @@ pub fn completes_by(
 ) -> usize
     requires { ⌜ Underway (g .nesting .0) (g .base) (now pack) (now places) p (now work) done (suc left)
         × (x < p .actions) × (0 < p .foresight .0) × (p .foresight .0 ≤ 6)
-        × Free (done * slotRoom) (2 + left + p .foresight .0 * g .nesting .0)
+        × Free p (done * p .stride) (2 + left + p .foresight .0 * g .nesting .0)
         × (done + suc left ≤ length (now list)) ⌝ }
     ensures { λ r. ⌜ Finds (g .nesting .0) (g .base) (now (pack .entry)) (now (places .entry)) p done (suc left)
         (now (list .entry)) (now (list .exit)) (now (work .entry)) (now (work .exit)) r
         (λ th. EndsBy th (p .foresight .0) (g .nesting .0) (g .base) x) ⌝ }
 {
-    let slot = done * SLOT;
+    let slot = done * p.stride;
     let nesting = g.nesting;
     let deed = Deed {
         who: p.characters,
@@ -244,7 +240,8 @@ pub fn deepen(
     most: usize,
 ) -> Ended
     requires { ⌜ Outset (g .base) (now pack) (now places) p (now work) × (0 < p .foresight .0)
-        × (p .foresight .0 ≤ 6) × (g .nesting .0 ≤ 3) × (most ≤ 8) × (8 ≤ length (now list)) ⌝ }
+        × (p .foresight .0 ≤ 6) × (most ≤ 8) × (8 ≤ length (now list))
+        × Free p 0 (1 + most + p .foresight .0 * g .nesting .0) ⌝ }
     ensures { λ r. ⌜ ShortestFrom most (g .nesting .0) (g .base) (now (pack .entry)) (now (places .entry)) p
         (now (list .entry)) (now (list .exit)) (now (work .entry)) (now (work .exit)) r ⌝ }
 {
@@ -262,20 +259,20 @@ pub fn deepen(
     Ended { count: 0, after: 0 }
 }
 
-// Lays the nodes that are read from `first` on out in the first slot, merged, and empties the memory: what is known of
-// lists first and the rest last, since each by itself is short enough to be cleared by plain stores.
+// Lays the nodes that are read from `first` on out in the first slot, merged, and empties the memory behind the slots,
+// in which the nodes may have been merged.
 pub fn lay_start(pack: &[u8], first: usize, nodes: usize, p: Context, work: &mut [u8])
     requires { ⌜ Layable (now pack) first nodes p (now work) ⌝ }
     ensures { λ _. ⌜ ((T : List Node) → Laying T (now (pack .entry)) first nodes p (now (work .entry))
         → LaidStart T p (now (work .entry)) (now (work .exit))) ⌝ }
 {
-    clear(work, LISTS, OF_LISTS);
     copy_table(pack, first, nodes, work, 0, p.fluents, p.characters);
     let width = p.fluents + p.characters;
     let rows = merge_table(work, nodes, width, p.fluents, p.characters);
     work[0] = rows as u8;
     copy_part(work, MERGED, 1, rows * width);
-    clear(work, IDS, BEFORE_LISTS);
+    clear(work, p.memory, LISTS);
+    clear(work, p.memory + LISTS, TABLES - LISTS);
 }
 
 // The search from what node 0 means of the nodes that are read from `first` on. The work buffer is cleared.
@@ -333,13 +330,7 @@ pub fn search(
     match check_lent(nodes, enough, there) {
         Number::Refused(number, at) => Found::Refused(number, at),
         Number::Is(_, _) => {
-            let context = Context {
-                actions: p.actions,
-                triggers: p.triggers,
-                fluents: p.fluents,
-                characters: p.characters,
-                foresight: k,
-            };
+            let context = laid_out(p, k, 1 + t.0 + k.0 * e.0);
             search_nodes(pack, &places, context, p.first, p.nodes, t, e, list, work)
         }
     }

@@ -3,14 +3,12 @@ use crate::intern::id_of;
 use crate::intern::intern_slot;
 use crate::intern::table_in;
 use crate::limits::Context;
-use crate::regions::IDS;
-use crate::regions::KEPT;
 use crate::regions::STEPS;
+use crate::regions::TABLES;
 use chart::bytes::copy_part;
 use pack::number::wide;
 use pack::refusal::CONDITION;
 use pack::table::Table;
-use transition::regions::SLOT;
 use transition::step::Move;
 use transition::step::step_slot;
 ghost use mathlib.Core.Path.{_≡_};
@@ -18,17 +16,17 @@ ghost use mathlib.Core.Bool.{true};
 ghost use Prim.Native.Nat.{_+_, _*_, _<_, _≤_};
 ghost use lib.ListN.{length, getD};
 ghost use Rattle.planner.specs.Inner.Lists.{slotTable};
-ghost use Rattle.planner.specs.Inner.Memory.{Before, Kept, Place, StepRead, StepPut};
+ghost use Rattle.planner.specs.Inner.Memory.{stepsAt, Before, Kept, Place, StepRead, StepPut};
 ghost use Rattle.planner.specs.Inner.Memory.{Noted, Slot, Again, LeftNoted};
 ghost use Rattle.planner.specs.Inner.Explain.{Steppable, Advances};
-ghost use Rattle.transition.specs.Contracts.Stage.{slotRoom};
+ghost use Rattle.transition.specs.Contracts.Stage.{scratchAt};
 
 // The place of the entry for an action in a row of the table of an id.
-pub fn step_at(id: usize, root: usize, action: usize) -> usize
-    requires { ⌜ (id < 256) × (root < 256) × (action < 256) ⌝ }
-    ensures { λ r. ⌜ Place 128 43648 4 r ⌝ }
+pub fn step_at(p: Context, id: usize, root: usize, action: usize) -> usize
+    requires { ⌜ (p .memory ≤ scratchAt) × (id < 256) × (root < 256) × (action < 256) ⌝ }
+    ensures { λ r. ⌜ Place 128 (stepsAt p) 4 r ⌝ }
 {
-    STEPS + 4 * ((id * 11 + root * 5 + action) % 128)
+    p.memory + STEPS + 4 * ((id * 11 + root * 5 + action) % 128)
 }
 
 // Whether an entry is that one.
@@ -64,9 +62,9 @@ pub fn note(work: &mut [u8], p: Context, t: Table, root: usize, action: usize, n
     requires { ⌜ Before p (now work) t × (root < 256) × (action < 256) × (next < 256) ⌝ }
     ensures { λ _. ⌜ Noted p t root action next (now (work .entry)) (now (work .exit)) ⌝ }
 {
-    let id = wide(work[IDS + t.rows / SLOT]);
+    let id = wide(work[p.memory + t.rows / p.stride]);
     if id != 0 {
-        let at = step_at(id, root, action);
+        let at = step_at(p, id, root, action);
         store_step(work, at, id, root, action, next);
     }
 }
@@ -79,10 +77,10 @@ pub fn again(work: &mut [u8], p: Context, next: usize, slot: usize) -> u8
     if next == 0 {
         return CONDITION;
     }
-    let from = KEPT + 12 * next;
+    let from = p.memory + TABLES - p.block + p.block * next;
     let nodes = wide(work[from]);
     copy_part(work, from, slot, 1 + nodes * (p.fluents + p.characters));
-    work[IDS + slot / SLOT] = next as u8;
+    work[p.memory + slot / p.stride] = next as u8;
     0
 }
 
@@ -92,7 +90,7 @@ pub fn note_left(work: &mut [u8], p: Context, t: Table, root: usize, action: usi
         × (getD (now work) slot 0 ≤ 32) ⌝ }
     ensures { λ _. ⌜ LeftNoted p t root action slot (now (work .entry)) (now (work .exit)) ⌝ }
 {
-    work[IDS + slot / SLOT] = 0;
+    work[p.memory + slot / p.stride] = 0;
     let next = intern_slot(work, p, slot);
     if next != 0 {
         note(work, p, t, root, action, next);
@@ -110,24 +108,24 @@ pub fn known_step(
     root: usize,
 ) -> u8
     requires { ⌜ Steppable (now pack) (now places) p action (now work) (slotTable p (now work) slot) root
-        (slot + slotRoom) ⌝ }
+        (slot + p .stride) ⌝ }
     ensures { λ r. ⌜ Advances (now (pack .entry)) (now (places .entry)) p action slot root (now (work .entry))
         (now (work .exit)) r ⌝ }
 {
     let t = table_in(work, p, slot);
     let id = id_of(work, p, slot);
-    let at = step_at(id, root, action);
+    let at = step_at(p, id, root, action);
     if step_is(work, at, id, root, action) {
         let next = wide(work[at + 3]);
-        return again(work, p, next, slot + SLOT);
+        return again(work, p, next, slot + p.stride);
     }
     let m = Move {
         action,
         triggers: p.triggers,
     };
-    let number = step_slot(pack, places, m, work, t, root, slot + SLOT);
+    let number = step_slot(pack, places, m, work, t, root, slot + p.stride);
     if number == 0 {
-        note_left(work, p, t, root, action, slot + SLOT);
+        note_left(work, p, t, root, action, slot + p.stride);
     } else {
         note(work, p, t, root, action, 0);
     }

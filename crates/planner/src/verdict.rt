@@ -6,8 +6,8 @@ use crate::limits::Context;
 use crate::limits::Foresight;
 use crate::limits::Nesting;
 use crate::limits::explainable;
-use crate::regions::BEFORE_TABLES;
-use crate::regions::IDS;
+use crate::limits::laid_out;
+use crate::regions::TABLES;
 use chart::bytes::clear;
 use chart::bytes::sweep;
 use chart::call::WORK_ROOM;
@@ -63,7 +63,7 @@ pub fn verdict_in(
         (d .action) (p .foresight .0) (d .nesting .0) (now (work .entry)) (now (work .exit)) r ⌝ }
 {
     copy_table(chart, 1, nodes, work, 0, p.fluents, p.characters);
-    clear(work, IDS, BEFORE_TABLES);
+    clear(work, p.memory, TABLES);
     let verdict = explained(pack, places, p, work, 0, d);
     sweep(work, 0, WORK_ROOM);
     verdict
@@ -91,13 +91,7 @@ pub fn verdict(
     match check_lent(nodes, WORK_ROOM <= work.len(), there) {
         Number::Refused(number, at) => Judged::Refused(number, at),
         Number::Is(n, _) => {
-            let context = Context {
-                actions: p.actions,
-                triggers: p.triggers,
-                fluents: p.fluents,
-                characters: p.characters,
-                foresight: k,
-            };
+            let context = laid_out(p, k, 1 + k.0 * e.0);
             let deed = Deed {
                 who: character,
                 nesting: e,

@@ -5,6 +5,7 @@ use mathlib.Core.Bool.{Bool, true, false}
 use mathlib.Core.Option.{Option, none}
 use mathlib.Core.Logic.{_≢_}
 use mathlib.Core.List.{List}
+use native.Mathlib.Nat.{mul-le-mul-right}
 use native.Mathlib.Omega.{arith}
 use lib.ListN.{length}
 use Rattle.pack.specs.Syntax.{Node, Theory}
@@ -25,7 +26,7 @@ use Rattle.transition.specs.Laws.Settled.{Going, going-start, going-on}
 use Rattle.transition.specs.Contracts.Cause.{Tabled}
 use Rattle.transition.specs.Inner.Change.{Scene, Stands}
 use Rattle.transition.specs.Inner.Fire.{Triggered, Firable, FiredBelow}
-use Rattle.transition.specs.Contracts.Stage.{StageRoom, SlotOnly, InSlot, Staged}
+use Rattle.transition.specs.Contracts.Stage.{scratchAt, StageRoom, SlotOnly, InSlot, Staged}
 use Rattle.transition.specs.Contracts.Play.{Theorized, Setting, Slotted, Left, SettledIn}
 use Rattle.transition.specs.Laws.ChangedRows.{small}
 use Rattle.transition.proofs.PartOne.{clash}
@@ -45,10 +46,10 @@ module _ (p : Theory) (z : State) (U : List Node) (w : Starts (p .characters) z 
   is-loud : (((i : ℕ) → i < length U → firing (p .triggers) (meaning C U i) ≡ Option.none) → ⊥) → ¬ Quiet p z
   is-loud f q = let o = w .0 .ordered in f (quiet p U (ordered-reached C U o) (o .closed) (some U (o .whole)) .0 (subst (Quiet p) (sym (w .1)) q))
 
-pub only-none : (was : List ℕ) (slot : ℕ) → SlotOnly was was slot
+pub only-none : {w : ℕ} (was : List ℕ) (slot : ℕ) → SlotOnly w was was slot
 only-none was slot = record { low = λ q l. refl; mid = λ q l k. refl; high = λ q l. refl }
 
-pub only-then : {was mid now : List ℕ} {slot : ℕ} → SlotOnly was mid slot → SlotOnly mid now slot → SlotOnly was now slot
+pub only-then : {w : ℕ} {was mid now : List ℕ} {slot : ℕ} → SlotOnly w was mid slot → SlotOnly w mid now slot → SlotOnly w was now slot
 only-then x y = record { low = λ q l. y .low q l ∙ x .low q l; mid = λ q l k. y .mid q l k ∙ x .mid q l k; high = λ q l. y .high q l ∙ x .high q l }
 
 -- the triggers of a theory that is found
@@ -63,7 +64,7 @@ pub record InRound (p : Theory) (s : State) (t : Table) (was now : List ℕ) (sl
   pub going : Going p s left state
   pub holds : InSlot t state now slot nodes
   pub few : nodes ≤ 32
-  pub only : SlotOnly was now slot
+  pub only : SlotOnly (t .width) was now slot
 
 -- the table in the slot
 abbrev pub tableIn : Table → (slot nodes : ℕ) → Table
@@ -93,8 +94,8 @@ module _ {p : Theory} {T : List Node} {pack places : List ℕ} {actions triggers
   }
 
   -- where the table lies
-  pub slot-small : (nodes : ℕ) → nodes ≤ 32 → slot + 1 + nodes * t .width ≤ 28832
-  slot-small nodes l = let slim : t .width ≤ 30 = omega (arith, x .tabled .fits .wide, small (x .tabled)) in omega (arith, rows-most l slim, x .room .slot-room)
+  pub slot-small : (nodes : ℕ) → nodes ≤ 32 → slot + 1 + nodes * t .width ≤ scratchAt
+  slot-small nodes l = let most : nodes * t .width ≤ 32 * t .width = mul-le-mul-right (t .width) l in omega (arith, most, x .room .slot-room)
 
   module _ {now : List ℕ} {nodes rounds : ℕ} (g : InRound p s₀ t was now slot nodes rounds) (long : length now ≡ length was) where
     abbrev U : List Node

@@ -5,6 +5,7 @@ use mathlib.Core.Bool.{Bool, true}
 use mathlib.Core.Logic.{inl, inr, ⊎-elim, by-cases}
 use mathlib.Core.List.{List}
 use native.Mathlib.Decide.{decLt}
+use native.Mathlib.Nat.{mul-le-mul-right}
 use native.Mathlib.Omega.{arith}
 use lib.ListN.{length, getD, set}
 use borrow.Author.Count.{below-more}
@@ -30,7 +31,7 @@ use Rattle.transition.specs.Laws.Changed as changed
 use Rattle.transition.specs.Laws.Changed.{acted, There}
 use Rattle.transition.specs.Contracts.Cause.{told, Telling, Tellable, ToldWritten}
 use Rattle.transition.specs.Inner.Change.{Scene, Stands, at}
-use Rattle.transition.specs.Contracts.Stage.{StageRoom, SlotOnly, InSlot, Staged}
+use Rattle.transition.specs.Contracts.Stage.{slotRoom, scratchAt, StageRoom, SlotOnly, InSlot, Staged}
 use Rattle.transition.specs.Contracts.Play.{Slotted, Acted}
 use Rattle.transition.specs.Inner.Round.{Silent, Caused, Rewritten, SlotTable, Everyone}
 use Rattle.transition.proofs.Effects.{untold-write}
@@ -164,13 +165,16 @@ module _ {was : List ℕ} {t : Table} {slot : ℕ} (p : SlotTable was t slot) wh
   sized : (k : ℕ) → k ≤ 32 → k * w ≤ 960
   sized k l = omega (arith, rows-most l (p .slim))
 
-  pub slot-levels : Levels was n w f C (t .rows) 36036 36264 36492
-  slot-levels = record { few = omega (arith, p .few); wide = p .wide; source = omega (arith, sized n (p .few), p .rows, p .slot-room); new = omega (arith, p .few); old = omega (arith, p .few); leads = omega (arith, p .few, p .room) }
+  within : (k : ℕ) → k ≤ 32 → slot + 1 + k * w ≤ scratchAt
+  within k l = let most : k * w ≤ 32 * w = mul-le-mul-right w l in omega (arith, most, p .slot-room)
 
-  module _ {mid : List ℕ} {count : ℕ} (z : Parted was mid n w f C (t .rows) 36036 36264 36492 32 count) where
+  pub slot-levels : Levels was n w f C (t .rows) 47508 47736 47964
+  slot-levels = record { few = omega (arith, p .few); wide = p .wide; source = omega (arith, within n (p .few), p .rows); new = omega (arith, p .few); old = omega (arith, p .few); leads = omega (arith, p .few, p .room) }
+
+  module _ {mid : List ℕ} {count : ℕ} (z : Parted was mid n w f C (t .rows) 47508 47736 47964 32 count) where
     -- the rows are where they were
     same-table : tableOf t mid ≡ tableOf t was
-    same-table = rows-same was mid w f C (t .rows) (t .rows) n (p .wide) (λ q l. z .low (t .rows + q) (omega (arith, sized n (p .few), p .rows, p .slot-room)))
+    same-table = rows-same was mid w f C (t .rows) (t .rows) n (p .wide) (λ q l. z .low (t .rows + q) (omega (arith, within n (p .few), p .rows)))
 
     size-slot : length (tableOf t mid) ≡ n
     size-slot = rows-length mid w f C (t .rows) n
@@ -182,7 +186,7 @@ module _ {was : List ℕ} {t : Table} {slot : ℕ} (p : SlotTable was t slot) wh
         ordered : Ordered C (tableOf t mid)
         ordered = subst (Ordered C) (sym same-table) (p .ordered)
 
-    pub slot-classed : Classed mid n w f C (t .rows) 36264
+    pub slot-classed : Classed mid n w f C (t .rows) 47736
     slot-classed = z .few few-classes .0
 
     -- each row is a class of its own: the table is written as it stands
@@ -197,19 +201,19 @@ module _ {was : List ℕ} {t : Table} {slot : ℕ} (p : SlotTable was t slot) wh
       only = record { low = λ q l. z .low q (omega (arith, p .slot-room)); mid = λ q l k. z .low q (omega arith); high = λ q l. z .high q (omega (arith, p .few)) };
     }
 
-    pub slot-room : length mid ≡ length was → Room mid n w f C (t .rows) 36264 36720
-    slot-room long = record { wide = p .wide; source = omega (arith, sized n (p .few), p .rows, p .slot-room); classes = omega (arith, p .few); most = count; below = λ i l. omega (arith, grows (classAt mid 36264) i n l, z .few few-classes .1); target = omega (arith, sized count few-classes, long, p .room) }
+    pub slot-room : length mid ≡ length was → Room mid n w f C (t .rows) 47736 48192
+    slot-room long = record { wide = p .wide; source = omega (arith, within n (p .few), p .rows); classes = omega (arith, p .few); most = count; below = λ i l. omega (arith, grows (classAt mid 47736) i n l, z .few few-classes .1); target = omega (arith, sized count few-classes, long, p .room) }
 
-    module _ {now : List ℕ} {r : ℕ} (o : WrittenOut mid now n w f C (t .rows) 36720 r) where
-      pub slot-few : (0 < r) × (r ≤ 32) × (r * w ≤ 960)
+    module _ {now : List ℕ} {r : ℕ} (o : WrittenOut mid now n w f C (t .rows) 48192 r) where
+      pub slot-few : (0 < r) × (r ≤ 32) × (r * w ≤ 960) × (slot + 1 + r * w ≤ scratchAt)
       slot-few =
           let most : r ≤ 32 = omega (arith, o .few, p .few) in
-          (omega (arith, rows-length now w f C 36720 r, some (rowsAt now w f C 36720 r) (o .written .ordered .whole)), most, sized r most)
+          (omega (arith, rows-length now w f C 48192 r, some (rowsAt now w f C 48192 r) (o .written .ordered .whole)), most, sized r most, within r most)
 
-      pub slot-done : {now′ : List ℕ} → length now ≡ length was → PartCopied (set now slot r) now′ 36720 (slot + 1) (r * w) → Acted (stateOf t was 0) t was now′ slot r
+      pub slot-done : {now′ : List ℕ} → length now ≡ length was → PartCopied (set now slot r) now′ 48192 (slot + 1) (r * w) → Acted (stateOf t was 0) t was now′ slot r
       slot-done {now′} long c =
-          let (pos, most, narrow) = slot-few in
-          let (holds, only) = put-down t was now now′ (p .wide) (p .slot-room) (omega arith) (omega (arith, long, p .room)) pos most narrow (o .written, o .means ∙ ap (λ (T : List Node). meaning C T 0) same-table)
+          let (pos, most, narrow, inside) = slot-few in
+          let (holds, only) = put-down t was now now′ (p .wide) (p .slot-room) (omega arith) (omega (arith, long, p .room)) pos most (o .written, o .means ∙ ap (λ (T : List Node). meaning C T 0) same-table)
           (λ q l. o .low q (omega arith) ∙ z .low q (omega arith)) (λ q l. o .high q (omega (arith, narrow)) ∙ z .high q (omega (arith, p .few))) c in
           record { holds = holds; only = only }
 
@@ -223,15 +227,15 @@ module _ {s : Scene} {pack places effects was : List ℕ} {h : Change} {t : Tabl
     slim = omega (arith, x .tabled .fits .wide, small (x .tabled))
 
     -- only the rows in the slot have changed
-    slot-only : SlotOnly was mid slot
+    slot-only : SlotOnly (t .width) was mid slot
     slot-only = record {
       low = λ q l. g .kept q (λ i k. inl (omega (arith, y .rows)));
       mid = λ q l k. beyond q l;
       high = λ q l. beyond q (omega (arith, p .slot-room));
     }
       where
-        beyond : (q : ℕ) → slot + 961 ≤ q → getD mid q 0 ≡ getD was q 0
-        beyond q l = g .kept q (λ i k. inr (omega (arith, row-in (t .nodes) (t .width) i k, rows-most (x .tabled .few) slim, y .rows, x .tabled .fits .wide)))
+        beyond : (q : ℕ) → slot + slotRoom (t .width) ≤ q → getD mid q 0 ≡ getD was q 0
+        beyond q l = g .kept q (λ i k. inr (omega (arith, row-in (t .nodes) (t .width) i k, mul-le-mul-right (t .width) (x .tabled .few), y .rows, x .tabled .fits .wide)))
 
     pub round-slot : length mid ≡ length was → SlotTable mid t slot
     round-slot long = record {

@@ -10,17 +10,17 @@ pub const SLOT: usize = 961;
 pub const SECOND_ROWS: usize = SLOT + 1;
 
 // The numbers and keys of what happens.
-pub const NUMBERS: usize = 28832;
+pub const NUMBERS: usize = 40304;
 
 // The rows that are made of it.
-pub const MADE: usize = 29284;
+pub const MADE: usize = 40756;
 
 // The classes of a level of them, the classes so far, and the first row of each.
-pub const LEVEL: usize = 36036;
+pub const LEVEL: usize = 47508;
 
-pub const CLASSES: usize = 36264;
+pub const CLASSES: usize = 47736;
 
-pub const FIRSTS: usize = 36492;
+pub const FIRSTS: usize = 47964;
 
 // The rows, one of each class.
-pub const MERGED: usize = 36720;
+pub const MERGED: usize = 48192;

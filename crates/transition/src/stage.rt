@@ -16,13 +16,12 @@ ghost use Prim.Native.Nat.{_+_, _*_, _≤_};
 ghost use lib.ListN.{length, set};
 ghost use Rattle.chart.specs.Contracts.Put.{PartCopied};
 ghost use Rattle.transition.specs.Inner.Change.{Scene, Scened, InScene};
-ghost use Rattle.transition.specs.Contracts.Stage.{StageRoom, Staged, scratchAt, slotRoom};
+ghost use Rattle.transition.specs.Contracts.Stage.{StageRoom, Staged, scratchAt};
 
 // Puts n rows of w bytes, which stand from `from` on in the scratch, into the slot at `slot`: their count there and the
 // rows behind it.
 pub fn put_down(work: &mut [u8], from: usize, n: usize, w: usize, slot: usize)
-    requires { ⌜ (n ≤ 32) × (n * w ≤ 960) × (slot + slotRoom ≤ scratchAt) × (scratchAt ≤ from)
-        × (from + n * w ≤ length (now work)) ⌝ }
+    requires { ⌜ (n ≤ 32) × (slot + 1 + n * w ≤ scratchAt) × (scratchAt ≤ from) × (from + n * w ≤ length (now work)) ⌝ }
     ensures { λ _. ⌜ PartCopied (set (now (work .entry)) slot n) (now (work .exit)) from (slot + 1) (n * w) ⌝ }
 {
     work[slot] = n as u8;

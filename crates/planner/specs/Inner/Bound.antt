@@ -10,7 +10,6 @@ use borrow.Author.Tests.{ltb-false}
 use Rattle.pack.specs.Syntax.{Rule, Node, Theory}
 use Rattle.pack.specs.State.{State, belief, meaning}
 use Rattle.pack.specs.Condition.{holds, utility}
-use Rattle.transition.specs.Contracts.Stage.{slotRoom}
 use Rattle.planner.specs.declared.limits.Context.{Context}
 use Rattle.planner.specs.Ending.{Explained, utilityTo}
 use Rattle.planner.specs.Inner.Lists.{slotTable, Ends}
@@ -25,7 +24,7 @@ exceeds base (r ∷ rules) = ltb base (r .utility) || exceeds base rules
 abbrev pub NoReason : (pack places : List ℕ) (h : Context) (slot : ℕ) (work : List ℕ) (c a : ℕ) (r : Bool) → Type 0
 NoReason pack places h slot work c a r =
     r ≡ true → (th : Theory) (T : List Node)
-    → Stage th T pack places h work (slotTable h work slot) (slot + slotRoom)
+    → Stage th T pack places h work (slotTable h work slot) (slot + h .stride)
     → (K e : ℕ) → ¬ Explained th K e c a (meaning (h .characters) T 0)
 
 neither : (a b : Bool) → (a || b) ≡ false → (a ≡ false) × (b ≡ false)

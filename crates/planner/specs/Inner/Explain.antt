@@ -18,8 +18,7 @@ use Rattle.transition.specs.Contracts.Play.{Theorized, Left}
 use Rattle.planner.specs.declared.limits.Context.{Context}
 use Rattle.planner.specs.Ending.{Explained}
 use Rattle.planner.specs.Inner.Lists.{slotTable}
-use Rattle.planner.specs.Inner.Memory.{InSlot, Memory}
-use Rattle.transition.specs.Contracts.Stage.{slotRoom, scratchAt}
+use Rattle.planner.specs.Inner.Memory.{Laid, InSlot, Memory}
 
 -- a theory, found in the pack, and a table before the first free slot
 pub record Stage (p : Theory) (T : List Node) (pack places : List ℕ) (h : Context) (work : List ℕ) (t : Table)
@@ -30,8 +29,9 @@ pub record Stage (p : Theory) (T : List Node) (pack places : List ℕ) (h : Cont
   pub same-characters : h .characters ≡ t .characters
   pub behind : t .rows + t .nodes * t .width ≤ slot
   pub room : workRoom ≤ length work
-  pub slotted : InSlot work t slot
-  pub free : slot ≡ slotRoom * slotted .number + slotRoom
+  pub laid : Laid h
+  pub slotted : InSlot h work t slot
+  pub free : slot ≡ h .stride * slotted .number + h .stride
 
 abbrev pub Staged : (pack places : List ℕ) (h : Context) (work : List ℕ) (t : Table) (slot : ℕ) → Type 0
 Staged pack places h work t slot = (p : Theory) × ((T : List Node) × Stage p T pack places h work t slot)
@@ -41,9 +41,9 @@ abbrev pub Prepared : (pack places : List ℕ) (h : Context) (work : List ℕ) (
 Prepared pack places h work t slot =
     (p : Theory) × ((T : List Node) × (Stage p T pack places h work t slot × Memory p (h .foresight .0) h slot work))
 
--- n slots from `slot` on lie before the scratch of a step
-abbrev pub Free : (slot n : ℕ) → Type 0
-Free slot n = slot + n * slotRoom ≤ scratchAt
+-- n slots from `slot` on lie before the memory
+abbrev pub Free : (h : Context) (slot n : ℕ) → Type 0
+Free h slot n = slot + n * h .stride ≤ h .memory
 
 -- the flag r says whether P holds; bytes before the free slots, and behind the memory, are as they were, and of what is
 -- in the memory M holds
@@ -59,15 +59,15 @@ abbrev pub Answers : (pack places : List ℕ) (h : Context) (slot : ℕ) (work w
     (P : Theory → State → Type 0)
     → Type 0
 Answers pack places h slot work work′ r P =
-    (th : Theory) (T : List Node) → Stage th T pack places h work (slotTable h work slot) (slot + slotRoom)
-    → Memory th (h .foresight .0) h (slot + slotRoom) work
-    → Told (Memory th (h .foresight .0) h (slot + slotRoom)) (slot + slotRoom) work work′ r
+    (th : Theory) (T : List Node) → Stage th T pack places h work (slotTable h work slot) (slot + h .stride)
+    → Memory th (h .foresight .0) h (slot + h .stride) work
+    → Told (Memory th (h .foresight .0) h (slot + h .stride)) (slot + h .stride) work work′ r
     (P th (meaning (h .characters) T 0))
 
 -- an action and a row of the table
 abbrev pub Steppable : (pack places : List ℕ) (h : Context) (a : ℕ) (work : List ℕ) (t : Table) (root slot : ℕ) → Type 0
 Steppable pack places h a work t root slot =
-    Prepared pack places h work t slot × (a < h .actions) × (root < t .nodes) × Free slot 1
+    Prepared pack places h work t slot × (a < h .actions) × (root < t .nodes) × Free h slot 1
 
 -- a step into the first free slot: what it leaves stands there, or it does not play
 pub record Advanced (p : Theory) (foresight : ℕ) (h : Context) (z : State) (a : ℕ) (t : Table) (was now : List ℕ)
@@ -77,17 +77,17 @@ pub record Advanced (p : Theory) (foresight : ℕ) (h : Context) (z : State) (a 
   pub low : table.Below was now slot
   pub high : table.Above was now workRoom
   pub memory : Memory p foresight h slot now
-  pub further : r ≡ 0 → Memory p foresight h (slot + slotRoom) now
+  pub further : r ≡ 0 → Memory p foresight h (slot + h .stride) now
 
 -- a step of what row `root` of the table in a slot means, into the slot behind it
 abbrev pub Advances : (pack places : List ℕ) (h : Context) (a slot root : ℕ) (work work′ : List ℕ) (r : ℕ) → Type 0
 Advances pack places h a slot root work work′ r =
-    (th : Theory) (T : List Node) → Stage th T pack places h work (slotTable h work slot) (slot + slotRoom)
-    → Memory th (h .foresight .0) h (slot + slotRoom) work
+    (th : Theory) (T : List Node) → Stage th T pack places h work (slotTable h work slot) (slot + h .stride)
+    → Memory th (h .foresight .0) h (slot + h .stride) work
     → Advanced th (h .foresight .0) h (meaning (h .characters) T root) a (slotTable h work slot) work work′
-    (slot + slotRoom) r
+    (slot + h .stride) r
 
--- an accepted pack and chart, and numbers of something there
+-- an accepted pack and chart, numbers of something there, and a slot for each state of an explanation
 pub record Judging (th : Theory) (T : List Node) (pack places : List ℕ) (h : Context) (chart : List ℕ)
     (nodes character action foresight nesting : ℕ) (work : List ℕ) : Type 0 where
   pub theorized : Theorized th pack places (h .actions) (h .triggers)
@@ -97,7 +97,8 @@ pub record Judging (th : Theory) (T : List Node) (pack places : List ℕ) (h : C
   pub who : character < h .characters
   pub what : action < h .actions
   pub foreseen : (0 < foresight) × (foresight ≤ 6)
-  pub nested : nesting ≤ 3
+  pub laid : Laid h
+  pub slots : Free h 0 (1 + foresight * nesting)
   pub room : workRoom ≤ length work
 
 abbrev pub Judgeable : (pack places : List ℕ) (h : Context) (chart : List ℕ)

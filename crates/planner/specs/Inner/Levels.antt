@@ -16,7 +16,6 @@ use Rattle.pack.specs.declared.table.Table.{Table}
 use Rattle.chart.specs.Call.{workRoom}
 use Rattle.transition.specs.Happening.{actionOf}
 use Rattle.transition.specs.Contracts.Play.{Theorized}
-use Rattle.transition.specs.Contracts.Stage.{slotRoom}
 use Rattle.planner.specs.declared.limits.Context.{Context}
 use Rattle.planner.specs.declared.prune.Course.{Course}
 use Rattle.planner.specs.Inner.Lists.{slotTable}
@@ -74,11 +73,11 @@ MoreLevels pack places h work t was now i =
 -- whose utility it is, in the state in a slot: the author's is the first, then each character's
 abbrev pub Reckoned : (pack places : List ℕ) (h : Context) (work : List ℕ) (slot whose : ℕ) → Type 0
 Reckoned pack places h work slot whose =
-    Staged pack places h work (slotTable h work slot) (slot + slotRoom) × Free slot 1 × (whose < h .characters + 1)
+    Staged pack places h work (slotTable h work slot) (slot + h .stride) × Free h slot 1 × (whose < h .characters + 1)
 
 -- no list of at most so many actions has a utility above base
 abbrev pub OutOfReach : (pack places : List ℕ) (h : Context) (work : List ℕ) (slot whose left base : ℕ) → Type 0
 OutOfReach pack places h work slot whose left base =
-    (th : Theory) (T : List Node) → Stage th T pack places h work (slotTable h work slot) (slot + slotRoom)
+    (th : Theory) (T : List Node) → Stage th T pack places h work (slotTable h work slot) (slot + h .stride)
     → (list : List ℕ) (u : State) → length list ≤ left → Played th (meaning (h .characters) T 0) list u
     → utility u (getD (th .utilities) whose []) ≤ base

@@ -23,7 +23,6 @@ use Rattle.planner.specs.declared.limits.Context.{Context}
 use Rattle.planner.specs.declared.prune.Course.{Course}
 use Rattle.planner.specs.Inner.Lists.{slotTable}
 use Rattle.planner.specs.Inner.Reach.{someBelow, metBy, couldPass}
-use Rattle.transition.specs.Contracts.Stage.{slotRoom, scratchAt}
 
 -- a theory with so many triggers is found in the pack
 abbrev pub Triggered : (pack places : List ℕ) (triggers : ℕ) → Type 0
@@ -106,7 +105,9 @@ Hopeless pack places triggers a work t whose left base =
 
 -- every action may be tried in the state in a slot
 pub record Trying (pack places : List ℕ) (h : Context) (work : List ℕ) (slot whose : ℕ) : Type 0 where
-  pub before : slot + slotRoom ≤ scratchAt
+  pub before : slot + h .stride ≤ h .memory
+  pub behind : h .memory ≤ workRoom
+  pub some : 0 < h .stride
   pub room : workRoom ≤ length work
   pub narrow : h .fluents + h .characters ≤ 30
   pub each : (a : ℕ) → a < h .actions → Tryable pack places (h .triggers) a work (slotTable h work slot) whose

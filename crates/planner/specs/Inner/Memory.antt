@@ -1,9 +1,9 @@
--- What is known of states, behind a step's scratch: tables that are kept, each under a number that is its id, and
+-- What is known of states, behind the slots: tables that are kept, each under a number that is its id, and
 -- what is known of steps and lists by these ids. Every entry is true, whatever it is replaced by. Assumes nothing.
 use mathlib.Core.Path.{_≡_}
 use mathlib.Core.Logic.{_≢_}
 use mathlib.Core.List.{List}
-use Prim.Native.Nat.{ℕ, suc, _+_, _*_, _<_, _≤_}
+use Prim.Native.Nat.{ℕ, suc, _+_, _*_, _-_, _<_, _≤_}
 use lib.ListN.{length, getD}
 use Rattle.pack.specs.Syntax.{Theory}
 use Rattle.pack.specs.State.{State}
@@ -20,41 +20,48 @@ use Rattle.planner.specs.Ending.{Explained}
 use Rattle.planner.specs.Inner.Lists.{slotTable, Above, Ends}
 use Rattle.transition.specs.Contracts.Stage.{slotRoom, scratchAt}
 
--- where it begins, with the id of the table in each slot; how many blocks of 12 bytes are taken; behind that are
--- ids found by a hash, of which nothing is asked; then steps, lists and tables
-abbrev pub memoryAt : ℕ
-memoryAt = 43470
+-- slots of `stride` bytes from the buffer's start on, at most 48, each with room for a count and 32 rows; the memory
+-- behind them, with 255 blocks for tables, and a step's scratch behind that
+pub record Laid (h : Context) : Type 0 where
+  pub narrow : h .fluents + h .characters ≤ 30
+  pub wide : slotRoom (h .fluents + h .characters) ≤ h .stride
+  pub some : 1 < h .stride
+  pub few : h .memory < 48 * h .stride
+  pub blocks : 0 < h .block
+  pub room : h .memory + 2482 + 255 * h .block ≤ scratchAt
 
-abbrev pub takenAt : ℕ
-takenAt = 43518
+-- it begins with the id of the table in each slot; then how many blocks are taken; behind that are ids found by a hash,
+-- of which nothing is asked; then steps, lists and tables
+abbrev pub takenAt : Context → ℕ
+takenAt h = h .memory + 48
 
-abbrev pub stepsAt : ℕ
-stepsAt = 43648
+abbrev pub stepsAt : Context → ℕ
+stepsAt h = h .memory + 178
 
-abbrev pub factsAt : ℕ
-factsAt = 44160
+abbrev pub factsAt : Context → ℕ
+factsAt h = h .memory + 690
 
-abbrev pub tablesAt : ℕ
-tablesAt = 45952
+abbrev pub tablesAt : Context → ℕ
+tablesAt h = h .memory + 2482
 
--- the table of an id begins with a block
-abbrev pub keptAt : ℕ → ℕ
-keptAt n = 45940 + 12 * n
+-- the table of an id begins with a block, that of 1 with the first
+abbrev pub keptAt : Context → ℕ → ℕ
+keptAt h n = h .memory + 2482 - h .block + h .block * n
 
 abbrev pub keptTable : Context → List ℕ → ℕ → Table
-keptTable h work n = slotTable h work (keptAt n)
+keptTable h work n = slotTable h work (keptAt h n)
 
 -- it lies within the blocks that are taken
 pub record Kept (h : Context) (work : List ℕ) (n : ℕ) : Type 0 where
   pub some : 0 < n
-  pub few : getD work (keptAt n) 0 ≤ 32
-  pub inside : keptAt n + 1 + getD work (keptAt n) 0 * (h .fluents + h .characters)
-      ≤ tablesAt + 12 * getD work takenAt 0
+  pub few : getD work (keptAt h n) 0 ≤ 32
+  pub inside : keptAt h n + 1 + getD work (keptAt h n) 0 * (h .fluents + h .characters)
+      ≤ tablesAt h + h .block * getD work (takenAt h) 0
 
 -- n is the id of a table
 pub record HasId (h : Context) (work : List ℕ) (t : Table) (n : ℕ) : Type 0 where
   pub kept : Kept h work n
-  pub count : getD work (keptAt n) 0 ≡ t .nodes
+  pub count : getD work (keptAt h n) 0 ≡ t .nodes
   pub same : table.tableOf (keptTable h work n) work ≡ table.tableOf t work
 
 -- what an action leaves of a row of the table of an id: nothing, or what the table of another id starts with
@@ -97,7 +104,7 @@ keyAt work a =
 -- entries, each empty or true: the id of the table in slot i, a step at a, a fact at a with its id behind it
 abbrev pub SlotEntry : (h : Context) (work : List ℕ) (i : ℕ) → Type 0
 SlotEntry h work i =
-    0 < getD work (memoryAt + i) 0 → HasId h work (slotTable h work (slotRoom * i)) (getD work (memoryAt + i) 0)
+    0 < getD work (h .memory + i) 0 → HasId h work (slotTable h work (h .stride * i)) (getD work (h .memory + i) 0)
 
 abbrev pub StepEntry : (p : Theory) (h : Context) (work : List ℕ) (a : ℕ) → Type 0
 StepEntry p h work a =
@@ -113,10 +120,11 @@ FactEntry p foresight h work a =
 
 -- all are true; of slots, those before a place
 pub record Memory (p : Theory) (foresight : ℕ) (h : Context) (limit : ℕ) (work : List ℕ) : Type 0 where
-  pub narrow : h .fluents + h .characters ≤ 30
-  pub slots : (i : ℕ) → slotRoom * i + slotRoom ≤ limit → SlotEntry h work i
-  pub steps : (i : ℕ) → i < 128 → StepEntry p h work (stepsAt + 4 * i)
-  pub facts : (i : ℕ) → i < 256 → FactEntry p foresight h work (factsAt + 7 * i)
+  pub laid : Laid h
+  pub within : tablesAt h + h .block * getD work (takenAt h) 0 ≤ scratchAt
+  pub slots : (i : ℕ) → h .stride * i + h .stride ≤ limit → SlotEntry h work i
+  pub steps : (i : ℕ) → i < 128 → StepEntry p h work (stepsAt h + 4 * i)
+  pub facts : (i : ℕ) → i < 256 → FactEntry p foresight h work (factsAt h + 7 * i)
 
 -- where an entry begins, of so many of a size
 pub record Place (count first size a : ℕ) : Type 0 where
@@ -126,39 +134,41 @@ pub record Place (count first size a : ℕ) : Type 0 where
 
 -- a table before the memory
 pub record Before (h : Context) (work : List ℕ) (t : Table) : Type 0 where
+  pub laid : Laid h
   pub fluents : h .fluents ≡ t .fluents
   pub characters : h .characters ≡ t .characters
   pub wide : t .fluents + t .characters ≡ t .width
   pub narrow : t .width ≤ 30
   pub few : t .nodes ≤ 32
-  pub before : t .rows + t .nodes * t .width ≤ memoryAt
+  pub before : t .rows + t .nodes * t .width ≤ h .memory
   pub room : workRoom ≤ length work
 
 -- which is that of a slot before a place
-pub record InSlot (work : List ℕ) (t : Table) (limit : ℕ) : Type 0 where
+pub record InSlot (h : Context) (work : List ℕ) (t : Table) (limit : ℕ) : Type 0 where
   pub number : ℕ
-  pub rows : t .rows ≡ slotRoom * number + 1
-  pub counted : getD work (slotRoom * number) 0 ≡ t .nodes
-  pub before : slotRoom * number + slotRoom ≤ limit
+  pub rows : t .rows ≡ h .stride * number + 1
+  pub counted : getD work (h .stride * number) 0 ≡ t .nodes
+  pub before : h .stride * number + h .stride ≤ limit
 
 -- only the memory changes
-pub record Only (was now : List ℕ) : Type 0 where
-  pub low : table.Below was now memoryAt
+pub record Only (h : Context) (was now : List ℕ) : Type 0 where
+  pub low : table.Below was now (h .memory)
   pub high : table.Above was now workRoom
 
 -- r is an id of the table, or 0, and what is known stays true
 pub record Stored (h : Context) (t : Table) (was now : List ℕ) (r : ℕ) : Type 0 where
   pub small : r < 256
   pub named : 0 < r → HasId h now t r
-  pub only : Only was now
-  pub memory : (p : Theory) (foresight limit : ℕ) → limit ≤ memoryAt → Memory p foresight h limit was
+  pub only : Only h was now
+  pub memory : (p : Theory) (foresight limit : ℕ) → limit ≤ h .memory → Memory p foresight h limit was
       → Memory p foresight h limit now
 
 -- the same of a table in a slot, where what is known is true
 pub record Interning (h : Context) (t : Table) (was now : List ℕ) (r : ℕ) : Type 0 where
   pub small : r < 256
-  pub only : Only was now
-  pub told : (p : Theory) (foresight limit : ℕ) → limit ≤ memoryAt → InSlot was t limit → Memory p foresight h limit was
+  pub only : Only h was now
+  pub told : (p : Theory) (foresight limit : ℕ) → limit ≤ h .memory → InSlot h was t limit
+      → Memory p foresight h limit was
       → Memory p foresight h limit now × (0 < r → HasId h now t r)
 
 -- an id is one, and each number of the key fits a byte or two
@@ -178,14 +188,15 @@ pub record KeyPut (was now : List ℕ) (a mark : ℕ) (k : Key) : Type 0 where
 
 -- what the mark r says of the state is true where what is known is
 pub record Recalled (h : Context) (t : Table) (k : Key) (was now : List ℕ) (r : ℕ) : Type 0 where
-  pub only : Only was now
-  pub told : (p : Theory) (foresight limit : ℕ) → limit ≤ memoryAt → InSlot was t limit → Memory p foresight h limit was
+  pub only : Only h was now
+  pub told : (p : Theory) (foresight limit : ℕ) → limit ≤ h .memory → InSlot h was t limit
+      → Memory p foresight h limit was
       → Memory p foresight h limit now × Fact p foresight r k (table.stateOf t was 0)
 
 -- what is put down is true where what it says is
 pub record Remembered (h : Context) (t : Table) (mark : ℕ) (k : Key) (was now : List ℕ) : Type 0 where
-  pub only : Only was now
-  pub memory : (p : Theory) (foresight limit : ℕ) → limit ≤ memoryAt → InSlot was t limit
+  pub only : Only h was now
+  pub memory : (p : Theory) (foresight limit : ℕ) → limit ≤ h .memory → InSlot h was t limit
       → Memory p foresight h limit was → Fact p foresight mark k (table.stateOf t was 0)
       → Memory p foresight h limit now
 
@@ -207,17 +218,17 @@ pub record StepPut (was now : List ℕ) (a id root action next : ℕ) : Type 0 w
 
 -- true where what it says is, of every id of the table
 pub record Noted (h : Context) (t : Table) (root action next : ℕ) (was now : List ℕ) : Type 0 where
-  pub only : Only was now
-  pub memory : (p : Theory) (foresight limit : ℕ) → limit ≤ memoryAt → InSlot was t limit
+  pub only : Only h was now
+  pub memory : (p : Theory) (foresight limit : ℕ) → limit ≤ h .memory → InSlot h was t limit
       → Memory p foresight h limit was → ((n : ℕ) → HasId h was t n → StepFact p h was n root action next)
       → Memory p foresight h limit now
 
--- a slot, before the scratch of a step
+-- a slot, before the memory
 pub record Slot (h : Context) (work : List ℕ) (slot : ℕ) : Type 0 where
-  pub narrow : h .fluents + h .characters ≤ 30
-  pub before : slot + slotRoom ≤ scratchAt
+  pub laid : Laid h
+  pub before : slot + h .stride ≤ h .memory
   pub number : ℕ
-  pub is : slot ≡ slotRoom * number
+  pub is : slot ≡ h .stride * number
   pub room : workRoom ≤ length work
 
 -- the table of an id stands in it, as after a step that plays
@@ -229,12 +240,12 @@ pub record Again (h : Context) (next slot : ℕ) (was now : List ℕ) (r : ℕ) 
   pub low : table.Below was now slot
   pub high : table.Above was now workRoom
   pub memory : (p : Theory) (foresight : ℕ) → Memory p foresight h slot was
-      → Memory p foresight h slot now × (r ≡ 0 → Memory p foresight h (slot + slotRoom) now)
+      → Memory p foresight h slot now × (r ≡ 0 → Memory p foresight h (slot + h .stride) now)
 
 -- what a step has left in it is known
 pub record LeftNoted (h : Context) (t : Table) (root a slot : ℕ) (was now : List ℕ) : Type 0 where
-  pub only : Only was now
-  pub memory : (p : Theory) (foresight : ℕ) → InSlot was t slot → Memory p foresight h slot was
+  pub only : Only h was now
+  pub memory : (p : Theory) (foresight : ℕ) → InSlot h was t slot → Memory p foresight h slot was
       → ((s : State) × Plays p (table.stateOf t was root) a s
       × Starts (h .characters) s (table.tableOf (slotTable h was slot) was))
-      → Memory p foresight h (slot + slotRoom) now
+      → Memory p foresight h (slot + h .stride) now

@@ -19,10 +19,9 @@ use Rattle.planner.specs.Search.{Answer, Searched}
 use Rattle.planner.specs.Replies.{answerReply}
 use Rattle.planner.specs.Promises.{searchSaid, summary}
 use Rattle.planner.specs.Inner.Lists.{slotTable, Ends}
-use Rattle.planner.specs.Inner.Memory.{memoryAt, tablesAt, Memory}
-use Rattle.planner.specs.Inner.Explain.{Stage}
+use Rattle.planner.specs.Inner.Memory.{Laid, tablesAt, Memory}
+use Rattle.planner.specs.Inner.Explain.{Stage, Free}
 use Rattle.planner.specs.Ending.{authorUtility}
-use Rattle.transition.specs.Contracts.Stage.{slotRoom}
 
 -- a list put down from `done` on
 pub record Put (was now : List ℕ) (done : ℕ) (list : List ℕ) : Type 0 where
@@ -53,7 +52,7 @@ Dry Good n = (list : List ℕ) (v : ℕ) → length list < n → ¬ Good list v
 
 -- in the slots of the path, n before the last, stand written charts
 abbrev pub OnPath : (h : Context) (work : List ℕ) (n : ℕ) → Type 0
-OnPath h work n = (i : ℕ) → i ≤ n → Written (h .characters) (tableOf (slotTable h work (i * slotRoom)) work)
+OnPath h work n = (i : ℕ) → i ≤ n → Written (h .characters) (tableOf (slotTable h work (i * h .stride)) work)
 
 -- the author's path: n states in the slots before s; from each of them, and from s, no list of fewer actions than are
 -- left to it is good; in each slot stands the written chart of its state, so that two are one exactly where no chain
@@ -61,18 +60,18 @@ OnPath h work n = (i : ℕ) → i ≤ n → Written (h .characters) (tableOf (sl
 pub record Trail (p : Theory) (foresight nesting base : ℕ) (h : Context) (work : List ℕ) (n left : ℕ)
     (s : State) : Type 0 where
   pub before : (i : ℕ) → i < n
-      → Dry (Ends p foresight nesting base (stateOf (slotTable h work (i * slotRoom)) work 0)) (left + (n - i))
+      → Dry (Ends p foresight nesting base (stateOf (slotTable h work (i * h .stride)) work 0)) (left + (n - i))
   pub here : Dry (Ends p foresight nesting base s) left
   pub written : OnPath h work n
-  pub small : (i : ℕ) → i ≤ n → 1 + getD work (i * slotRoom) 0 * (h .fluents + h .characters) ≤ slotRoom
+  pub small : (i : ℕ) → i ≤ n → 1 + getD work (i * h .stride) 0 * (h .fluents + h .characters) ≤ h .stride
 
 -- a stage, a memory and a path
 abbrev pub Underway : (nesting base : ℕ) (pack places : List ℕ) (h : Context) (work : List ℕ) (n left : ℕ)
     → Type 0
 Underway e base pack places h work n left =
     (p : Theory) × ((T : List Node)
-    × (Stage p T pack places h work (slotTable h work (n * slotRoom)) (n * slotRoom + slotRoom)
-    × Memory p (h .foresight .0) h (n * slotRoom + slotRoom) work
+    × (Stage p T pack places h work (slotTable h work (n * h .stride)) (n * h .stride + h .stride)
+    × Memory p (h .foresight .0) h (n * h .stride + h .stride) work
     × Trail p (h .foresight .0) e base h work n left (meaning (h .characters) T 0)))
 
 -- asked of the last state of the path, behind n others, where what is known is true: r is the utility at the end of the
@@ -82,16 +81,16 @@ abbrev pub Finds : (nesting base : ℕ) (pack places : List ℕ) (h : Context) (
     → Type 0
 Finds e base pack places h n left was now work work′ r Good =
     (th : Theory) (T : List Node)
-    → Stage th T pack places h work (slotTable h work (n * slotRoom)) (n * slotRoom + slotRoom)
-    → Memory th (h .foresight .0) h (n * slotRoom + slotRoom) work
+    → Stage th T pack places h work (slotTable h work (n * h .stride)) (n * h .stride + h .stride)
+    → Memory th (h .foresight .0) h (n * h .stride + h .stride) work
     → Trail th (h .foresight .0) e base h work n left (meaning (h .characters) T 0)
-    → Best (Memory th (h .foresight .0) h (n * slotRoom + slotRoom)) (Good th (meaning (h .characters) T 0)) left
-    was now n (n * slotRoom + slotRoom) work work′ r
+    → Best (Memory th (h .foresight .0) h (n * h .stride + h .stride)) (Good th (meaning (h .characters) T 0)) left
+    was now n (n * h .stride + h .stride) work work′ r
 
 -- the author's utility in the state in a slot where it is above base, or 0
 abbrev pub EndsHere : (base : ℕ) (pack places : List ℕ) (h : Context) (slot : ℕ) (work : List ℕ) (r : ℕ) → Type 0
 EndsHere base pack places h slot work r =
-    (th : Theory) (T : List Node) → Stage th T pack places h work (slotTable h work slot) (slot + slotRoom)
+    (th : Theory) (T : List Node) → Stage th T pack places h work (slotTable h work slot) (slot + h .stride)
     → (base < authorUtility th (meaning (h .characters) T 0) → r ≡ authorUtility th (meaning (h .characters) T 0))
     × (authorUtility th (meaning (h .characters) T 0) ≤ base → r ≡ 0)
 
@@ -99,23 +98,25 @@ EndsHere base pack places h slot work r =
 abbrev pub Outset : (base : ℕ) (pack places : List ℕ) (h : Context) (work : List ℕ) → Type 0
 Outset base pack places h work =
     (p : Theory) × ((T : List Node)
-    × (Stage p T pack places h work (slotTable h work 0) slotRoom × Memory p (h .foresight .0) h slotRoom work
+    × (Stage p T pack places h work (slotTable h work 0) (0 + h .stride)
+    × Memory p (h .foresight .0) h (0 + h .stride) work
     × Written (h .characters) T × (authorUtility p (meaning (h .characters) T 0) ≤ base)))
 
 -- the state in a slot is one of those before it
 abbrev pub Repeated : (h : Context) (work : List ℕ) (slot n : ℕ) → Type 0
 Repeated h work slot n =
-    (i : ℕ) × (i < n) × (stateOf (slotTable h work (i * slotRoom)) work 0 ≡ stateOf (slotTable h work slot) work 0)
+    (i : ℕ) × (i < n) × (stateOf (slotTable h work (i * h .stride)) work 0 ≡ stateOf (slotTable h work slot) work 0)
 
 -- the shortest of the good lists of 1 to T actions, and of those the earliest, is put down; or its length is 0, there
 -- is none, and nothing is put down
-pub record Shortest (Good : List ℕ → ℕ → Type 0) (story : ℕ) (was now work work′ : List ℕ) (r : Ended) : Type 0 where
+pub record Shortest (h : Context) (Good : List ℕ → ℕ → Type 0) (story : ℕ) (was now work work′ : List ℕ)
+    (r : Ended) : Type 0 where
   pub none : r .count ≡ 0
       → (now ≡ was) × ((list : List ℕ) (v : ℕ) → 0 < length list → length list ≤ story → ¬ Good list v)
   pub some : 0 < r .count → (list : List ℕ) × Chosen Good (r .count) list (r .after) × Put was now 0 list
   pub within : r .count ≤ story
   pub shortest : (other : List ℕ) (v : ℕ) → 0 < length other → length other < r .count → ¬ Good other v
-  pub low : Below work work′ slotRoom
+  pub low : Below work work′ (0 + h .stride)
   pub high : Above work work′ workRoom
 
 -- of the state in the first slot
@@ -123,15 +124,17 @@ abbrev pub ShortestFrom : (story nesting base : ℕ) (pack places : List ℕ) (h
     (was now work work′ : List ℕ) (r : Ended)
     → Type 0
 ShortestFrom T e base pack places h was now work work′ r =
-    (th : Theory) (table : List Node) → Stage th table pack places h work (slotTable h work 0) slotRoom
-    → Memory th (h .foresight .0) h slotRoom work → Written (h .characters) table
+    (th : Theory) (table : List Node) → Stage th table pack places h work (slotTable h work 0) (0 + h .stride)
+    → Memory th (h .foresight .0) h (0 + h .stride) work → Written (h .characters) table
     → authorUtility th (meaning (h .characters) table 0) ≤ base
-    → Shortest (Ends th (h .foresight .0) e base (meaning (h .characters) table 0)) T was now work work′ r
+    → Shortest h (Ends th (h .foresight .0) e base (meaning (h .characters) table 0)) T was now work work′ r
 
--- the nodes that are read from a place on, and room
+-- the nodes that are read from a place on, and room for them in the first slot
 pub record Laying (T : List Node) (pack : List ℕ) (first nodes : ℕ) (h : Context) (work : List ℕ) : Type 0 where
   pub end : ℕ
   pub read : NodesFrom pack first end nodes (h .fluents) (h .characters) T
+  pub laid : Laid h
+  pub slot : h .stride ≤ h .memory
   pub room : workRoom ≤ length work
 
 abbrev pub Layable : (pack : List ℕ) (first nodes : ℕ) (h : Context) (work : List ℕ) → Type 0
@@ -141,10 +144,11 @@ Layable pack first nodes h work = (T : List Node) × Laying T pack first nodes h
 pub record LaidStart (T : List Node) (h : Context) (was now : List ℕ) : Type 0 where
   pub few : getD now 0 0 ≤ 32
   pub starts : Starts (h .characters) (meaning (h .characters) T 0) (tableOf (slotTable h now 0) now)
-  pub empty : (q : ℕ) → memoryAt ≤ q → q < tablesAt → getD now q 0 ≡ 0
+  pub empty : (q : ℕ) → h .memory ≤ q → q < tablesAt h → getD now q 0 ≡ 0
   pub high : Above was now workRoom
 
--- what the search from a pack's nodes is lent: a theory, found in the pack, its nodes, and room
+-- what the search from a pack's nodes is lent: a theory, found in the pack, its nodes, and room, with a slot for each
+-- state of the author's list and of each explanation within it
 pub record Seeking (th : Theory) (T : List Node) (pack places : List ℕ) (h : Context)
     (first nodes story foresight nesting : ℕ) (list work : List ℕ) : Type 0 where
   pub theorized : Theorized th pack places (h .actions) (h .triggers)
@@ -154,7 +158,8 @@ pub record Seeking (th : Theory) (T : List Node) (pack places : List ℕ) (h : C
   pub same-fluents : length (th .domains) ≡ h .fluents
   pub storied : story ≤ 8
   pub foreseen : (0 < foresight) × (foresight ≤ 6)
-  pub nested : nesting ≤ 3
+  pub laid : Laid h
+  pub slots : Free h 0 (1 + story + foresight * nesting)
   pub list-room : listRoom ≤ length list
   pub room : workRoom ≤ length work
 

@@ -63,7 +63,7 @@ Settleable pack places triggers work t slot =
 -- part 1 is in the slot, or leaves more than 32 states
 pub record Acted (z : State) (t : Table) (was now : List ℕ) (slot r : ℕ) : Type 0 where
   pub holds : InSlot t z now slot r
-  pub only : SlotOnly was now slot
+  pub only : SlotOnly (t .width) was now slot
 
 abbrev pub ActsIn : (pack places : List ℕ) (action root : ℕ) (t : Table) (was now : List ℕ) (slot r : ℕ) → Type 0
 ActsIn pack places action root t was now slot r =
@@ -81,7 +81,7 @@ pub record Left (s : State) (t : Table) (work : List ℕ) (slot : ℕ) : Type 0 
 pub record SettledIn (p : Theory) (z : State) (t : Table) (was now : List ℕ) (slot r : ℕ) : Type 0 where
   pub settles : r ≡ 0 → (s : State) × Settles p 16 z s × Left s t now slot
   pub stops : r ≢ 0 → Stops p 16 z r
-  pub only : SlotOnly was now slot
+  pub only : SlotOnly (t .width) was now slot
 
 abbrev pub SettlesIn : (pack places : List ℕ) (triggers : ℕ) (t : Table) (was now : List ℕ) (slot r : ℕ) → Type 0
 SettlesIn pack places triggers t was now slot r =
@@ -93,7 +93,7 @@ SettlesIn pack places triggers t was now slot r =
 pub record PlayedIn (p : Theory) (z : State) (a : ℕ) (t : Table) (was now : List ℕ) (slot r : ℕ) : Type 0 where
   pub plays : r ≡ 0 → (s : State) × Plays p z a s × Left s t now slot
   pub refuses : r ≢ 0 → Refuses p z a r
-  pub only : SlotOnly was now slot
+  pub only : SlotOnly (t .width) was now slot
 
 abbrev pub PlaysIn : (pack places : List ℕ) (triggers action root : ℕ) (t : Table) (was now : List ℕ) (slot r : ℕ)
     → Type 0

@@ -51,7 +51,7 @@ pub record SlotTable (work : List ℕ) (t : Table) (slot : ℕ) : Type 0 where
   pub count : getD work slot 0 ≡ t .nodes
   pub rows : t .rows ≡ slot + 1
   pub ordered : Ordered (t .characters) (tableOf t work)
-  pub slot-room : slot + slotRoom ≤ scratchAt
+  pub slot-room : slot + slotRoom (t .width) ≤ scratchAt
   pub room : workRoom ≤ length work
 
 -- everyone takes part in what happens in row 0

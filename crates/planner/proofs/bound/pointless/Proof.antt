@@ -28,7 +28,7 @@ use Rattle.planner.proofs.bound.pointless.Tie as tie
 -- the row of what the character believes
 believed : (c : tie.After-wide) {th : Theory} {T : List Node} →
     let a = c .before .before .before .before .before .before .before .args in
-    Stage th T (a .pack .now) (a .places .now) (a .p) (a .work .now) (slotTable (a .p) (a .work .now) (a .slot)) (a .slot + 961)
+    Stage th T (a .pack .now) (a .places .now) (a .p) (a .work .now) (slotTable (a .p) (a .work .now) (a .slot)) (a .slot + a .p .stride)
     → (belief (meaning (a .p .characters) T 0) (a .d .who) ≡ meaning (a .p .characters) T (c .wide .result)) × (c .wide .result < getD (a .work .now) (a .slot) 0)
 believed c y =
     let start = c .before .before .before .before .before .before .before in

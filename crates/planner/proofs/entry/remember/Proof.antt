@@ -1,9 +1,9 @@
 -- An entry put down by the table's id. Assumes nothing.
-use mathlib.Core.Path.{_∙_}
 use Prim.Native.Nat.{_+_}
+use mathlib.Core.Path.{_∙_}
 use native.Mathlib.Omega.{arith}
 use lib.ListN.{length-set}
-use Rattle.planner.proofs.TrueMemory.{remembered-none, remembered}
+use Rattle.planner.proofs.TrueMemory.{remembered, remembered-none}
 use borrow.Author.Needs.{needs}
 use Rattle.planner.proofs.entry.remember.Statement.{statement}
 use Rattle.planner.proofs.entry.remember.Tie as tie
@@ -14,18 +14,32 @@ remember-spec =
     (tie.spec
     (λ c κs. search needs)
     (λ c κs. search needs)
-    (λ c κs. search needs)
     (λ c κs.
-    let at-if1 = c .before .before in
+    let at-id-of = c .before .before .before .before in
+    let start = at-id-of .before .before .before in
+    (omega (arith, start .pre .laid .room), at-id-of .id-of .ensures .small))
+    (λ c κs.
+    let at-entry-at = c .before in
+    let at-if1 = at-entry-at .before in
     let at-storable = at-if1 .before in
     let at-id-of = at-storable .before .before .before in
     let start = at-id-of .before .before .before in
     let s = at-storable .storable .ensures (at-if1 .if1 .taken) in
-    let p = c .before .entry-at .ensures in
-    (omega (arith, p .is, p .few, at-id-of .id-of .kept .0, start .pre .room), s .who, s .nesting, s .number, s .base))
+    let p = at-entry-at .entry-at .ensures in
+    (omega (arith, p .is, p .few, at-id-of .id-of .kept .0, start .pre .room, start .pre .laid .room), s .who, s .nesting, s .number, s .base))
     (λ c. search needs)
-    (λ c. search needs)
-    (λ c. search needs)
+    (λ c.
+    let at-entry-at = c .before .before .before .before in
+    let start = at-entry-at .before .before .before .before .before .before .before .before in
+    let p = at-entry-at .entry-at .ensures in
+    omega (arith, p .is, p .few, start .pre .laid .room))
+    (λ c.
+    let at-put-key = c .before .before in
+    let at-entry-at = at-put-key .before .before in
+    let at-id-of = at-entry-at .before .before .before .before .before in
+    let start = at-id-of .before .before .before in
+    let p = at-entry-at .entry-at .ensures in
+    omega (arith, p .is, p .few, at-id-of .id-of .kept .0, at-put-key .put-key .kept .0, start .pre .room, start .pre .laid .room))
     (λ c.
     let at-put-key = c .before .before in
     let at-entry-at = at-put-key .before .before in

@@ -20,8 +20,8 @@ use Rattle.planner.specs.Inner.Memory.{deedKey, Memory}
 use Rattle.planner.specs.Inner.Explain.{Stage, Free}
 use Rattle.planner.proofs.TrueMemory.{memory-fewer}
 use Rattle.planner.proofs.Pruning.{below-far, stage-trying, stage-skipped}
-use Rattle.planner.proofs.Reckoning.{above-beyond}
-use Rattle.planner.proofs.Explanations.{Content, told-none, told-by, told-no, told-yes, stage-rules, stage-utility, nextTable, next-plays, next-stage, reach-here, reach-no-more, by-hopeless, by-from, by-to, explained-from, explained-to, explained-zero, explained-plays, agreed-all, content-of, content-more, one-less, stage-row, stage-believed, consentersOf, consent-place, consent-readable, consent-count, consent-each, slot-same, stage-before, known, note, verdict, extended, noted, rules-in, utility-in}
+use Rattle.planner.proofs.Reckoning.{free-few, above-beyond}
+use Rattle.planner.proofs.Explanations.{Content, told-none, told-by, told-no, told-yes, stage-rules, stage-utility, nextTable, next-plays, next-stage, reach-here, reach-no-more, by-hopeless, by-from, by-to, explained-from, explained-to, explained-zero, explained-plays, agreed-all, content-of, content-more, one-less, free-fewer, stage-row, stage-believed, consentersOf, consent-place, consent-readable, consent-count, consent-each, slot-same, stage-before, known, note, verdict, extended, noted, rules-in, utility-in}
 use borrow.Fn.Kinds.{In}
 use borrow.Fn.PlainCycle.{Measures, is, falls, and}
 use Rattle.planner.proofs.explain.allowed.Reads as allowed
@@ -152,8 +152,8 @@ abbrev via-calls : ℕ → via-lts.Claims
 via-calls t = (allowed-below t, allowed.Post, known-step-reads.Asked, known-step-reads.Learnt, extends-below t, extends.Post)
 
 abbrev allowed-Inv-loop : allowed-lts.InvT-loop
-allowed-Inv-loop pack places p work₀ slot d at count i₀ work i = (length work ≡ length work₀) × Below work₀ work (slot + 961) × Above work₀ work workRoom
-    × ((th : Theory) (T : List Node) → Stage th T pack places p work₀ (slotTable p work₀ slot) (slot + 961) → Memory th (p .foresight .0) p (slot + 961) work₀ → Memory th (p .foresight .0) p (slot + 961) work × ((j : ℕ) → j < i → Content th (p .foresight .0) (d .nesting .0) (d .who) (d .action) (meaning (p .characters) T 0) j))
+allowed-Inv-loop pack places p work₀ slot d at count i₀ work i = (length work ≡ length work₀) × Below work₀ work (slot + p .stride) × Above work₀ work workRoom
+    × ((th : Theory) (T : List Node) → Stage th T pack places p work₀ (slotTable p work₀ slot) (slot + p .stride) → Memory th (p .foresight .0) p (slot + p .stride) work₀ → Memory th (p .foresight .0) p (slot + p .stride) work × ((j : ℕ) → j < i → Content th (p .foresight .0) (d .nesting .0) (d .who) (d .action) (meaning (p .characters) T 0) j))
 
 abbrev allowed-μ-loop : allowed-lts.MeasureT-loop
 allowed-μ-loop pack places p work₀ slot d at count i₀ work i = count - i
@@ -334,7 +334,7 @@ explained-returns-3 t c =
     let a = start .args in
     let r = at-recall .recall in
     λ th T y mem.
-    let (m, fact) = (r .ensures .told th (a .p .foresight .0) (a .slot + 961) (omega (arith, P .5)) (y .slotted) mem) in
+    let (m, fact) = (r .ensures .told th (a .p .foresight .0) (a .slot + a .p .stride) (omega (arith, P .5)) (y .slotted) mem) in
     told-no (λ q l. r .ensures .only .low q (omega (arith, l, P .5))) (r .ensures .only .high) m (known y key fact .unexplained (c .if3 .taken))
 
 explained-same-length-3 : (t : ℕ) → explained-lts.Need-same-length-3 (explained-calls t) (explained-at t) explained.Post
@@ -349,7 +349,7 @@ explained-returns-4 t c =
     let a = start .args in
     let r = at-recall .recall in
     λ th T y mem.
-    let (m, fact) = (r .ensures .told th (a .p .foresight .0) (a .slot + 961) (omega (arith, P .5)) (y .slotted) mem) in
+    let (m, fact) = (r .ensures .told th (a .p .foresight .0) (a .slot + a .p .stride) (omega (arith, P .5)) (y .slotted) mem) in
     told-yes (λ q l. r .ensures .only .low q (omega (arith, l, P .5))) (r .ensures .only .high) m (known y key fact .explained (c .if4 .taken))
 
 explained-explains-requires : (t : ℕ) → explained-lts.Need-explains-requires (explained-calls t) (explained-at t) explained.Post
@@ -361,7 +361,7 @@ explained-explains-requires t c κs =
     let a = start .args in
     let (th, (T, (y, mem))) = P .0 in
     let r = at-recall .recall in
-    (omega (arith, m), ((th, (T, (slot-same (a .slot) y (λ q l. r .ensures .only .low q (omega (arith, l, P .5))) (r .kept .0), (r .ensures .told th (a .p .foresight .0) (a .slot + 961) (omega (arith, P .5)) (y .slotted) mem) .0))), P .1, P .2, P .3, P .4, P .5, omega (arith, at-if1 .if1 .left)))
+    (omega (arith, m), ((th, (T, (slot-same (a .slot) y (λ q l. r .ensures .only .low q (omega (arith, l, P .5))) (r .kept .0), (r .ensures .told th (a .p .foresight .0) (a .slot + a .p .stride) (omega (arith, P .5)) (y .slotted) mem) .0))), P .1, P .2, P .3, P .4, P .5, omega (arith, at-if1 .if1 .left)))
 
 explained-mark-of-requires : (t : ℕ) → explained-lts.Need-mark-of-requires (explained-calls t) (explained-at t) explained.Post
 explained-mark-of-requires t c κs = search needs
@@ -379,7 +379,7 @@ explained-remember-requires t c κs =
     let (th, (T, (y, mem))) = P .0 in
     let r = at-recall .recall in
     let x = at-explains .explains in
-    let told = x .ensures th T (slot-same {now = r .last .0} (a .slot) y (λ q l. r .ensures .only .low q (omega (arith, l, P .5))) (r .kept .0)) ((r .ensures .told th (a .p .foresight .0) (a .slot + 961) (omega (arith, P .5)) (y .slotted) mem) .0) in
+    let told = x .ensures th T (slot-same {now = r .last .0} (a .slot) y (λ q l. r .ensures .only .low q (omega (arith, l, P .5))) (r .kept .0)) ((r .ensures .told th (a .p .foresight .0) (a .slot + a .p .stride) (omega (arith, P .5)) (y .slotted) mem) .0) in
     let z = slot-same (a .slot) (slot-same {now = r .last .0} (a .slot) y (λ q l. r .ensures .only .low q (omega (arith, l, P .5))) (r .kept .0)) (told .low) (x .kept .1 .1 .1 .0) in
     stage-before z (omega (arith, P .5))
 
@@ -404,14 +404,14 @@ explained-returns-5 t c =
     let rem = at-remember .remember .ensures in
     λ th T y mem.
     let x = at-explains .explains in
-    let told = x .ensures th T (slot-same {now = r .last .0} (a .slot) y (λ q l. r .ensures .only .low q (omega (arith, l, P .5))) (r .kept .0)) ((r .ensures .told th (a .p .foresight .0) (a .slot + 961) (omega (arith, P .5)) (y .slotted) mem) .0) in
+    let told = x .ensures th T (slot-same {now = r .last .0} (a .slot) y (λ q l. r .ensures .only .low q (omega (arith, l, P .5))) (r .kept .0)) ((r .ensures .told th (a .p .foresight .0) (a .slot + a .p .stride) (omega (arith, P .5)) (y .slotted) mem) .0) in
     let z = slot-same (a .slot) (slot-same {now = r .last .0} (a .slot) y (λ q l. r .ensures .only .low q (omega (arith, l, P .5))) (r .kept .0)) (told .low) (x .kept .1 .1 .1 .0) in
     record {
       sound = told .sound;
       complete = told .complete;
       low = λ q l. rem .only .low q (omega (arith, l, P .5)) ∙ told .low q l ∙ r .ensures .only .low q (omega (arith, l, P .5));
       high = λ q l. rem .only .high q l ∙ told .high q l ∙ r .ensures .only .high q l;
-      memory = rem .memory th (a .p .foresight .0) (a .slot + 961) (omega (arith, P .5)) (z .slotted) (told .memory) (note z key (verdict th (a .p .foresight .0) (deedKey (a .d)) (meaning (a .p .characters) T 0) (told .sound) (told .complete) (at-mark-of .mark-of .ensures)));
+      memory = rem .memory th (a .p .foresight .0) (a .slot + a .p .stride) (omega (arith, P .5)) (z .slotted) (told .memory) (note z key (verdict th (a .p .foresight .0) (deedKey (a .d)) (meaning (a .p .characters) T 0) (told .sound) (told .complete) (at-mark-of .mark-of .ensures)));
     }
 
 explains-add-wide : (t : ℕ) → explains-lts.Need-add-wide (explains-calls t) (explains-at t) explains.Post
@@ -446,7 +446,7 @@ explains-wide-requires t c κs = search needs
 explains-believed : (t : ℕ) (c : explains-lts.After-wide (explains-calls t) (explains-at t) explains.Post) {th : Theory} {T : List Node} →
     let start = c .before .before .before .before .before .before .before in
     let a = start .args in
-    Stage th T (a .pack .now) (a .places .now) (a .p) (a .work .now) (slotTable (a .p) (a .work .now) (a .slot)) (a .slot + 961) → (belief (meaning (a .p .characters) T 0) (a .d .who) ≡ meaning (a .p .characters) T (c .wide .result)) × (c .wide .result < getD (a .work .now) (a .slot) 0)
+    Stage th T (a .pack .now) (a .places .now) (a .p) (a .work .now) (slotTable (a .p) (a .work .now) (a .slot)) (a .slot + a .p .stride) → (belief (meaning (a .p .characters) T 0) (a .d .who) ≡ meaning (a .p .characters) T (c .wide .result)) × (c .wide .result < getD (a .work .now) (a .slot) 0)
 explains-believed t c y =
     let start = c .before .before .before .before .before .before .before in
     let a = start .args in
@@ -459,7 +459,7 @@ explains-known-step-requires t c κs =
     let a = start .args in
     let (th, (T, (y, mem))) = P .0 in
     let less = one-less (a .p .foresight .0) (a .d .nesting .0) (P .6) in
-    (((th, (T, (y, mem))), P .2, explains-believed t (c .before) y .1, omega (arith, P .5, P .3, less)))
+    (((th, (T, (y, mem))), P .2, explains-believed t (c .before) y .1, omega (arith, free-fewer (a .p) (a .slot) (1 + a .p .foresight .0 * a .d .nesting .0) 2 (omega (arith, less, P .3)) (P .5))))
 
 explains-same-length : (t : ℕ) → explains-lts.Need-same-length (explains-calls t) (explains-at t) explains.Post
 explains-same-length t c = search needs
@@ -477,41 +477,41 @@ explains-returns t c =
 
 explains-add-next : (t : ℕ) → explains-lts.Need-add-next (explains-calls t) (explains-at t) explains.Post
 explains-add-next t c =
-    let at-wide = c .before .before .before .before .before in
+    let at-wide = c .before .before .before .before .before .before in
     let start = at-wide .before .before .before .before .before .before .before in
     omega (arith, start .pre .1 .5)
 
 explains-table-in-requires : (t : ℕ) → explains-lts.Need-table-in-requires (explains-calls t) (explains-at t) explains.Post
 explains-table-in-requires t c κs =
-    let at-known-step = c .before .before .before .before in
+    let at-known-step = c .before .before .before .before .before in
     let start = at-known-step .before .before .before .before .before .before .before .before .before in
     let (th, (T, (y, mem))) = start .pre .1 .0 in
     (omega (arith, start .pre .1 .5, y .room, at-known-step .known-step .kept .1 .1 .1 .1 .0), omega (arith, small (y .tabled)))
 
 explains-add-utility : (t : ℕ) → explains-lts.Need-add-utility (explains-calls t) (explains-at t) explains.Post
 explains-add-utility t c =
-    let at-wide = c .before .before .before .before .before .before .before .before in
+    let at-wide = c .before .before .before .before .before .before .before .before .before in
     let start = at-wide .before .before .before .before .before .before .before in
     let (th, (T, (y, mem))) = start .pre .1 .0 in
     omega (arith, small (y .tabled), start .pre .1 .1)
 
 explains-mul-utility : (t : ℕ) → explains-lts.Need-mul-utility (explains-calls t) (explains-at t) explains.Post
 explains-mul-utility t c =
-    let at-wide = c .before .before .before .before .before .before .before .before in
+    let at-wide = c .before .before .before .before .before .before .before .before .before in
     let start = at-wide .before .before .before .before .before .before .before in
     let (th, (T, (y, mem))) = start .pre .1 .0 in
     omega (arith, small (y .tabled), start .pre .1 .1)
 
 explains-shared-slice-read-utility : (t : ℕ) → explains-lts.Need-shared-slice-read-utility (explains-calls t) (explains-at t) explains.Post
 explains-shared-slice-read-utility t c =
-    let at-wide = c .before .before .before .before .before .before .before .before .before in
+    let at-wide = c .before .before .before .before .before .before .before .before .before .before in
     let start = at-wide .before .before .before .before .before .before .before in
     let (th, (T, (y, mem))) = start .pre .1 .0 in
     omega (arith, y .theorized .marked, small (y .tabled), start .pre .1 .1)
 
 explains-cast-utility : (t : ℕ) → explains-lts.Need-cast-utility (explains-calls t) (explains-at t) explains.Post
 explains-cast-utility t c =
-    let at-wide = c .before .before .before .before .before .before .before .before .before in
+    let at-wide = c .before .before .before .before .before .before .before .before .before .before in
     let start = at-wide .before .before .before .before .before .before .before in
     omega (arith, c .shared-slice-known3 .given (321 + start .args .d .who))
 
@@ -520,8 +520,8 @@ explains-stays : (t : ℕ) (c : explains-lts.After-known-step (explains-calls t)
     let at-wide = c .before .before in
     let start = at-wide .before .before .before .before .before .before .before in
     let a = start .args in
-    Stage th T (a .pack .now) (a .places .now) (a .p) (a .work .now) (slotTable (a .p) (a .work .now) (a .slot)) (a .slot + 961) → Memory th (a .p .foresight .0) (a .p) (a .slot + 961) (a .work .now)
-    → Stage th T (a .pack .now) (a .places .now) (a .p) (c .known-step .last .1 .1 .1 .1 .0) (slotTable (a .p) (c .known-step .last .1 .1 .1 .1 .0) (a .slot)) (a .slot + 961) × (at-wide .wide .result < getD (c .known-step .last .1 .1 .1 .1 .0) (a .slot) 0)
+    Stage th T (a .pack .now) (a .places .now) (a .p) (a .work .now) (slotTable (a .p) (a .work .now) (a .slot)) (a .slot + a .p .stride) → Memory th (a .p .foresight .0) (a .p) (a .slot + a .p .stride) (a .work .now)
+    → Stage th T (a .pack .now) (a .places .now) (a .p) (c .known-step .last .1 .1 .1 .1 .0) (slotTable (a .p) (c .known-step .last .1 .1 .1 .1 .0) (a .slot)) (a .slot + a .p .stride) × (at-wide .wide .result < getD (c .known-step .last .1 .1 .1 .1 .0) (a .slot) 0)
 explains-stays t c {th} {T} y mem =
     let at-wide = c .before .before in
     let start = at-wide .before .before .before .before .before .before .before in
@@ -533,7 +533,7 @@ explains-stays t c {th} {T} y mem =
 explains-utility-requires : (t : ℕ) → explains-lts.Need-utility-requires (explains-calls t) (explains-at t) explains.Post
 explains-utility-requires t c κs =
     let at-table-in = c .before .before .before in
-    let at-known-step = at-table-in .before .before .before .before .before in
+    let at-known-step = at-table-in .before .before .before .before .before .before in
     let at-wide = at-known-step .before .before in
     let start = at-wide .before .before .before .before .before .before .before in
     let P = start .pre .1 in
@@ -543,21 +543,21 @@ explains-utility-requires t c κs =
 
 explains-sub-t14 : (t : ℕ) → explains-lts.Need-sub-t14 (explains-calls t) (explains-at t) explains.Post
 explains-sub-t14 t c =
-    let at-if1 = c .before .before .before .before .before .before .before in
+    let at-if1 = c .before .before .before .before .before .before .before .before in
     let at-wide = at-if1 .before .before .before .before .before in
     let start = at-wide .before .before .before .before .before .before .before in
     omega (arith, start .pre .1 .6)
 
 explains-sub-extends : (t : ℕ) → explains-lts.Need-sub-extends (explains-calls t) (explains-at t) explains.Post
 explains-sub-extends t c =
-    let at-if1 = c .before .before .before .before .before .before .before .before .before in
+    let at-if1 = c .before .before .before .before .before .before .before .before .before .before in
     let at-wide = at-if1 .before .before .before .before .before in
     let start = at-wide .before .before .before .before .before .before .before in
     omega (arith, start .pre .1 .3)
 
 explains-extends-requires : (t : ℕ) → explains-lts.Need-extends-requires (explains-calls t) (explains-at t) explains.Post
 explains-extends-requires t c κs =
-    let at-if1 = c .before .before .before .before .before .before .before .before .before in
+    let at-if1 = c .before .before .before .before .before .before .before .before .before .before in
     let at-known-step = at-if1 .before .before .before in
     let start = at-known-step .before .before .before .before .before .before .before .before .before in
     let (m, P) = start .pre in
@@ -565,17 +565,17 @@ explains-extends-requires t c κs =
     let (th, (T, (y, mem))) = P .0 in
     let s = at-known-step .known-step in
     let less = one-less (a .p .foresight .0) (a .d .nesting .0) (P .6) in
-    let f : Free (a .slot + 961) 1 = omega (arith, P .5, P .3, less) in
+    let f : Free (a .p) (a .slot + a .p .stride) 1 = omega (arith, free-fewer (a .p) (a .slot) (1 + a .p .foresight .0 * a .d .nesting .0) 2 (omega (arith, less, P .3)) (P .5)) in
     let played = s .ensures th T y mem in
     let long = s .kept .1 .1 .1 .1 .0 in
     let zero : s .result ≡ 0 = omega (arith, at-if1 .if1 .left) in
-    (omega (arith, m, P .4, P .6), ((th, (nextTable y _ played f long zero, (next-stage y _ played f long zero, played .further zero))), P .1, P .3, P .4, omega (arith, P .5, P .3, less)))
+    (omega (arith, m, P .4, P .6), ((th, (nextTable y _ played f long zero, (next-stage y _ played f long zero, played .further zero))), P .1, P .3, P .4, omega (arith, free-fewer (a .p) (a .slot) (1 + a .p .foresight .0 * a .d .nesting .0) (2 + (a .p .foresight .0 - 1) + a .p .foresight .0 * (a .d .nesting .0 - 1)) (omega (arith, less, P .3)) (P .5))))
 
 explains-same-length-2 : (t : ℕ) → explains-lts.Need-same-length-2 (explains-calls t) (explains-at t) explains.Post
 explains-same-length-2 t c =
     let at-extends = c .before .before in
     let at-table-in = at-extends .before .before .before .before .before .before .before .before in
-    let at-known-step = at-table-in .before .before .before .before .before in
+    let at-known-step = at-table-in .before .before .before .before .before .before in
     at-extends .extends .kept .1 .1 .1 .0 ∙ at-known-step .known-step .kept .1 .1 .1 .1 .0
 
 explains-returns-2 : (t : ℕ) → explains-lts.Need-returns-2 (explains-calls t) (explains-at t) explains.Post
@@ -583,7 +583,7 @@ explains-returns-2 t c =
     let at-extends = c .before .before in
     let at-utility = at-extends .before .before .before .before in
     let at-table-in = at-utility .before .before .before .before in
-    let at-if1 = at-table-in .before .before in
+    let at-if1 = at-table-in .before .before .before in
     let at-known-step = at-if1 .before .before .before in
     let at-wide = at-known-step .before .before in
     let start = at-wide .before .before .before .before .before .before .before in
@@ -592,7 +592,7 @@ explains-returns-2 t c =
     let s = at-known-step .known-step in
     let some : 0 < a .d .nesting .0 = P .6 in
     let less = one-less (a .p .foresight .0) (a .d .nesting .0) some in
-    let f : Free (a .slot + 961) 1 = omega (arith, P .5, P .3, less) in
+    let f : Free (a .p) (a .slot + a .p .stride) 1 = omega (arith, free-fewer (a .p) (a .slot) (1 + a .p .foresight .0 * a .d .nesting .0) 2 (omega (arith, less, P .3)) (P .5)) in
     let long = s .kept .1 .1 .1 .1 .0 in
     let zero : s .result ≡ 0 = omega (arith, at-if1 .if1 .left) in
     let up : suc (a .d .nesting .0 - 1) ≡ a .d .nesting .0 = omega (arith, some) in
@@ -682,8 +682,11 @@ extends-within-reach-requires t c κs =
     let at-table-in = c .before .before .before .before .before .before .before .before .before in
     let start = at-table-in .before .before .before .before .before in
     let P = start .pre .1 in
+    let a = start .args in
     let (th, (T, (y, mem))) = P .0 in
-    (((th, (T, y)), omega (arith, P .4), omega (arith, P .1)), omega (arith, P .4))
+    let wanted = 1 + a .left + a .p .foresight .0 * a .g .nesting .0 in
+    let few = free-few (a .p) (a .slot) wanted (y .laid) (P .4) in
+    (((th, (T, y)), free-fewer (a .p) (a .slot) wanted 1 (omega arith) (P .4), omega (arith, P .1)), omega (arith, few))
 
 extends-same-length-3 : (t : ℕ) → extends-lts.Need-same-length-3 (extends-calls t) (extends-at t) extends.Post
 extends-same-length-3 t c = search needs
@@ -720,7 +723,7 @@ extends-returns-4 t c =
     let a = start .args in
     let r = at-recall .recall in
     λ th T y mem.
-    let (m, fact) = r .ensures .told th (a .p .foresight .0) (a .slot + 961) (omega (arith, P .4)) (y .slotted) mem in
+    let (m, fact) = r .ensures .told th (a .p .foresight .0) (a .slot + a .p .stride) (omega (arith, P .4)) (y .slotted) mem in
     told-no (λ q l. r .ensures .only .low q (omega (arith, l, P .4))) (r .ensures .only .high) m (known y key fact .no (c .if4 .taken))
 
 extends-same-length-5 : (t : ℕ) → extends-lts.Need-same-length-5 (extends-calls t) (extends-at t) extends.Post
@@ -736,7 +739,7 @@ extends-returns-5 t c =
     let a = start .args in
     let r = at-recall .recall in
     λ th T y mem.
-    let (m, fact) = r .ensures .told th (a .p .foresight .0) (a .slot + 961) (omega (arith, P .4)) (y .slotted) mem in
+    let (m, fact) = r .ensures .told th (a .p .foresight .0) (a .slot + a .p .stride) (omega (arith, P .4)) (y .slotted) mem in
     told-yes (λ q l. r .ensures .only .low q (omega (arith, l, P .4))) (r .ensures .only .high) m (known y key fact .yes (c .if5 .taken))
 
 extends-sub-extends-by : (t : ℕ) → extends-lts.Need-sub-extends-by (extends-calls t) (extends-at t) extends.Post
@@ -754,7 +757,7 @@ extends-extends-by-requires t c κs =
     let a = start .args in
     let (th, (T, (y, mem))) = P .0 in
     let r = at-recall .recall in
-    (omega (arith, m, at-if2 .if2 .left), ((th, (T, (slot-same (a .slot) y (λ q l. r .ensures .only .low q (omega (arith, l, P .4))) (r .kept .0), r .ensures .told th (a .p .foresight .0) (a .slot + 961) (omega (arith, P .4)) (y .slotted) mem .0))), P .1, P .2, P .3, omega (arith, P .4, at-if2 .if2 .left)))
+    (omega (arith, m, at-if2 .if2 .left), ((th, (T, (slot-same (a .slot) y (λ q l. r .ensures .only .low q (omega (arith, l, P .4))) (r .kept .0), r .ensures .told th (a .p .foresight .0) (a .slot + a .p .stride) (omega (arith, P .4)) (y .slotted) mem .0))), P .1, P .2, P .3, free-fewer (a .p) (a .slot) (1 + a .left + a .p .foresight .0 * a .g .nesting .0) (2 + (a .left - 1) + a .p .foresight .0 * a .g .nesting .0) (omega (arith, at-if2 .if2 .left)) (P .4)))
 
 extends-mark-of-requires : (t : ℕ) → extends-lts.Need-mark-of-requires (extends-calls t) (extends-at t) extends.Post
 extends-mark-of-requires t c κs = search needs
@@ -770,7 +773,7 @@ extends-remember-requires t c κs =
     let (th, (T, (y, mem))) = P .0 in
     let r = at-recall .recall in
     let x = at-extends-by .extends-by in
-    let told = x .ensures th T (slot-same (a .slot) y (λ q l. r .ensures .only .low q (omega (arith, l, P .4))) (r .kept .0)) (r .ensures .told th (a .p .foresight .0) (a .slot + 961) (omega (arith, P .4)) (y .slotted) mem .0) in
+    let told = x .ensures th T (slot-same (a .slot) y (λ q l. r .ensures .only .low q (omega (arith, l, P .4))) (r .kept .0)) (r .ensures .told th (a .p .foresight .0) (a .slot + a .p .stride) (omega (arith, P .4)) (y .slotted) mem .0) in
     stage-before (slot-same (a .slot) (slot-same {now = r .last .0} (a .slot) y (λ q l. r .ensures .only .low q (omega (arith, l, P .4))) (r .kept .0)) (told .low) (x .kept .1 .1 .1 .0)) (omega (arith, P .4))
 
 extends-same-length-6 : (t : ℕ) → extends-lts.Need-same-length-6 (extends-calls t) (extends-at t) extends.Post
@@ -800,7 +803,7 @@ extends-returns-6 t c =
     let x = at-extends-by .extends-by in
     λ th T y mem.
     let s = meaning (a .p .characters) T 0 in
-    let told = x .ensures th T (slot-same (a .slot) y (λ q l. r .ensures .only .low q (omega (arith, l, P .4))) (r .kept .0)) (r .ensures .told th (a .p .foresight .0) (a .slot + 961) (omega (arith, P .4)) (y .slotted) mem .0) in
+    let told = x .ensures th T (slot-same (a .slot) y (λ q l. r .ensures .only .low q (omega (arith, l, P .4))) (r .kept .0)) (r .ensures .told th (a .p .foresight .0) (a .slot + a .p .stride) (omega (arith, P .4)) (y .slotted) mem .0) in
     let here : a .g .base < utilityTo th (a .g .who) s → ⊥ = (λ b. omega (arith, stage-utility y (a .g .who) 0 (P .1) (utility-in (a .pack .now) (getD (a .places .now) (321 + a .g .who) 0) (a .work .now) 0 (at-utility .utility .result) (at-table-in .table-in .ensures) (at-utility .utility .ensures)), at-if1 .if1 .left, b)) in
     let whole = extended th (a .p .foresight .0) (a .g .nesting .0) (a .g .who) (a .g .base) (a .left) s some here told in
     let z′ = slot-same (a .slot) (slot-same {now = r .last .0} (a .slot) y (λ q l. r .ensures .only .low q (omega (arith, l, P .4))) (r .kept .0)) (told .low) (x .kept .1 .1 .1 .0) in
@@ -809,12 +812,12 @@ extends-returns-6 t c =
       complete = whole .complete;
       low = λ q l. rem .only .low q (omega (arith, l, P .4)) ∙ told .low q l ∙ r .ensures .only .low q (omega (arith, l, P .4));
       high = λ q l. rem .only .high q l ∙ told .high q l ∙ r .ensures .only .high q l;
-      memory = rem .memory th (a .p .foresight .0) (a .slot + 961) (omega (arith, P .4)) (z′ .slotted) (told .memory) (note z′ key (noted th (a .p .foresight .0) (a .g .nesting .0) (a .g .who) (a .g .base) (a .left) s some here told (at-mark-of .mark-of .ensures)));
+      memory = rem .memory th (a .p .foresight .0) (a .slot + a .p .stride) (omega (arith, P .4)) (z′ .slotted) (told .memory) (note z′ key (noted th (a .p .foresight .0) (a .g .nesting .0) (a .g .who) (a .g .base) (a .left) s some here told (at-mark-of .mark-of .ensures)));
     }
 
 abbrev extends-by-Inv-loop : extends-by-lts.InvT-loop
-extends-by-Inv-loop pack places p work₀ slot g left whose hope x₀ work x = (length work ≡ length work₀) × Below work₀ work (slot + 961) × Above work₀ work workRoom
-    × ((th : Theory) (T : List Node) → Stage th T pack places p work₀ (slotTable p work₀ slot) (slot + 961) → Memory th (p .foresight .0) p (slot + 961) work₀ → Memory th (p .foresight .0) p (slot + 961) work × ((y : ℕ) → y < x → AboveBy th (p .foresight .0) (g .nesting .0) (g .who) (g .base) (suc left) y (meaning (p .characters) T 0) → ⊥))
+extends-by-Inv-loop pack places p work₀ slot g left whose hope x₀ work x = (length work ≡ length work₀) × Below work₀ work (slot + p .stride) × Above work₀ work workRoom
+    × ((th : Theory) (T : List Node) → Stage th T pack places p work₀ (slotTable p work₀ slot) (slot + p .stride) → Memory th (p .foresight .0) p (slot + p .stride) work₀ → Memory th (p .foresight .0) p (slot + p .stride) work × ((y : ℕ) → y < x → AboveBy th (p .foresight .0) (g .nesting .0) (g .who) (g .base) (suc left) y (meaning (p .characters) T 0) → ⊥))
 
 abbrev extends-by-μ-loop : extends-by-lts.MeasureT-loop
 extends-by-μ-loop pack places p work₀ slot g left whose hope x₀ work x = p .actions - x
@@ -1004,13 +1007,13 @@ via-returns-2 t c =
 
 via-add-extends : (t : ℕ) → via-lts.Need-add-extends (via-calls t) (via-at t) via.Post
 via-add-extends t c =
-    let at-if1 = c .before .before .before .before .before .before in
+    let at-if1 = c .before .before .before .before .before .before .before in
     let start = at-if1 .before .before .before .before .before .before .before .before .before in
     omega (arith, start .pre .1 .5)
 
 via-extends-requires : (t : ℕ) → via-lts.Need-extends-requires (via-calls t) (via-at t) via.Post
 via-extends-requires t c κs =
-    let at-known-step = c .before .before .before .before in
+    let at-known-step = c .before .before .before .before .before in
     let at-allowed = at-known-step .before .before .before .before .before in
     let start = at-allowed .before .before .before .before .before .before in
     let (m, P) = start .pre in
@@ -1020,23 +1023,23 @@ via-extends-requires t c κs =
     let s = at-known-step .known-step in
     let told = w .ensures th T y mem in
     let z′ = slot-same (a .slot) y (told .low) (w .kept .1 .1 .1 .0) in
-    let f : Free (a .slot + 961) 1 = omega (arith, P .5) in
+    let f : Free (a .p) (a .slot + a .p .stride) 1 = omega (arith, P .5) in
     let long = s .kept .1 .1 .1 .1 .0 in
     let played = s .ensures th T z′ (told .memory) in
-    let zero : s .result ≡ 0 = omega (arith, c .before .if2 .left) in
+    let zero : s .result ≡ 0 = omega (arith, c .before .before .if2 .left) in
     (omega (arith, m), ((th, (nextTable z′ 0 played f long zero, (next-stage z′ 0 played f long zero, played .further zero))), P .1, P .3, P .4, omega (arith, P .5)))
 
 via-same-length-3 : (t : ℕ) → via-lts.Need-same-length-3 (via-calls t) (via-at t) via.Post
 via-same-length-3 t c =
     let at-extends = c .before .before in
-    let at-known-step = at-extends .before .before .before .before .before in
+    let at-known-step = at-extends .before .before .before .before .before .before in
     let at-allowed = at-known-step .before .before .before .before .before in
     at-extends .extends .kept .1 .1 .1 .0 ∙ at-known-step .known-step .kept .1 .1 .1 .1 .0 ∙ at-allowed .allowed .kept .1 .1 .1 .0
 
 via-returns-3 : (t : ℕ) → via-lts.Need-returns-3 (via-calls t) (via-at t) via.Post
 via-returns-3 t c =
     let at-extends = c .before .before in
-    let at-if2 = at-extends .before .before in
+    let at-if2 = at-extends .before .before .before in
     let at-known-step = at-if2 .before .before .before in
     let at-if1 = at-known-step .before .before in
     let at-allowed = at-if1 .before .before .before in
@@ -1046,7 +1049,7 @@ via-returns-3 t c =
     let w = at-allowed .allowed in
     let s = at-known-step .known-step in
     let zero : s .result ≡ 0 = omega (arith, at-if2 .if2 .left) in
-    let f : Free (a .slot + 961) 1 = omega (arith, P .5) in
+    let f : Free (a .p) (a .slot + a .p .stride) 1 = omega (arith, P .5) in
     let long = s .kept .1 .1 .1 .1 .0 in
     λ th T y mem.
     let told = w .ensures th T y mem in

@@ -1,50 +1,92 @@
 -- A table is compared with the one that is kept: its count, and then all its bytes. Assumes nothing.
-use Prim.Native.Nat.{_*_}
-use mathlib.Core.Path.{sym}
+use Prim.Native.Nat.{ℕ, _+_, _*_}
+use mathlib.Core.Path.{_≡_, sym, ap, _∙_}
 use native.Mathlib.Omega.{arith}
-use borrow.Author.Tests.{leb-true}
-use Rattle.planner.proofs.TrueMemory.{unset, kept-as}
+use borrow.Author.Tests.{leb-true, leb-false}
+use Rattle.planner.proofs.SameBytes.{named-bytes}
+use Rattle.planner.proofs.TrueMemory.{unset, kept-as, blocks-most}
 use borrow.Author.Needs.{needs}
 use Rattle.planner.proofs.intern.has_id.Statement.{statement}
 use Rattle.planner.proofs.intern.has_id.Tie as tie
-
-returns-4 : tie.Need-returns-4
-returns-4 c =
-    let at-wide2 = c .before .before .before in
-    let at-if2 = at-wide2 .before .before in
-    let at-wide = at-if2 .before in
-    let at-if1 = at-wide .before .before .before in
-    let start = at-if1 .before .before in
-    λ e.
-    let a = start .args in
-    let f = c .first-other in
-    kept-as (a .p) (start .pre .0) (a .id) (omega (arith, at-if1 .if1 .left)) (omega (arith, at-if2 .if2 .left, at-wide .wide .ensures)) (omega (arith, at-wide2 .wide2 .ensures, c .before .if3 .left))
-    (λ q l. sym (f .ensures .before q (omega (arith, l, leb-true (a .t .nodes * a .t .width) (f .result) e))))
 
 pub has-id-spec : {M : Type 1} → statement M
 has-id-spec =
     tie.close
     (tie.spec
-    (λ c. unset)
+    (λ c. (unset, λ e x. omega (arith, x .kept .some, c .if1 .taken)))
     (λ c. search needs)
-    (λ c. search needs)
+    (λ c.
+    let start = c .before .before .before .before in
+    omega (arith, start .pre .0 .laid .room))
+    (λ c.
+    let start = c .before .before .before .before .before in
+    omega (arith, start .pre .0 .laid .room, start .pre .0 .room))
     (λ c κs. search needs)
-    (λ c. omega (arith, c .wide .ensures, c .before .shared-slice-known2 .given 43518))
-    (λ c. omega (arith, c .wide .ensures, c .before .shared-slice-known2 .given 43518))
-    (λ c. search needs)
-    (λ c. search needs)
-    (λ c. unset)
-    (λ c. search needs)
-    (λ c. search needs)
-    (λ c. search needs)
-    (λ c κs. search needs)
-    (λ c. unset)
-    (λ c. search needs)
-    (λ c κs.
-    let at-if2 = c .before .before .before .before in
-    let at-wide = at-if2 .before in
+    (λ c.
+    let at-wide = c .before in
     let at-shared-slice-known2 = at-wide .before in
-    let start = at-shared-slice-known2 .before .before .before .before in
+    let start = at-shared-slice-known2 .before .before .before .before .before in
+    omega (arith, blocks-most (start .args .p) (start .pre .0 .laid) (at-wide .wide .result) (omega (arith, at-wide .wide .ensures, at-shared-slice-known2 .shared-slice-known2 .given (start .args .p .memory + 48)))))
+    (λ c.
+    let at-wide = c .before .before in
+    let at-shared-slice-known2 = at-wide .before in
+    let start = at-shared-slice-known2 .before .before .before .before .before in
+    omega (arith, blocks-most (start .args .p) (start .pre .0 .laid) (at-wide .wide .result) (omega (arith, at-wide .wide .ensures, at-shared-slice-known2 .shared-slice-known2 .given (start .args .p .memory + 48))), start .pre .0 .laid .room))
+    (λ c.
+    let start = c .before .before .before .before .before .before .before .before .before in
+    omega (arith, blocks-most (start .args .p) (start .pre .0 .laid) (start .args .id) (start .pre .1)))
+    (λ c.
+    let start = c .before .before .before .before .before .before .before .before .before in
+    omega (arith, blocks-most (start .args .p) (start .pre .0 .laid) (start .args .id) (start .pre .1), start .pre .0 .before, start .pre .0 .laid .room))
+    (λ c.
+    let at-wide = c .before .before .before .before in
+    let start = at-wide .before .before .before .before .before .before in
+    let a = start .args in
     let b = start .pre .0 in
-    (omega (arith, b .before, b .room), omega (arith, at-if2 .if2 .left, at-wide .wide .ensures, at-shared-slice-known2 .shared-slice-known2 .given 43518, b .room)))
-    returns-4)
+    let wide : a .p .fluents + a .p .characters ≡ a .t .width = ap (λ (f : ℕ). f + a .p .characters) (b .fluents) ∙ ap (λ (c : ℕ). a .t .fluents + c) (b .characters) ∙ b .wide in
+    (unset, λ e x. omega (arith, x .kept .inside, ap (λ (k : ℕ). k * (a .p .fluents + a .p .characters)) (x .count), ap (λ (k : ℕ). a .t .nodes * k) wide, c .if2 .taken, ap (λ (k : ℕ). start .args .p .block * k) (at-wide .wide .ensures), b .laid .room)))
+    (λ c.
+    let start = c .before .before .before .before .before .before .before .before .before .before .before in
+    omega (arith, start .pre .0 .laid .room))
+    (λ c.
+    let start = c .before .before .before .before .before .before .before .before .before .before .before .before in
+    omega (arith, start .pre .0 .laid .room))
+    (λ c.
+    let start = c .before .before .before .before .before .before .before .before .before .before .before .before .before in
+    omega (arith, blocks-most (start .args .p) (start .pre .0 .laid) (start .args .id) (start .pre .1)))
+    (λ c.
+    let start = c .before .before .before .before .before .before .before .before .before .before .before .before .before in
+    omega (arith, blocks-most (start .args .p) (start .pre .0 .laid) (start .args .id) (start .pre .1), start .pre .0 .laid .room))
+    (λ c.
+    let at-if2 = c .before .before .before .before in
+    let at-wide = at-if2 .before .before .before .before in
+    let at-shared-slice-known2 = at-wide .before in
+    let start = at-shared-slice-known2 .before .before .before .before .before in
+    omega (arith, blocks-most (start .args .p) (start .pre .0 .laid) (at-wide .wide .result) (omega (arith, at-wide .wide .ensures, at-shared-slice-known2 .shared-slice-known2 .given (start .args .p .memory + 48))), start .pre .0 .laid .room, start .pre .0 .room, at-if2 .if2 .left))
+    (λ c κs. search needs)
+    (λ c.
+    let at-wide2 = c .before .before in
+    (unset, λ e x. omega (arith, x .count, at-wide2 .wide2 .ensures, c .if3 .taken)))
+    (λ c.
+    let start = c .before .before .before .before .before .before .before .before .before .before .before .before .before .before .before .before .before in
+    omega (arith, blocks-most (start .args .p) (start .pre .0 .laid) (start .args .id) (start .pre .1), start .pre .0 .laid .room))
+    (λ c κs.
+    let at-if2 = c .before .before .before .before .before .before .before in
+    let at-wide = at-if2 .before .before .before .before in
+    let at-shared-slice-known2 = at-wide .before in
+    let start = at-shared-slice-known2 .before .before .before .before .before in
+    (omega (arith, start .pre .0 .before, start .pre .0 .room, start .pre .0 .laid .room), omega (arith, at-if2 .if2 .left, blocks-most (start .args .p) (start .pre .0 .laid) (at-wide .wide .result) (omega (arith, at-wide .wide .ensures, at-shared-slice-known2 .shared-slice-known2 .given (start .args .p .memory + 48))), start .pre .0 .room, start .pre .0 .laid .room)))
+    (λ c.
+    let at-if3 = c .before in
+    let at-wide2 = at-if3 .before .before in
+    let at-if2 = at-wide2 .before .before .before .before .before in
+    let at-wide = at-if2 .before .before .before .before in
+    let at-if1 = at-wide .before .before .before .before in
+    let start = at-if1 .before .before in
+    let a = start .args in
+    let f = c .first-other in
+    let n = a .t .nodes * a .t .width in (
+      λ e. kept-as (a .p) (start .pre .0) (a .id) (omega (arith, at-if1 .if1 .left)) (omega (arith, at-if2 .if2 .left, ap (λ (k : ℕ). start .args .p .block * k) (at-wide .wide .ensures))) (omega (arith, at-wide2 .wide2 .ensures, at-if3 .if3 .left))
+          (λ q l. sym (f .ensures .before q (omega (arith, l, leb-true (a .t .nodes * a .t .width) (f .result) e)))),
+      λ e x. f .ensures .here (omega (arith, leb-false n (f .result) e)) (named-bytes (a .p) (start .pre .0) x (f .result) (omega (arith, leb-false n (f .result) e))),
+    )))

@@ -1,7 +1,7 @@
 -- The id that is known by the slot, or a new one. Assumes nothing.
 use Prim.Native.Nat.{_+_, _/_}
 use native.Mathlib.Omega.{arith}
-use Rattle.planner.proofs.TrueMemory.{naming-known}
+use Rattle.planner.proofs.TrueMemory.{row-index, naming-known}
 use borrow.Author.Needs.{needs}
 use Rattle.planner.proofs.intern.id_of.Statement.{statement}
 use Rattle.planner.proofs.intern.id_of.Tie as tie
@@ -10,17 +10,25 @@ pub id-of-spec : {M : Type 1} → statement M
 id-of-spec =
     tie.close
     (tie.spec
-    (λ c. omega (arith, c .before .pre .before))
-    (λ c. omega (arith, c .before .pre .before))
+    (λ c.
+    let start = c .before in
+    omega (arith, start .pre .before, start .pre .laid .room))
     (λ c.
     let start = c .before .before in
-    omega (arith, start .pre .before, start .pre .room))
+    omega (arith, start .pre .laid .some))
+    (λ c.
+    let start = c .before .before .before in
+    omega (arith, row-index (start .args .p) (start .pre), start .pre .laid .room))
+    (λ c.
+    let start = c .before .before .before .before in
+    omega (arith, row-index (start .args .p) (start .pre), start .pre .laid .room, start .pre .room))
     (λ c κs. search needs)
     (λ c.
     let at-wide = c .before in
     let at-slice-known2 = at-wide .before in
-    let start = at-slice-known2 .before .before in
-    naming-known (start .args .p) (start .pre) (omega (arith, at-wide .wide .ensures, at-slice-known2 .slice-known2 .given (43470 + (start .args .slot + 1) / 961))) (at-wide .wide .ensures))
+    let start = at-slice-known2 .before .before .before .before in
+    let a = start .args in
+    naming-known (a .p) (start .pre) (omega (arith, at-wide .wide .ensures, at-slice-known2 .slice-known2 .given (a .p .memory + (a .slot + 1) / a .p .stride))) (at-wide .wide .ensures))
     (λ c κs. search needs)
     (λ c. search needs)
     (λ c.

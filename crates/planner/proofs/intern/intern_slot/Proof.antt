@@ -3,7 +3,7 @@ use mathlib.Core.Path.{sym, subst}
 use native.Mathlib.Omega.{arith}
 use Rattle.pack.specs.declared.table.Table.{Table}
 use Rattle.planner.specs.Inner.Memory.{Before, Stored}
-use Rattle.planner.proofs.TrueMemory.{naming-new}
+use Rattle.planner.proofs.TrueMemory.{row-index, naming-new}
 use borrow.Author.Needs.{needs}
 use Rattle.planner.proofs.intern.intern_slot.Statement.{statement}
 use Rattle.planner.proofs.intern.intern_slot.Tie as tie
@@ -14,26 +14,28 @@ intern-slot-spec =
     (tie.spec
     (λ c κs.
     let start = c .before .before in
-    let b = start .pre in
-    (omega (arith, b .before, b .room), b .narrow))
+    let b = start .pre in (omega (arith, b .before, b .room, b .laid .room), b .narrow))
     (λ c κs.
-    let start = c .before .before .before .before in
-    let a = start .args in
-    subst (Before (a .p) (a .work .now)) (sym (c .before .table-in .ensures)) (start .pre))
+    let at-table-in = c .before in
+    let start = at-table-in .before .before .before in
+    let a = start .args in subst (Before (a .p) (a .work .now)) (sym (at-table-in .table-in .ensures)) (start .pre))
     (λ c. search needs)
     (λ c.
     let start = c .before .before .before .before .before .before .before in
-    omega (arith, start .pre .before))
+    omega (arith, start .pre .before, start .pre .laid .room))
     (λ c.
-    let start = c .before .before .before .before .before .before .before in
-    omega (arith, start .pre .before))
+    let start = c .before .before .before .before .before .before .before .before in
+    omega (arith, start .pre .laid .some))
     (λ c.
-    let at-intern = c .before .before in
+    let start = c .before .before .before .before .before .before .before .before .before in
+    omega (arith, row-index (start .args .p) (start .pre), start .pre .laid .room))
+    (λ c.
+    let at-intern = c .before .before .before .before in
     let start = at-intern .before .before .before .before .before in
-    omega (arith, start .pre .before, start .pre .room, at-intern .intern .kept .0))
+    omega (arith, row-index (start .args .p) (start .pre), start .pre .laid .room, start .pre .room, at-intern .intern .kept .0))
     (λ c. search needs)
     (λ c.
-    let at-intern = c .before .before in
+    let at-intern = c .before .before .before .before in
     let at-table-in = at-intern .before .before in
     let start = at-table-in .before .before .before in
     let a = start .args in

@@ -1,9 +1,9 @@
 -- A table is put behind those that are kept. Assumes nothing.
-use Prim.Native.Nat.{_+_, _*_, _/_}
+use Prim.Native.Nat.{_+_, _*_, _/_, _≤_}
 use mathlib.Core.Path.{refl, _∙_}
 use native.Mathlib.Omega.{arith}
 use lib.ListN.{length-set}
-use Rattle.planner.proofs.TrueMemory.{table-size, stored-none, stored-new}
+use Rattle.planner.proofs.TrueMemory.{table-size, stored-none, stored-new, blocks-most, part-most}
 use borrow.Author.Needs.{needs}
 use Rattle.planner.proofs.intern.store.Statement.{statement}
 use Rattle.planner.proofs.intern.store.Tie as tie
@@ -13,44 +13,90 @@ store-spec =
     tie.close
     (tie.spec
     (λ c. search needs)
-    (λ c. search needs)
-    (λ c κs. search needs)
-    (λ c. omega (arith, c .wide .ensures, c .before .slice-known2 .given 43518))
+    (λ c.
+    let start = c .before .before .before in
+    omega (arith, start .pre .laid .room))
     (λ c.
     let start = c .before .before .before .before in
-    omega (arith, c .wide .ensures, c .before .slice-known2 .given 43518, table-size (start .args .p) (start .pre)))
+    omega (arith, start .pre .laid .room, start .pre .room))
+    (λ c κs. search needs)
     (λ c.
-    let start = c .before .before .before .before .before in
+    let start = c .before .before .before .before .before .before in
+    omega (arith, start .pre .laid .blocks))
+    (λ c.
+    let start = c .before .before .before .before .before .before in
+    omega (arith, part-most (start .args .t .nodes * start .args .t .width) (start .args .p .block) (start .pre .laid .blocks), table-size (start .args .p) (start .pre)))
+    (λ c.
+    let at-wide = c .before in
+    let at-slice-known2 = at-wide .before in
+    let start = at-slice-known2 .before .before .before .before in
+    omega (arith, part-most (start .args .t .nodes * start .args .t .width) (start .args .p .block) (start .pre .laid .blocks), table-size (start .args .p) (start .pre), at-wide .wide .ensures, at-slice-known2 .slice-known2 .given (start .args .p .memory + 48)))
+    (λ c.
+    let start = c .before .before .before .before .before .before .before in
     stored-none (start .args .p))
+    (λ c.
+    let start = c .before .before .before .before .before .before .before .before in
+    omega (arith, start .pre .laid .room))
+    (λ c.
+    let at-wide = c .before .before .before .before in
+    let at-slice-known2 = at-wide .before in
+    let start = at-slice-known2 .before .before .before .before in
+    omega (arith, blocks-most (start .args .p) (start .pre .laid) (at-wide .wide .result) (omega (arith, at-wide .wide .ensures, at-slice-known2 .slice-known2 .given (start .args .p .memory + 48)))))
+    (λ c.
+    let at-wide = c .before .before .before .before in
+    let at-slice-known2 = at-wide .before in
+    let start = at-slice-known2 .before .before .before .before in
+    omega (arith, blocks-most (start .args .p) (start .pre .laid) (at-wide .wide .result) (omega (arith, at-wide .wide .ensures, at-slice-known2 .slice-known2 .given (start .args .p .memory + 48)))))
     (λ c. search needs)
-    (λ c. search needs)
-    (λ c. search needs)
-    (λ c. search needs)
-    (λ c. search needs)
+    (λ c.
+    let at-wide = c .before .before .before .before .before in
+    let at-slice-known2 = at-wide .before in
+    let start = at-slice-known2 .before .before .before .before in
+    omega (arith, blocks-most (start .args .p) (start .pre .laid) (at-wide .wide .result) (omega (arith, at-wide .wide .ensures, at-slice-known2 .slice-known2 .given (start .args .p .memory + 48))), start .pre .room))
+    (λ c.
+    let at-wide = c .before .before .before .before .before .before in
+    let at-slice-known2 = at-wide .before in
+    let start = at-slice-known2 .before .before .before .before in
+    omega (arith, blocks-most (start .args .p) (start .pre .laid) (at-wide .wide .result) (omega (arith, at-wide .wide .ensures, at-slice-known2 .slice-known2 .given (start .args .p .memory + 48)))))
     (λ c κs.
-    let at-if1 = c .before .before in
-    let at-wide = at-if1 .before in
-    let start = at-wide .before .before .before .before in
+    let at-wide = c .before .before .before .before .before .before in
+    let at-slice-known2 = at-wide .before in
+    let start = at-slice-known2 .before .before .before .before in
     let b = start .pre in
-    let long = length-set (start .args .work .now) (45952 + 12 * at-wide .wide .result) (start .args .t .nodes) in
-    (omega (arith, b .before), omega (arith, b .before, b .room, long), omega (arith, b .room, long, at-if1 .if1 .left)))
-    (λ c. search needs)
-    (λ c. search needs)
-    (λ c. search needs)
+    let long = length-set (start .args .work .now) (start .args .p .memory + 2482 + start .args .p .block * at-wide .wide .result) (start .args .t .nodes) in
+    let most = blocks-most (start .args .p) (start .pre .laid) (at-wide .wide .result) (omega (arith, at-wide .wide .ensures, at-slice-known2 .slice-known2 .given (start .args .p .memory + 48))) in
+    let size = table-size (start .args .p) (start .pre) in
+    (omega (arith, b .before), omega (arith, b .before, b .room, b .laid .room, long), omega (arith, b .room, long, most, size)))
     (λ c.
-    let at-copy-part = c .before .before in
-    let at-wide = at-copy-part .before .before .before .before in
-    let start = at-wide .before .before .before .before in
-    omega (arith, at-copy-part .copy-part .kept .0, length-set (start .args .work .now) (45952 + 12 * at-wide .wide .result) (start .args .t .nodes), start .pre .room))
-    (λ c. search needs)
+    let at-if1 = c .before .before .before .before .before .before .before in
+    omega (arith, at-if1 .if1 .left))
     (λ c.
-    let at-copy-part = c .before .before in
-    let at-wide = at-copy-part .before .before .before .before in
-    let start = at-wide .before .before .before .before in
-    length-set (at-copy-part .copy-part .last .0) 43518 (at-wide .wide .result + start .args .t .nodes * start .args .t .width / 12 + 1) ∙ at-copy-part .copy-part .kept .0 ∙ length-set (start .args .work .now) (45952 + 12 * at-wide .wide .result) (start .args .t .nodes))
+    let at-if1 = c .before .before .before .before .before .before .before in
+    omega (arith, at-if1 .if1 .left))
     (λ c.
-    let at-copy-part = c .before .before in
-    let at-if1 = at-copy-part .before .before .before in
-    let at-wide = at-if1 .before in
-    let start = at-wide .before .before .before .before in
-    stored-new (start .args .p) (start .pre) (at-wide .wide .ensures) (omega (arith, at-if1 .if1 .left)) (at-copy-part .copy-part .ensures) refl (at-copy-part .copy-part .kept .0 ∙ length-set (start .args .work .now) (45952 + 12 * at-wide .wide .result) (start .args .t .nodes))))
+    let start = c .before .before .before .before .before .before .before .before .before .before .before .before .before .before .before in
+    omega (arith, start .pre .laid .room))
+    (λ c.
+    let at-copy-part = c .before .before .before in
+    let at-wide = at-copy-part .before .before .before .before .before .before .before in
+    let start = at-wide .before .before .before .before .before in
+    omega (arith, at-copy-part .copy-part .kept .0, length-set (start .args .work .now) (start .args .p .memory + 2482 + start .args .p .block * at-wide .wide .result) (start .args .t .nodes), start .pre .room, start .pre .laid .room))
+    (λ c.
+    let at-wide = c .before .before .before .before .before .before .before .before .before .before in
+    let at-slice-known2 = at-wide .before in
+    let start = at-slice-known2 .before .before .before .before in
+    omega (arith, at-wide .wide .ensures, at-slice-known2 .slice-known2 .given (start .args .p .memory + 48)))
+    (λ c.
+    let at-copy-part = c .before .before .before in
+    let at-wide = at-copy-part .before .before .before .before .before .before .before in
+    let start = at-wide .before .before .before .before .before in
+    let a = start .args in
+    length-set (at-copy-part .copy-part .last .0) (a .p .memory + 48) (at-wide .wide .result + (a .t .nodes * a .t .width / a .p .block + 1)) ∙ at-copy-part .copy-part .kept .0 ∙ length-set (start .args .work .now) (start .args .p .memory + 2482 + start .args .p .block * at-wide .wide .result) (start .args .t .nodes))
+    (λ c.
+    let at-copy-part = c .before .before .before in
+    let at-if1 = at-copy-part .before .before .before .before .before in
+    let at-wide = at-if1 .before .before in
+    let start = at-wide .before .before .before .before .before in
+    let a = start .args in
+    let fits : at-wide .wide .result + (a .t .nodes * a .t .width / a .p .block + 1) ≤ 255 = omega (arith, at-if1 .if1 .left) in
+    stored-new (a .p) (start .pre) (at-wide .wide .ensures) fits (at-copy-part .copy-part .ensures) refl (at-copy-part .copy-part .kept .0 ∙ length-set (start .args .work .now) (start .args .p .memory + 2482 + start .args .p .block * at-wide .wide .result) (start .args .t .nodes))))

@@ -40,7 +40,7 @@ next-promising-spec =
     (λ c κs.
     let start = c .before .before .before in
     let b = start .pre .0 in
-    (omega (arith, b .before, b .room), b .narrow))
+    (omega (arith, b .before, b .behind, b .some, b .room), b .narrow))
     (λ c.
     let start = c .before .before .before .before in
     skipped-none (start .pre .1))

@@ -18,8 +18,8 @@ use Rattle.planner.specs.Inner.Explain.{Stage, Free}
 use Rattle.planner.specs.Inner.Search.{Best, Trail}
 use Rattle.planner.proofs.TrueMemory.{memory-fewer}
 use Rattle.planner.proofs.Pruning.{below-far, stage-trying, stage-skipped}
-use Rattle.planner.proofs.Reckoning.{ends-beyond}
-use Rattle.planner.proofs.Explanations.{nextTable, next-written, next-plays, next-stage, stage-extent, slot-same, stage-before, stage-state, known, note}
+use Rattle.planner.proofs.Reckoning.{free-few, ends-beyond}
+use Rattle.planner.proofs.Explanations.{nextTable, next-written, next-plays, next-stage, stage-extent, slot-same, stage-before, stage-state, known, note, free-fewer, free-next}
 use Rattle.planner.proofs.EarliestList.{best-none, best-from, best-noted, best-same, fact-of-none, trail-step, trail-same, trail-repeats, on-path, best-end, best-first, best-no, best-hopeless, best-by, best-by-none, agreed-from, agreed-to}
 use borrow.Fn.Kinds.{In}
 use borrow.Fn.PlainCycle.{Measures, is, falls, and}
@@ -98,11 +98,15 @@ abbrev completes-calls : ℕ → completes-lts.Claims
 completes-calls t = (ends-reads.Asked, ends-reads.Learnt, repeats-reads.Asked, repeats-reads.Learnt, within-reach-reads.Asked, within-reach-reads.Learnt, goal-key-reads.Asked, goal-key-reads.Learnt, recall-reads.Asked, recall-reads.Learnt, completes-after-below t, completes-after.Post, remember-reads.Asked, remember-reads.Learnt)
 
 completes-mul-slot : (t : ℕ) → completes-lts.Need-mul-slot (completes-calls t) (completes-at t) completes.Post
-completes-mul-slot t c = omega (arith, c .before .before .before .before .pre .1 .3)
+completes-mul-slot t c =
+    let start = c .before .before .before .before .before in
+    let P = start .pre .1 in
+    let (th, (T, (y, mem, trail))) = P .0 in
+    omega (arith, P .3, y .laid .room)
 
 completes-ends-requires : (t : ℕ) → completes-lts.Need-ends-requires (completes-calls t) (completes-at t) completes.Post
 completes-ends-requires t c κs =
-    let start = c .before .before .before .before .before .before in
+    let start = c .before .before .before .before .before .before .before in
     let P = start .pre .1 in
     let (th, (T, (y, mem, trail))) = P .0 in
     ((th, (T, y)), omega (arith, P .3))
@@ -113,7 +117,7 @@ completes-same-length t c = search needs
 completes-returns : (t : ℕ) → completes-lts.Need-returns (completes-calls t) (completes-at t) completes.Post
 completes-returns t c =
     let at-if1 = c .before .before in
-    let start = at-if1 .before .before .before .before .before in
+    let start = at-if1 .before .before .before .before .before .before in
     let a = start .args in
     let none : 0 ≡ a .left = omega (arith, at-if1 .if1 .taken) in
     λ th T y mem trail.
@@ -122,7 +126,7 @@ completes-returns t c =
 
 completes-repeats-requires : (t : ℕ) → completes-lts.Need-repeats-requires (completes-calls t) (completes-at t) completes.Post
 completes-repeats-requires t c κs =
-    let start = c .before .before .before .before .before .before in
+    let start = c .before .before .before .before .before .before .before in
     let P = start .pre .1 in
     let (th, (T, (y, mem, trail))) = P .0 in
     (stage-before y (omega (arith, P .3)), refl, trail .written)
@@ -132,17 +136,20 @@ completes-same-length-2 t c = search needs
 
 completes-returns-2 : (t : ℕ) → completes-lts.Need-returns-2 (completes-calls t) (completes-at t) completes.Post
 completes-returns-2 t c =
-    let start = c .before .before .before .before .before .before .before .before in
+    let start = c .before .before .before .before .before .before .before .before .before in
     let a = start .args in
     let again = c .before .repeats .ensures .0 (c .if2 .taken) in
-    λ th T y mem trail. best-none _ (λ q l. refl) (λ q l. refl) mem (trail-repeats th (a .p .foresight .0) (a .g .nesting .0) (a .g .base) (meaning (a .p .characters) T 0) (a .done * 961) trail (stage-state y 0) again)
+    λ th T y mem trail. best-none _ (λ q l. refl) (λ q l. refl) mem (trail-repeats th (a .p .foresight .0) (a .g .nesting .0) (a .g .base) (meaning (a .p .characters) T 0) (a .done * a .p .stride) trail (stage-state y 0) again)
 
 completes-within-reach-requires : (t : ℕ) → completes-lts.Need-within-reach-requires (completes-calls t) (completes-at t) completes.Post
 completes-within-reach-requires t c κs =
-    let start = c .before .before .before .before .before .before .before .before .before in
+    let start = c .before .before .before .before .before .before .before .before .before .before in
     let P = start .pre .1 in
+    let a = start .args in
     let (th, (T, (y, mem, trail))) = P .0 in
-    (((th, (T, y)), omega (arith, P .3), omega arith), omega (arith, P .3))
+    let wanted = 1 + a .left + a .p .foresight .0 * a .g .nesting .0 in
+    let few = free-few (a .p) (a .done * a .p .stride) wanted (y .laid) (P .3) in
+    (((th, (T, y)), free-fewer (a .p) (a .done * a .p .stride) wanted 1 (omega arith) (P .3), omega arith), omega (arith, few))
 
 completes-same-length-3 : (t : ℕ) → completes-lts.Need-same-length-3 (completes-calls t) (completes-at t) completes.Post
 completes-same-length-3 t c = search needs
@@ -150,7 +157,7 @@ completes-same-length-3 t c = search needs
 completes-returns-3 : (t : ℕ) → completes-lts.Need-returns-3 (completes-calls t) (completes-at t) completes.Post
 completes-returns-3 t c =
     let at-within-reach = c .before in
-    let start = at-within-reach .before .before .before .before .before .before .before .before .before .before in
+    let start = at-within-reach .before .before .before .before .before .before .before .before .before .before .before in
     let a = start .args in
     λ th T y mem trail. best-none _ (λ q l. refl) (λ q l. refl) mem (ends-beyond th (a .p .foresight .0) (a .g .nesting .0) (a .g .base) (a .left) (meaning (a .p .characters) T 0) (at-within-reach .within-reach .ensures (not-true _ (c .if3 .taken)) th T y))
 
@@ -160,7 +167,7 @@ completes-goal-key-requires t c κs = search needs
 completes-recall-requires : (t : ℕ) → completes-lts.Need-recall-requires (completes-calls t) (completes-at t) completes.Post
 completes-recall-requires t c κs =
     let at-if1 = c .before .before .before .before .before .before .before .before in
-    let start = at-if1 .before .before .before .before .before in
+    let start = at-if1 .before .before .before .before .before .before in
     let P = start .pre .1 in
     let (th, (T, (y, mem, trail))) = P .0 in
     stage-before y (omega (arith, P .3))
@@ -173,12 +180,12 @@ completes-returns-4 t c =
     let at-recall = c .before .before .before in
     let key = at-recall .before .before .goal-key .ensures in
     let at-if1 = at-recall .before .before .before .before .before .before .before .before .before in
-    let start = at-if1 .before .before .before .before .before in
+    let start = at-if1 .before .before .before .before .before .before in
     let P = start .pre .1 in
     let a = start .args in
     let r = at-recall .recall in
     λ th T y mem trail.
-    let (m, fact) = r .ensures .told th (a .p .foresight .0) (a .done * 961 + 961) (omega (arith, P .3)) (y .slotted) mem in
+    let (m, fact) = r .ensures .told th (a .p .foresight .0) (a .done * a .p .stride + a .p .stride) (omega (arith, P .3)) (y .slotted) mem in
     best-none _ (λ q l. r .ensures .only .low q (omega (arith, l, P .3))) (r .ensures .only .high) m (known y key fact .none (c .if4 .taken))
 
 completes-sub-completes-after : (t : ℕ) → completes-lts.Need-sub-completes-after (completes-calls t) (completes-at t) completes.Post
@@ -191,28 +198,28 @@ completes-completes-after-requires : (t : ℕ) → completes-lts.Need-completes-
 completes-completes-after-requires t c κs =
     let at-recall = c .before .before .before .before .before in
     let at-if1 = at-recall .before .before .before .before .before .before .before .before .before in
-    let start = at-if1 .before .before .before .before .before in
+    let start = at-if1 .before .before .before .before .before .before in
     let (m, P) = start .pre in
     let a = start .args in
     let (th, (T, (y, mem, trail))) = P .0 in
     let r = at-recall .recall in
     let up : a .left ≡ suc (a .left - 1) = omega (arith, at-if1 .if1 .left) in
-    (omega (arith, m, at-if1 .if1 .left), ((th, (T, ((slot-same (a .done * 961) y (λ q l. r .ensures .only .low q (omega (arith, l, P .3))) (r .kept .0)), (r .ensures .told th (a .p .foresight .0) (a .done * 961 + 961) (omega (arith, P .3)) (y .slotted) mem .0), (trail-same th (a .p .foresight .0) (a .g .nesting .0) (a .g .base) (meaning (a .p .characters) T 0) (λ q l. r .ensures .only .low q (omega (arith, l, P .3))) (subst (λ (n : ℕ). Trail th (a .p .foresight .0) (a .g .nesting .0) (a .g .base) (a .p) (a .work .now) (a .done) n (meaning (a .p .characters) T 0)) up trail))))), P .1, P .2, omega (arith, P .3, at-if1 .if1 .left), omega (arith, P .4, at-if1 .if1 .left)))
+    (omega (arith, m, at-if1 .if1 .left), ((th, (T, ((slot-same (a .done * a .p .stride) y (λ q l. r .ensures .only .low q (omega (arith, l, P .3))) (r .kept .0)), (r .ensures .told th (a .p .foresight .0) (a .done * a .p .stride + a .p .stride) (omega (arith, P .3)) (y .slotted) mem .0), (trail-same th (a .p .foresight .0) (a .g .nesting .0) (a .g .base) (meaning (a .p .characters) T 0) (λ q l. r .ensures .only .low q (omega (arith, l, P .3))) (subst (λ (n : ℕ). Trail th (a .p .foresight .0) (a .g .nesting .0) (a .g .base) (a .p) (a .work .now) (a .done) n (meaning (a .p .characters) T 0)) up trail))))), P .1, P .2, free-fewer (a .p) (a .done * a .p .stride) (1 + a .left + a .p .foresight .0 * a .g .nesting .0) (2 + (a .left - 1) + a .p .foresight .0 * a .g .nesting .0) (omega (arith, at-if1 .if1 .left)) (P .3), omega (arith, P .4, at-if1 .if1 .left)))
 
 completes-remember-requires : (t : ℕ) → completes-lts.Need-remember-requires (completes-calls t) (completes-at t) completes.Post
 completes-remember-requires t c κs =
     let at-completes-after = c .before .before .before .before .before .before in
     let at-recall = at-completes-after .before .before .before .before .before .before in
     let at-if1 = at-recall .before .before .before .before .before .before .before .before .before in
-    let start = at-if1 .before .before .before .before .before in
+    let start = at-if1 .before .before .before .before .before .before in
     let P = start .pre .1 in
     let a = start .args in
     let (th, (T, (y, mem, trail))) = P .0 in
     let r = at-recall .recall in
     let up : a .left ≡ suc (a .left - 1) = omega (arith, at-if1 .if1 .left) in
     let d = at-completes-after .completes-after in
-    let b = d .ensures th T (slot-same (a .done * 961) y (λ q l. r .ensures .only .low q (omega (arith, l, P .3))) (r .kept .0)) (r .ensures .told th (a .p .foresight .0) (a .done * 961 + 961) (omega (arith, P .3)) (y .slotted) mem .0) (trail-same th (a .p .foresight .0) (a .g .nesting .0) (a .g .base) (meaning (a .p .characters) T 0) (λ q l. r .ensures .only .low q (omega (arith, l, P .3))) (subst (λ (n : ℕ). Trail th (a .p .foresight .0) (a .g .nesting .0) (a .g .base) (a .p) (a .work .now) (a .done) n (meaning (a .p .characters) T 0)) up trail)) in
-    stage-before (slot-same (a .done * 961) (slot-same {now = r .last .0} (a .done * 961) y (λ q l. r .ensures .only .low q (omega (arith, l, P .3))) (r .kept .0)) (b .low) (d .kept .1 .1 .1 .0)) (omega (arith, P .3))
+    let b = d .ensures th T (slot-same (a .done * a .p .stride) y (λ q l. r .ensures .only .low q (omega (arith, l, P .3))) (r .kept .0)) (r .ensures .told th (a .p .foresight .0) (a .done * a .p .stride + a .p .stride) (omega (arith, P .3)) (y .slotted) mem .0) (trail-same th (a .p .foresight .0) (a .g .nesting .0) (a .g .base) (meaning (a .p .characters) T 0) (λ q l. r .ensures .only .low q (omega (arith, l, P .3))) (subst (λ (n : ℕ). Trail th (a .p .foresight .0) (a .g .nesting .0) (a .g .base) (a .p) (a .work .now) (a .done) n (meaning (a .p .characters) T 0)) up trail)) in
+    stage-before (slot-same (a .done * a .p .stride) (slot-same {now = r .last .0} (a .done * a .p .stride) y (λ q l. r .ensures .only .low q (omega (arith, l, P .3))) (r .kept .0)) (b .low) (d .kept .1 .1 .1 .0)) (omega (arith, P .3))
 
 completes-same-length-5 : (t : ℕ) → completes-lts.Need-same-length-5 (completes-calls t) (completes-at t) completes.Post
 completes-same-length-5 t c =
@@ -235,7 +242,7 @@ completes-returns-5 t c =
     let at-recall = at-completes-after .before .before .before .before .before .before in
     let key = at-recall .before .before .goal-key .ensures in
     let at-if1 = at-recall .before .before .before .before .before .before .before .before .before in
-    let start = at-if1 .before .before .before .before .before in
+    let start = at-if1 .before .before .before .before .before .before in
     let P = start .pre .1 in
     let a = start .args in
     let r = at-recall .recall in
@@ -244,9 +251,9 @@ completes-returns-5 t c =
     let zero : d .result ≡ 0 = omega (arith, at-if5 .if5 .taken) in
     let up : a .left ≡ suc (a .left - 1) = omega (arith, at-if1 .if1 .left) in
     λ th T y mem trail.
-    let b = best-from (λ q l. r .ensures .only .low q (omega (arith, l, P .3))) (r .ensures .only .high) (best-same (sym up) (d .ensures th T (slot-same (a .done * 961) y (λ q l. r .ensures .only .low q (omega (arith, l, P .3))) (r .kept .0)) (r .ensures .told th (a .p .foresight .0) (a .done * 961 + 961) (omega (arith, P .3)) (y .slotted) mem .0) (trail-same th (a .p .foresight .0) (a .g .nesting .0) (a .g .base) (meaning (a .p .characters) T 0) (λ q l. r .ensures .only .low q (omega (arith, l, P .3))) (subst (λ (n : ℕ). Trail th (a .p .foresight .0) (a .g .nesting .0) (a .g .base) (a .p) (a .work .now) (a .done) n (meaning (a .p .characters) T 0)) up trail)))) in
-    let z′ = slot-same (a .done * 961) (slot-same {now = r .last .0} (a .done * 961) y (λ q l. r .ensures .only .low q (omega (arith, l, P .3))) (r .kept .0)) (d .ensures th T (slot-same (a .done * 961) y (λ q l. r .ensures .only .low q (omega (arith, l, P .3))) (r .kept .0)) (r .ensures .told th (a .p .foresight .0) (a .done * 961 + 961) (omega (arith, P .3)) (y .slotted) mem .0) (trail-same th (a .p .foresight .0) (a .g .nesting .0) (a .g .base) (meaning (a .p .characters) T 0) (λ q l. r .ensures .only .low q (omega (arith, l, P .3))) (subst (λ (n : ℕ). Trail th (a .p .foresight .0) (a .g .nesting .0) (a .g .base) (a .p) (a .work .now) (a .done) n (meaning (a .p .characters) T 0)) up trail)) .low) (d .kept .1 .1 .1 .0) in
-    best-noted b (omega (arith, P .3)) (rem .only .low) (rem .only .high) (rem .memory th (a .p .foresight .0) (a .done * 961 + 961) (omega (arith, P .3)) (z′ .slotted) (b .memory) (note z′ key (fact-of-none th (a .p .foresight .0) (a .g .nesting .0) (a .g .base) (meaning (a .p .characters) T 0) (b .none zero .1))))
+    let b = best-from (λ q l. r .ensures .only .low q (omega (arith, l, P .3))) (r .ensures .only .high) (best-same (sym up) (d .ensures th T (slot-same (a .done * a .p .stride) y (λ q l. r .ensures .only .low q (omega (arith, l, P .3))) (r .kept .0)) (r .ensures .told th (a .p .foresight .0) (a .done * a .p .stride + a .p .stride) (omega (arith, P .3)) (y .slotted) mem .0) (trail-same th (a .p .foresight .0) (a .g .nesting .0) (a .g .base) (meaning (a .p .characters) T 0) (λ q l. r .ensures .only .low q (omega (arith, l, P .3))) (subst (λ (n : ℕ). Trail th (a .p .foresight .0) (a .g .nesting .0) (a .g .base) (a .p) (a .work .now) (a .done) n (meaning (a .p .characters) T 0)) up trail)))) in
+    let z′ = slot-same (a .done * a .p .stride) (slot-same {now = r .last .0} (a .done * a .p .stride) y (λ q l. r .ensures .only .low q (omega (arith, l, P .3))) (r .kept .0)) (d .ensures th T (slot-same (a .done * a .p .stride) y (λ q l. r .ensures .only .low q (omega (arith, l, P .3))) (r .kept .0)) (r .ensures .told th (a .p .foresight .0) (a .done * a .p .stride + a .p .stride) (omega (arith, P .3)) (y .slotted) mem .0) (trail-same th (a .p .foresight .0) (a .g .nesting .0) (a .g .base) (meaning (a .p .characters) T 0) (λ q l. r .ensures .only .low q (omega (arith, l, P .3))) (subst (λ (n : ℕ). Trail th (a .p .foresight .0) (a .g .nesting .0) (a .g .base) (a .p) (a .work .now) (a .done) n (meaning (a .p .characters) T 0)) up trail)) .low) (d .kept .1 .1 .1 .0) in
+    best-noted b (omega (arith, P .3)) (rem .only .low) (rem .only .high) (rem .memory th (a .p .foresight .0) (a .done * a .p .stride + a .p .stride) (omega (arith, P .3)) (z′ .slotted) (b .memory) (note z′ key (fact-of-none th (a .p .foresight .0) (a .g .nesting .0) (a .g .base) (meaning (a .p .characters) T 0) (b .none zero .1))))
 
 completes-same-length-7 : (t : ℕ) → completes-lts.Need-same-length-7 (completes-calls t) (completes-at t) completes.Post
 completes-same-length-7 t c =
@@ -264,45 +271,49 @@ completes-returns-6 t c =
     let at-completes-after = c .before .before .before .before .before in
     let at-recall = at-completes-after .before .before .before .before .before .before in
     let at-if1 = at-recall .before .before .before .before .before .before .before .before .before in
-    let start = at-if1 .before .before .before .before .before in
+    let start = at-if1 .before .before .before .before .before .before in
     let P = start .pre .1 in
     let a = start .args in
     let r = at-recall .recall in
     let d = at-completes-after .completes-after in
     let up : a .left ≡ suc (a .left - 1) = omega (arith, at-if1 .if1 .left) in
     λ th T y mem trail.
-    best-from (λ q l. r .ensures .only .low q (omega (arith, l, P .3))) (r .ensures .only .high) (best-same (sym up) (d .ensures th T (slot-same (a .done * 961) y (λ q l. r .ensures .only .low q (omega (arith, l, P .3))) (r .kept .0)) (r .ensures .told th (a .p .foresight .0) (a .done * 961 + 961) (omega (arith, P .3)) (y .slotted) mem .0) (trail-same th (a .p .foresight .0) (a .g .nesting .0) (a .g .base) (meaning (a .p .characters) T 0) (λ q l. r .ensures .only .low q (omega (arith, l, P .3))) (subst (λ (n : ℕ). Trail th (a .p .foresight .0) (a .g .nesting .0) (a .g .base) (a .p) (a .work .now) (a .done) n (meaning (a .p .characters) T 0)) up trail))))
+    best-from (λ q l. r .ensures .only .low q (omega (arith, l, P .3))) (r .ensures .only .high) (best-same (sym up) (d .ensures th T (slot-same (a .done * a .p .stride) y (λ q l. r .ensures .only .low q (omega (arith, l, P .3))) (r .kept .0)) (r .ensures .told th (a .p .foresight .0) (a .done * a .p .stride + a .p .stride) (omega (arith, P .3)) (y .slotted) mem .0) (trail-same th (a .p .foresight .0) (a .g .nesting .0) (a .g .base) (meaning (a .p .characters) T 0) (λ q l. r .ensures .only .low q (omega (arith, l, P .3))) (subst (λ (n : ℕ). Trail th (a .p .foresight .0) (a .g .nesting .0) (a .g .base) (a .p) (a .work .now) (a .done) n (meaning (a .p .characters) T 0)) up trail))))
 
 abbrev completes-after-Inv-loop : completes-after-lts.InvT-loop
-completes-after-Inv-loop pack places p work₀ list₀ done g left slot actions hope x₀ work list x = (length work ≡ length work₀) × (list ≡ list₀) × Below work₀ work (done * 961 + 961) × Above work₀ work workRoom
-    × ((th : Theory) (T : List Node) → Stage th T pack places p work₀ (slotTable p work₀ (done * 961)) (done * 961 + 961) → Memory th (p .foresight .0) p (done * 961 + 961) work₀ → Trail th (p .foresight .0) (g .nesting .0) (g .base) p work₀ done (suc left) (meaning (p .characters) T 0) → Memory th (p .foresight .0) p (done * 961 + 961) work × ((y : ℕ) → y < x → (l : List ℕ) (v : ℕ) → length l ≡ suc left → ¬ EndsBy th (p .foresight .0) (g .nesting .0) (g .base) y (meaning (p .characters) T 0) l v))
+completes-after-Inv-loop pack places p work₀ list₀ done g left slot actions hope x₀ work list x = (length work ≡ length work₀) × (list ≡ list₀) × Below work₀ work (done * p .stride + p .stride) × Above work₀ work workRoom
+    × ((th : Theory) (T : List Node) → Stage th T pack places p work₀ (slotTable p work₀ (done * p .stride)) (done * p .stride + p .stride) → Memory th (p .foresight .0) p (done * p .stride + p .stride) work₀ → Trail th (p .foresight .0) (g .nesting .0) (g .base) p work₀ done (suc left) (meaning (p .characters) T 0) → Memory th (p .foresight .0) p (done * p .stride + p .stride) work × ((y : ℕ) → y < x → (l : List ℕ) (v : ℕ) → length l ≡ suc left → ¬ EndsBy th (p .foresight .0) (g .nesting .0) (g .base) y (meaning (p .characters) T 0) l v))
 
 abbrev completes-after-μ-loop : completes-after-lts.MeasureT-loop
 completes-after-μ-loop pack places p work₀ list₀ done g left slot actions hope x₀ work list x = p .actions - x
 
 completes-after-mul-slot : (t : ℕ) → completes-after-lts.Need-mul-slot (completes-after-calls t) (completes-after-at t) completes-after.Post completes-after-Inv-loop completes-after-μ-loop
-completes-after-mul-slot t c = omega (arith, c .before .before .before .before .pre .1 .3)
+completes-after-mul-slot t c =
+    let start = c .before .before .before .before .before in
+    let P = start .pre .1 in
+    let (th, (T, (y, mem, trail))) = P .0 in
+    omega (arith, P .3, y .laid .room)
 
 completes-after-next-promising-requires : (t : ℕ) → completes-after-lts.Need-next-promising-requires (completes-after-calls t) (completes-after-at t) completes-after.Post completes-after-Inv-loop completes-after-μ-loop
 completes-after-next-promising-requires t c κs =
-    let start = c .before .before .before .before .before in
+    let start = c .before .before .before .before .before .before in
     let P = start .pre .1 in
     let (th, (T, (y, mem, trail))) = P .0 in
     (stage-trying y (omega (arith, P .3)) (omega arith), omega arith)
 
 completes-after-loop-holds : (t : ℕ) → completes-after-lts.Need-loop-holds (completes-after-calls t) (completes-after-at t) completes-after.Post completes-after-Inv-loop completes-after-μ-loop
 completes-after-loop-holds t c =
-    let start = c .before .before .before .before .before .before in
+    let start = c .before .before .before .before .before .before .before in
     let P = start .pre .1 in
     let a = start .args in
     (refl, refl, λ q l. refl, λ q l. refl, λ th T y mem trail. (mem, λ j l. best-hopeless th (a .p .foresight .0) (a .g .nesting .0) (a .g .base) (meaning (a .p .characters) T 0) j (stage-skipped y (omega (arith, P .3)) (c .next-promising .ensures) j (omega arith) l)))
 
 completes-after-completes-by-requires : (t : ℕ) → completes-after-lts.Need-completes-by-requires (completes-after-calls t) (completes-after-at t) completes-after.Post completes-after-Inv-loop completes-after-μ-loop
-completes-after-completes-by-requires t c κs = let (m, P) = c .before .before .before .before .before .before .before .before .before .before .pre in
-    let a = c .before .before .before .before .before .before .before .before .before .before .args in
+completes-after-completes-by-requires t c κs = let (m, P) = c .before .before .before .before .before .before .before .before .before .before .before .pre in
+    let a = c .before .before .before .before .before .before .before .before .before .before .before .args in
     let (th, (T, (y, mem, trail))) = P .0 in
     let (long, same, low, high, rest) = c .before .before .before .loop .inv in
-    (omega (arith, m), ((th, (T, (slot-same (a .done * 961) y low long, rest th T y mem trail .0, trail-same th (a .p .foresight .0) (a .g .nesting .0) (a .g .base) (meaning (a .p .characters) T 0) (λ q l. low q (omega (arith, l))) trail))), c .before .before .loop-test .taken, P .1, P .2, omega (arith, P .3), omega (arith, P .4, ap length same)))
+    (omega (arith, m), ((th, (T, (slot-same (a .done * a .p .stride) y low long, rest th T y mem trail .0, trail-same th (a .p .foresight .0) (a .g .nesting .0) (a .g .base) (meaning (a .p .characters) T 0) (λ q l. low q (omega (arith, l))) trail))), c .before .before .loop-test .taken, P .1, P .2, omega (arith, P .3), omega (arith, P .4, ap length same)))
 
 completes-after-same-length : (t : ℕ) → completes-after-lts.Need-same-length (completes-after-calls t) (completes-after-at t) completes-after.Post completes-after-Inv-loop completes-after-μ-loop
 completes-after-same-length t c =
@@ -320,21 +331,21 @@ completes-after-returns : (t : ℕ) → completes-after-lts.Need-returns (comple
 completes-after-returns t c =
     let at-completes-by = c .before .before .before .before .before in
     let at-loop = at-completes-by .before .before .before .before in
-    let start = at-loop .before .before .before .before .before .before .before in
+    let start = at-loop .before .before .before .before .before .before .before .before in
     let P = start .pre .1 in
     let a = start .args in
     let v = at-completes-by .completes-by in
     let (long, same, low, high, rest) = at-loop .loop .inv in
     λ th T y mem trail.
     let s = meaning (a .p .characters) T 0 in
-    let b = best-first th (a .p .foresight .0) (a .g .nesting .0) (a .g .base) s low high (rest th T y mem trail .1) (omega (arith, c .if1 .taken)) (v .ensures th T (slot-same (a .done * 961) y low long) (rest th T y mem trail .0) (trail-same th (a .p .foresight .0) (a .g .nesting .0) (a .g .base) s (λ q l. low q (omega (arith, l))) trail)) in
-    subst (λ (was : List ℕ). Best (Memory th (a .p .foresight .0) (a .p) (a .done * 961 + 961)) (Ends th (a .p .foresight .0) (a .g .nesting .0) (a .g .base) s) (suc (a .left)) was (v .last .1 .1 .1 .1 .0) (a .done) (a .done * 961 + 961) (a .work .now) (v .last .1 .1 .1 .0) (v .result)) same b
+    let b = best-first th (a .p .foresight .0) (a .g .nesting .0) (a .g .base) s low high (rest th T y mem trail .1) (omega (arith, c .if1 .taken)) (v .ensures th T (slot-same (a .done * a .p .stride) y low long) (rest th T y mem trail .0) (trail-same th (a .p .foresight .0) (a .g .nesting .0) (a .g .base) s (λ q l. low q (omega (arith, l))) trail)) in
+    subst (λ (was : List ℕ). Best (Memory th (a .p .foresight .0) (a .p) (a .done * a .p .stride + a .p .stride)) (Ends th (a .p .foresight .0) (a .g .nesting .0) (a .g .base) s) (suc (a .left)) was (v .last .1 .1 .1 .1 .0) (a .done) (a .done * a .p .stride + a .p .stride) (a .work .now) (v .last .1 .1 .1 .0) (v .result)) same b
 
 completes-after-add-next-promising : (t : ℕ) → completes-after-lts.Need-add-next-promising (completes-after-calls t) (completes-after-at t) completes-after.Post completes-after-Inv-loop completes-after-μ-loop
 completes-after-add-next-promising t c =
     let at-completes-by = c .before .before .before .before .before .before in
     let turn = at-completes-by .before .before .before in
-    let start = turn .before .before .before .before .before .before .before .before in
+    let start = turn .before .before .before .before .before .before .before .before .before in
     let (th, (T, (y, mem, trail))) = start .pre .1 .0 in
     omega (arith, turn .loop-test .taken, y .theorized .found .mostActions)
 
@@ -343,14 +354,14 @@ completes-after-next-promising-requires-2 t c κs =
     let at-completes-by = c .before .before .before .before .before .before in
     let turn = at-completes-by .before .before .before in
     let at-loop = turn .before in
-    let start = at-loop .before .before .before .before .before .before .before in
+    let start = at-loop .before .before .before .before .before .before .before .before in
     let P = start .pre .1 in
     let a = start .args in
     let v = at-completes-by .completes-by in
     let (long, same, low, high, rest) = at-loop .loop .inv in
     let (th, (T, (y, mem, trail))) = P .0 in
-    let b = v .ensures th T (slot-same (a .done * 961) y low long) (rest th T y mem trail .0) (trail-same th (a .p .foresight .0) (a .g .nesting .0) (a .g .base) (meaning (a .p .characters) T 0) (λ q l. low q (omega (arith, l))) trail) in
-    (stage-trying (slot-same (a .done * 961) y (λ q l. b .low q l ∙ low q l) (v .kept .1 .1 .1 .0 ∙ long)) (omega (arith, P .3)) (omega arith), omega (arith, turn .loop-test .taken))
+    let b = v .ensures th T (slot-same (a .done * a .p .stride) y low long) (rest th T y mem trail .0) (trail-same th (a .p .foresight .0) (a .g .nesting .0) (a .g .base) (meaning (a .p .characters) T 0) (λ q l. low q (omega (arith, l))) trail) in
+    (stage-trying (slot-same (a .done * a .p .stride) y (λ q l. b .low q l ∙ low q l) (v .kept .1 .1 .1 .0 ∙ long)) (omega (arith, P .3)) (omega arith), omega (arith, turn .loop-test .taken))
 
 completes-after-loop-less : (t : ℕ) → completes-after-lts.Need-loop-less (completes-after-calls t) (completes-after-at t) completes-after.Post completes-after-Inv-loop completes-after-μ-loop
 completes-after-loop-less t c =
@@ -363,21 +374,21 @@ completes-after-loop-again t c =
     let at-if1 = c .before .before in
     let at-completes-by = at-if1 .before .before .before .before .before in
     let at-loop = at-completes-by .before .before .before .before in
-    let start = at-loop .before .before .before .before .before .before .before in
+    let start = at-loop .before .before .before .before .before .before .before .before in
     let P = start .pre .1 in
     let a = start .args in
     let v = at-completes-by .completes-by in
     let (long, same, low, high, rest) = at-loop .loop .inv in
     let zero : v .result ≡ 0 = omega (arith, at-if1 .if1 .left) in
     let (th, (T, (y, mem, trail))) = P .0 in
-    let b = v .ensures th T (slot-same (a .done * 961) y low long) (rest th T y mem trail .0) (trail-same th (a .p .foresight .0) (a .g .nesting .0) (a .g .base) (meaning (a .p .characters) T 0) (λ q l. low q (omega (arith, l))) trail) in (
+    let b = v .ensures th T (slot-same (a .done * a .p .stride) y low long) (rest th T y mem trail .0) (trail-same th (a .p .foresight .0) (a .g .nesting .0) (a .g .base) (meaning (a .p .characters) T 0) (λ q l. low q (omega (arith, l))) trail) in (
       v .kept .1 .1 .1 .0 ∙ long,
       b .none zero .0 ∙ same,
       λ q l. b .low q l ∙ low q l,
       λ q l. b .high q l ∙ high q l,
       λ th T y mem trail.
-          let b = v .ensures th T (slot-same (a .done * 961) y low long) (rest th T y mem trail .0) (trail-same th (a .p .foresight .0) (a .g .nesting .0) (a .g .base) (meaning (a .p .characters) T 0) (λ q l. low q (omega (arith, l))) trail) in
-          let z = slot-same (a .done * 961) y (λ q l. b .low q l ∙ low q l) (v .kept .1 .1 .1 .0 ∙ long) in (
+          let b = v .ensures th T (slot-same (a .done * a .p .stride) y low long) (rest th T y mem trail .0) (trail-same th (a .p .foresight .0) (a .g .nesting .0) (a .g .base) (meaning (a .p .characters) T 0) (λ q l. low q (omega (arith, l))) trail) in
+          let z = slot-same (a .done * a .p .stride) y (λ q l. b .low q l ∙ low q l) (v .kept .1 .1 .1 .0 ∙ long) in (
             b .memory,
             below-far (λ x. (l : List ℕ) (w : ℕ) → length l ≡ suc (a .left) → ¬ EndsBy th (a .p .foresight .0) (a .g .nesting .0) (a .g .base) x (meaning (a .p .characters) T 0) l w)
                 (below-more (λ x. (l : List ℕ) (w : ℕ) → length l ≡ suc (a .left) → ¬ EndsBy th (a .p .foresight .0) (a .g .nesting .0) (a .g .base) x (meaning (a .p .characters) T 0) l w) (at-loop .loop .x) (rest th T y mem trail .1) (b .none zero .1))
@@ -394,20 +405,24 @@ completes-after-same-length-4 t c = ap length (c .before .loop .inv .1)
 completes-after-returns-2 : (t : ℕ) → completes-after-lts.Need-returns-2 (completes-after-calls t) (completes-after-at t) completes-after.Post completes-after-Inv-loop completes-after-μ-loop
 completes-after-returns-2 t c =
     let at-loop = c .before in
-    let start = at-loop .before .before .before .before .before .before .before in
+    let start = at-loop .before .before .before .before .before .before .before .before in
     let a = start .args in
     let (long, same, low, high, rest) = at-loop .loop .inv in
     λ th T y mem trail.
     let s = meaning (a .p .characters) T 0 in
-    subst (λ (now : List ℕ). Best (Memory th (a .p .foresight .0) (a .p) (a .done * 961 + 961)) (Ends th (a .p .foresight .0) (a .g .nesting .0) (a .g .base) s) (suc (a .left)) (a .list .now) now (a .done) (a .done * 961 + 961) (a .work .now) (at-loop .loop .work) 0) (sym same)
+    subst (λ (now : List ℕ). Best (Memory th (a .p .foresight .0) (a .p) (a .done * a .p .stride + a .p .stride)) (Ends th (a .p .foresight .0) (a .g .nesting .0) (a .g .base) s) (suc (a .left)) (a .list .now) now (a .done) (a .done * a .p .stride + a .p .stride) (a .work .now) (at-loop .loop .work) 0) (sym same)
     (best-none (a .list .now) low high (rest th T y mem trail .0) (best-no th (a .p .foresight .0) (a .g .nesting .0) (a .g .base) s (λ x g. rest th T y mem trail .1 x (omega (arith, g, y .theorized .found .actions, c .loop-test .left)))))
 
 completes-by-mul-slot : (t : ℕ) → completes-by-lts.Need-mul-slot (completes-by-calls t) (completes-by-at t) completes-by.Post
-completes-by-mul-slot t c = omega (arith, c .before .before .before .before .pre .1 .4)
+completes-by-mul-slot t c =
+    let start = c .before .before .before .before .before in
+    let P = start .pre .1 in
+    let (th, (T, (y, mem, trail))) = P .0 in
+    omega (arith, P .4, y .laid .room)
 
 completes-by-allowed-requires : (t : ℕ) → completes-by-lts.Need-allowed-requires (completes-by-calls t) (completes-by-at t) completes-by.Post
 completes-by-allowed-requires t c κs =
-    let start = c .before .before .before .before .before .before in
+    let start = c .before .before .before .before .before .before .before in
     let P = start .pre .1 in
     let (th, (T, (y, mem, trail))) = P .0 in
     ((th, (T, (y, mem))), P .1, P .2, P .3, omega (arith, P .4))
@@ -418,7 +433,7 @@ completes-by-same-length t c = search needs
 completes-by-returns : (t : ℕ) → completes-by-lts.Need-returns (completes-by-calls t) (completes-by-at t) completes-by.Post
 completes-by-returns t c =
     let at-allowed = c .before .before .before in
-    let start = at-allowed .before .before .before .before .before .before .before in
+    let start = at-allowed .before .before .before .before .before .before .before .before in
     let P = start .pre .1 in
     let a = start .args in
     let w = at-allowed .allowed in
@@ -429,13 +444,13 @@ completes-by-returns t c =
 completes-by-known-step-requires : (t : ℕ) → completes-by-lts.Need-known-step-requires (completes-by-calls t) (completes-by-at t) completes-by.Post
 completes-by-known-step-requires t c κs =
     let at-allowed = c .before .before .before .before in
-    let start = at-allowed .before .before .before .before .before .before .before in
+    let start = at-allowed .before .before .before .before .before .before .before .before in
     let P = start .pre .1 in
     let a = start .args in
     let (th, (T, (y, mem, trail))) = P .0 in
     let w = at-allowed .allowed in
     let told = w .ensures th T y mem in
-    let z = slot-same (a .done * 961) y (told .low) (w .kept .1 .1 .1 .0) in
+    let z = slot-same (a .done * a .p .stride) y (told .low) (w .kept .1 .1 .1 .0) in
     ((th, (T, (z, told .memory))), P .1, z .tabled .some, omega (arith, P .4))
 
 completes-by-same-length-2 : (t : ℕ) → completes-by-lts.Need-same-length-2 (completes-by-calls t) (completes-by-at t) completes-by.Post
@@ -448,20 +463,20 @@ completes-by-returns-2 : (t : ℕ) → completes-by-lts.Need-returns-2 (complete
 completes-by-returns-2 t c =
     let at-known-step = c .before .before .before in
     let at-allowed = at-known-step .before .before .before .before .before in
-    let start = at-allowed .before .before .before .before .before .before .before in
+    let start = at-allowed .before .before .before .before .before .before .before .before in
     let a = start .args in
     let w = at-allowed .allowed in
     let s = at-known-step .known-step in
     λ th T y mem trail.
     let told = w .ensures th T y mem in
-    let played = s .ensures th T (slot-same (a .done * 961) y (told .low) (w .kept .1 .1 .1 .0)) (told .memory) in
+    let played = s .ensures th T (slot-same (a .done * a .p .stride) y (told .low) (w .kept .1 .1 .1 .0)) (told .memory) in
     best-none _ (λ q l. played .low q l ∙ told .low q l) (λ q l. played .high q l ∙ told .high q l) (played .memory) (λ l v q g. played .none (c .if2 .taken) (g .2 .0) (g .2 .1))
 
 completes-by-add-completes : (t : ℕ) → completes-by-lts.Need-add-completes (completes-by-calls t) (completes-by-at t) completes-by.Post
 completes-by-add-completes t c =
     let at-if1 = c .before .before .before .before .before .before .before in
     let at-allowed = at-if1 .before .before .before in
-    let start = at-allowed .before .before .before .before .before .before .before in
+    let start = at-allowed .before .before .before .before .before .before .before .before in
     omega (arith, start .pre .1 .4)
 
 completes-by-completes-requires : (t : ℕ) → completes-by-lts.Need-completes-requires (completes-by-calls t) (completes-by-at t) completes-by.Post
@@ -470,29 +485,29 @@ completes-by-completes-requires t c κs =
     let at-known-step = at-if2 .before .before .before in
     let at-if1 = at-known-step .before .before in
     let at-allowed = at-if1 .before .before .before in
-    let start = at-allowed .before .before .before .before .before .before .before in
+    let start = at-allowed .before .before .before .before .before .before .before .before in
     let (m, P) = start .pre in
     let a = start .args in
     let (th, (T, (y, mem, trail))) = P .0 in
     let w = at-allowed .allowed in
     let s = at-known-step .known-step in
     let told = w .ensures th T y mem in
-    let z′ = slot-same (a .done * 961) y (told .low) (w .kept .1 .1 .1 .0) in
-    let f : Free (a .done * 961 + 961) 1 = omega (arith, P .4) in
+    let z′ = slot-same (a .done * a .p .stride) y (told .low) (w .kept .1 .1 .1 .0) in
+    let f : Free (a .p) (a .done * a .p .stride + a .p .stride) 1 = omega (arith, P .4) in
     let long = s .kept .1 .1 .1 .1 .0 in
     let played = s .ensures th T z′ (told .memory) in
     let zero : s .result ≡ 0 = omega (arith, at-if2 .if2 .left) in
     let plays = next-plays z′ 0 played f long zero in
     let agreed = agreed-from y (a .p .foresight .0) (a .g .nesting .0) (a .x) (P .1) (meaning (a .p .characters) T 0) (told .sound (not-false (w .result) (at-if1 .if1 .left))) in
-    let next = trail-step (a .done * 961) y (a .p .foresight .0) (a .g .nesting .0) (a .g .base) trail refl (s .last .1 .1 .1 .1 .0) (λ q l. played .low q l ∙ told .low q l) (long ∙ w .kept .1 .1 .1 .0) (next-written z′ 0 played f long zero) (stage-extent (a .done * 961 + 961) (next-stage z′ 0 played f long zero)) plays agreed in
+    let next = trail-step (a .done * a .p .stride) y (a .p .foresight .0) (a .g .nesting .0) (a .g .base) trail refl (s .last .1 .1 .1 .1 .0) (λ q l. played .low q l ∙ told .low q l) (long ∙ w .kept .1 .1 .1 .0) (next-written z′ 0 played f long zero) (stage-extent (a .done * a .p .stride + a .p .stride) (next-stage z′ 0 played f long zero)) plays agreed in
     let here = on-path (a .done) (next-stage z′ 0 played f long zero) (played .further zero) in
-    (omega (arith, m), ((th, (nextTable z′ 0 played f long zero, (here .0, here .1, next))), P .2, P .3, omega (arith, P .4), omega (arith, P .5)))
+    (omega (arith, m), ((th, (nextTable z′ 0 played f long zero, (here .0, here .1, next))), P .2, P .3, free-next (a .p) (a .done) (a .left) (a .p .foresight .0 * a .g .nesting .0) (P .4), omega (arith, P .5)))
 
 completes-by-cast-list : (t : ℕ) → completes-by-lts.Need-cast-list (completes-by-calls t) (completes-by-at t) completes-by.Post
 completes-by-cast-list t c =
     let at-if2 = c .before .before .before .before .before .before .before .before in
     let at-allowed = at-if2 .before .before .before .before .before .before .before .before in
-    let start = at-allowed .before .before .before .before .before .before .before in
+    let start = at-allowed .before .before .before .before .before .before .before .before in
     let (th, (T, (y, mem, trail))) = start .pre .1 .0 in
     omega (arith, start .pre .1 .1, y .theorized .found .mostActions)
 
@@ -501,7 +516,7 @@ completes-by-slice-write-list t c =
     let at-completes = c .before .before .before .before .before in
     let at-if1 = at-completes .before .before .before .before .before .before .before .before in
     let at-allowed = at-if1 .before .before .before in
-    let start = at-allowed .before .before .before .before .before .before .before in
+    let start = at-allowed .before .before .before .before .before .before .before .before in
     omega (arith, start .pre .1 .5, at-completes .completes .kept .1 .1 .1 .1 .0)
 
 completes-by-same-length-3 : (t : ℕ) → completes-by-lts.Need-same-length-3 (completes-by-calls t) (completes-by-at t) completes-by.Post
@@ -516,7 +531,7 @@ completes-by-same-length-4 t c =
     let at-completes = c .before .before .before .before .before in
     let at-if1 = at-completes .before .before .before .before .before .before .before .before in
     let at-allowed = at-if1 .before .before .before in
-    let start = at-allowed .before .before .before .before .before .before .before in
+    let start = at-allowed .before .before .before .before .before .before .before .before in
     length-set {A = ℕ} (at-completes .completes .last .1 .1 .1 .1 .0) (start .args .done) (start .args .x) ∙ at-completes .completes .kept .1 .1 .1 .1 .0
 
 completes-by-returns-3 : (t : ℕ) → completes-by-lts.Need-returns-3 (completes-by-calls t) (completes-by-at t) completes-by.Post
@@ -526,7 +541,7 @@ completes-by-returns-3 t c =
     let at-known-step = at-if2 .before .before .before in
     let at-if1 = at-known-step .before .before in
     let at-allowed = at-if1 .before .before .before in
-    let start = at-allowed .before .before .before .before .before .before .before in
+    let start = at-allowed .before .before .before .before .before .before .before .before in
     let P = start .pre .1 in
     let a = start .args in
     let w = at-allowed .allowed in
@@ -534,14 +549,14 @@ completes-by-returns-3 t c =
     let d = at-completes .completes in
     λ th T y mem trail.
     let told = w .ensures th T y mem in
-    let z′ = slot-same (a .done * 961) y (told .low) (w .kept .1 .1 .1 .0) in
-    let f : Free (a .done * 961 + 961) 1 = omega (arith, P .4) in
+    let z′ = slot-same (a .done * a .p .stride) y (told .low) (w .kept .1 .1 .1 .0) in
+    let f : Free (a .p) (a .done * a .p .stride + a .p .stride) 1 = omega (arith, P .4) in
     let long = s .kept .1 .1 .1 .1 .0 in
     let played = s .ensures th T z′ (told .memory) in
     let zero : s .result ≡ 0 = omega (arith, at-if2 .if2 .left) in
     let plays = next-plays z′ 0 played f long zero in
     let agreed = agreed-from y (a .p .foresight .0) (a .g .nesting .0) (a .x) (P .1) (meaning (a .p .characters) T 0) (told .sound (not-false (w .result) (at-if1 .if1 .left))) in
-    let next = trail-step (a .done * 961) y (a .p .foresight .0) (a .g .nesting .0) (a .g .base) trail refl (s .last .1 .1 .1 .1 .0) (λ q l. played .low q l ∙ told .low q l) (long ∙ w .kept .1 .1 .1 .0) (next-written z′ 0 played f long zero) (stage-extent (a .done * 961 + 961) (next-stage z′ 0 played f long zero)) plays agreed in
+    let next = trail-step (a .done * a .p .stride) y (a .p .foresight .0) (a .g .nesting .0) (a .g .base) trail refl (s .last .1 .1 .1 .1 .0) (λ q l. played .low q l ∙ told .low q l) (long ∙ w .kept .1 .1 .1 .0) (next-written z′ 0 played f long zero) (stage-extent (a .done * a .p .stride + a .p .stride) (next-stage z′ 0 played f long zero)) plays agreed in
     let here = on-path (a .done) (next-stage z′ 0 played f long zero) (played .further zero) in
     best-by th (a .p .foresight .0) (a .g .nesting .0) (a .g .base) (meaning (a .p .characters) T 0) (a .x) plays agreed (omega arith) (memory-fewer (a .p) (omega arith)) (λ q l. played .low q l ∙ told .low q l) (λ q l. played .high q l ∙ told .high q l) (d .ensures th (nextTable z′ 0 played f long zero) (here .0) (here .1) next) (omega (arith, c .if3 .taken))
     (getD-set-same {A = ℕ} (d .last .1 .1 .1 .1 .0) (a .done) (a .x) 0 (omega (arith, P .5, d .kept .1 .1 .1 .1 .0))) (λ q n. getD-set-other {A = ℕ} (d .last .1 .1 .1 .1 .0) (a .done) q (a .x) 0 n)
@@ -565,7 +580,7 @@ completes-by-returns-4 t c =
     let at-known-step = at-if2 .before .before .before in
     let at-if1 = at-known-step .before .before in
     let at-allowed = at-if1 .before .before .before in
-    let start = at-allowed .before .before .before .before .before .before .before in
+    let start = at-allowed .before .before .before .before .before .before .before .before in
     let P = start .pre .1 in
     let a = start .args in
     let w = at-allowed .allowed in
@@ -573,14 +588,14 @@ completes-by-returns-4 t c =
     let d = at-completes .completes in
     λ th T y mem trail.
     let told = w .ensures th T y mem in
-    let z′ = slot-same (a .done * 961) y (told .low) (w .kept .1 .1 .1 .0) in
-    let f : Free (a .done * 961 + 961) 1 = omega (arith, P .4) in
+    let z′ = slot-same (a .done * a .p .stride) y (told .low) (w .kept .1 .1 .1 .0) in
+    let f : Free (a .p) (a .done * a .p .stride + a .p .stride) 1 = omega (arith, P .4) in
     let long = s .kept .1 .1 .1 .1 .0 in
     let played = s .ensures th T z′ (told .memory) in
     let zero : s .result ≡ 0 = omega (arith, at-if2 .if2 .left) in
     let plays = next-plays z′ 0 played f long zero in
     let agreed = agreed-from y (a .p .foresight .0) (a .g .nesting .0) (a .x) (P .1) (meaning (a .p .characters) T 0) (told .sound (not-false (w .result) (at-if1 .if1 .left))) in
-    let next = trail-step (a .done * 961) y (a .p .foresight .0) (a .g .nesting .0) (a .g .base) trail refl (s .last .1 .1 .1 .1 .0) (λ q l. played .low q l ∙ told .low q l) (long ∙ w .kept .1 .1 .1 .0) (next-written z′ 0 played f long zero) (stage-extent (a .done * 961 + 961) (next-stage z′ 0 played f long zero)) plays agreed in
+    let next = trail-step (a .done * a .p .stride) y (a .p .foresight .0) (a .g .nesting .0) (a .g .base) trail refl (s .last .1 .1 .1 .1 .0) (λ q l. played .low q l ∙ told .low q l) (long ∙ w .kept .1 .1 .1 .0) (next-written z′ 0 played f long zero) (stage-extent (a .done * a .p .stride + a .p .stride) (next-stage z′ 0 played f long zero)) plays agreed in
     let here = on-path (a .done) (next-stage z′ 0 played f long zero) (played .further zero) in
     best-by-none th (a .p .foresight .0) (a .g .nesting .0) (a .g .base) (meaning (a .p .characters) T 0) (a .x) plays agreed (omega arith) (memory-fewer (a .p) (omega arith)) (λ q l. played .low q l ∙ told .low q l) (λ q l. played .high q l ∙ told .high q l) (d .ensures th (nextTable z′ 0 played f long zero) (here .0) (here .1) next) (omega (arith, c .if3 .left))
 

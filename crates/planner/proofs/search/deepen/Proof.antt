@@ -1,8 +1,7 @@
 -- Length after length, the shortest first. Assumes nothing.
-use Prim.Native.Nat.{ℕ, _+_, _-_, _<_, _≤_}
+use Prim.Native.Nat.{ℕ, _+_, _*_, _-_, _<_, _≤_}
 use mathlib.Core.Path.{_≡_, refl, sym, ap, _∙_, subst}
 use mathlib.Core.List.{List}
-use native.Mathlib.Nat.{mul-le-mul-left, mul-le-mul-right}
 use native.Mathlib.Omega.{arith}
 use lib.ListN.{length}
 use borrow.Author.Needs.{needs}
@@ -18,17 +17,17 @@ use Rattle.planner.specs.Inner.Memory.{Memory}
 use Rattle.planner.specs.Inner.Explain.{Stage}
 use Rattle.planner.specs.Inner.Search.{Shortest}
 use Rattle.planner.specs.Inner.Bound.{no-end}
-use Rattle.planner.proofs.Explanations.{slot-same}
+use Rattle.planner.proofs.Explanations.{free-fewer, slot-same}
 use Rattle.planner.proofs.Bounds.{judged-readable, author-exceeds}
-use Rattle.planner.proofs.EarliestList.{trail-outset, author-rules}
+use Rattle.planner.proofs.EarliestList.{trail-outset, author-rules, at-outset, best-outset, free-outset}
 use Rattle.planner.proofs.SearchCall.{shorter, shortest-found, shortest-none}
 use Rattle.planner.proofs.search.deepen.Statement.{statement}
 use Rattle.planner.proofs.search.deepen.Tie as tie
 
 abbrev Inv-loop : tie.InvT-loop
 Inv-loop pack places p work₀ list₀ g most n₀ work list n =
-    (0 < n) × (length work ≡ length work₀) × (list ≡ list₀) × Below work₀ work 961 × Above work₀ work workRoom
-    × ((th : Theory) (T : List Node) → Stage th T pack places p work₀ (slotTable p work₀ 0) 961 → Memory th (p .foresight .0) p 961 work₀ → Written (p .characters) T → authorUtility th (meaning (p .characters) T 0) ≤ g .base → Memory th (p .foresight .0) p 961 work × ((l : List ℕ) (v : ℕ) → 0 < length l → length l < n → ¬ Ends th (p .foresight .0) (g .nesting .0) (g .base) (meaning (p .characters) T 0) l v))
+    (0 < n) × (length work ≡ length work₀) × (list ≡ list₀) × Below work₀ work (0 + p .stride) × Above work₀ work workRoom
+    × ((th : Theory) (T : List Node) → Stage th T pack places p work₀ (slotTable p work₀ 0) (0 + p .stride) → Memory th (p .foresight .0) p (0 + p .stride) work₀ → Written (p .characters) T → authorUtility th (meaning (p .characters) T 0) ≤ g .base → Memory th (p .foresight .0) p (0 + p .stride) work × ((l : List ℕ) (v : ℕ) → 0 < length l → length l < n → ¬ Ends th (p .foresight .0) (g .nesting .0) (g .base) (meaning (p .characters) T 0) l v))
 
 abbrev μ-loop : tie.MeasureT-loop
 μ-loop pack places p work₀ list₀ g most n₀ work list n = most + 1 - n
@@ -63,7 +62,9 @@ completes-requires c κs =
     let (th, (T, (y, mem, wr, le))) = P .0 in
     let (some, long, same, low, high, rest) = at-loop .loop .inv in
     let few = turn .loop-test .taken in
-    ((th, (T, (slot-same 0 y low long, rest th T y mem wr le .0, trail-outset (a .p .foresight .0) (a .g .nesting .0) (a .g .base) y low long wr le (rest th T y mem wr le .1)))), P .1, P .2, omega (arith, few, P .4, mul-le-mul-left (a .p .foresight .0) (P .3), mul-le-mul-right 3 (P .2)), omega (arith, few, P .4, P .5, ap length same))
+    let here = at-outset (slot-same 0 y low long) (rest th T y mem wr le .0) in
+    let count = 1 + at-loop .loop .n + a .p .foresight .0 * a .g .nesting .0 in
+    ((th, (T, (here .0, here .1, trail-outset (a .p .foresight .0) (a .g .nesting .0) (a .g .base) y low long wr le (rest th T y mem wr le .1)))), P .1, P .2, free-outset (a .p) count (free-fewer (a .p) 0 (1 + a .most + a .p .foresight .0 * a .g .nesting .0) count (omega (arith, few)) (P .5)), omega (arith, few, P .3, P .4, ap length same))
 
 returns-2 : tie.Need-returns-2 Inv-loop μ-loop
 returns-2 c =
@@ -74,8 +75,10 @@ returns-2 c =
     let a = start .args in
     let d = at-completes .completes in
     let (some, long, same, low, high, rest) = at-loop .loop .inv in
-    λ th T y mem wr le. subst (λ (was : List ℕ). Shortest (Ends th (a .p .foresight .0) (a .g .nesting .0) (a .g .base) (meaning (a .p .characters) T 0)) (a .most) was (d .last .1 .1 .1 .1 .0) (a .work .now) (d .last .1 .1 .1 .0) (record { count = at-loop .loop .n; after = d .result })) same
-    (shortest-found low high some (omega (arith, turn .loop-test .taken)) (rest th T y mem wr le .1) (omega (arith, c .if2 .taken)) (d .ensures th T (slot-same 0 y low long) (rest th T y mem wr le .0) (trail-outset (a .p .foresight .0) (a .g .nesting .0) (a .g .base) y low long wr le (rest th T y mem wr le .1))))
+    λ th T y mem wr le.
+    let here = at-outset (slot-same 0 y low long) (rest th T y mem wr le .0) in
+    subst (λ (was : List ℕ). Shortest (a .p) (Ends th (a .p .foresight .0) (a .g .nesting .0) (a .g .base) (meaning (a .p .characters) T 0)) (a .most) was (d .last .1 .1 .1 .1 .0) (a .work .now) (d .last .1 .1 .1 .0) (record { count = at-loop .loop .n; after = d .result })) same
+    (shortest-found low high some (omega (arith, turn .loop-test .taken)) (rest th T y mem wr le .1) (omega (arith, c .if2 .taken)) (best-outset (d .ensures th T (here .0) (here .1) (trail-outset (a .p .foresight .0) (a .g .nesting .0) (a .g .base) y low long wr le (rest th T y mem wr le .1)))))
 
 loop-again : tie.Need-loop-again Inv-loop μ-loop
 loop-again c =
@@ -87,13 +90,14 @@ loop-again c =
     let (some, long, same, low, high, rest) = at-loop .loop .inv in
     let (th, (T, (y, mem, wr, le))) = start .pre .0 in
     let zero : d .result ≡ 0 = omega (arith, c .if2 .left) in
-    let b = d .ensures th T (slot-same 0 y low long) (rest th T y mem wr le .0) (trail-outset (a .p .foresight .0) (a .g .nesting .0) (a .g .base) y low long wr le (rest th T y mem wr le .1)) in (
+    let here = at-outset (slot-same 0 y low long) (rest th T y mem wr le .0) in
+    let b = best-outset (d .ensures th T (here .0) (here .1) (trail-outset (a .p .foresight .0) (a .g .nesting .0) (a .g .base) y low long wr le (rest th T y mem wr le .1))) in (
       omega arith,
       d .kept .1 .1 .1 .0 ∙ long,
       b .none zero .0 ∙ same,
       λ q l. b .low q l ∙ low q l,
       λ q l. b .high q l ∙ high q l,
-      λ th T y mem wr le. let b = d .ensures th T (slot-same 0 y low long) (rest th T y mem wr le .0) (trail-outset (a .p .foresight .0) (a .g .nesting .0) (a .g .base) y low long wr le (rest th T y mem wr le .1)) in (b .memory, shorter (rest th T y mem wr le .1) (b .none zero .1)),
+      λ th T y mem wr le. let here = at-outset (slot-same 0 y low long) (rest th T y mem wr le .0) in let b = best-outset (d .ensures th T (here .0) (here .1) (trail-outset (a .p .foresight .0) (a .g .nesting .0) (a .g .base) y low long wr le (rest th T y mem wr le .1))) in (b .memory, shorter (rest th T y mem wr le .1) (b .none zero .1)),
     )
 
 returns-3 : tie.Need-returns-3 Inv-loop μ-loop
@@ -118,7 +122,7 @@ add-n : tie.Need-add-n Inv-loop μ-loop
 add-n c =
     let turn = c .before .before .before .before .before .before .before .before in
     let start = turn .before .before .before .before .before .before .before .before .before in
-    omega (arith, turn .loop-test .taken, start .pre .4)
+    omega (arith, turn .loop-test .taken, start .pre .3)
 
 same-length-3 : tie.Need-same-length-3 Inv-loop μ-loop
 same-length-3 c =

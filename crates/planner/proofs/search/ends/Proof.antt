@@ -12,7 +12,7 @@ table-in-requires : tie.Need-table-in-requires
 table-in-requires c κs =
     let start = c .before .before .before in
     let (th, (T, y)) = start .pre .0 in
-    (omega (arith, start .pre .1, y .room), omega (arith, small (y .tabled)))
+    (omega (arith, start .pre .1, y .room, y .laid .some, y .laid .room), omega (arith, small (y .tabled)))
 
 shared-slice-read-utility : tie.Need-shared-slice-read-utility
 shared-slice-read-utility c =

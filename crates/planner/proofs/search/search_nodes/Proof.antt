@@ -70,7 +70,7 @@ deepen-requires c κs =
     let (th, (T, x)) = start .pre in
     let y = at-lay-start .lay-start .ensures T (seek-laying x) in
     let long = at-lay-start .lay-start .kept .1 .1 .1 .1 .0 in
-    ((th, (seekTable x y long, (seek-slot x y long, seek-memory x y long, y .starts .0, seek-base x y long (worth at-utility x)))), x .foreseen .0, x .foreseen .1, x .nested, x .storied, x .list-room)
+    ((th, (seekTable x y long, (seek-slot x y long, seek-memory x y long, y .starts .0, seek-base x y long (worth at-utility x)))), x .foreseen .0, x .foreseen .1, x .storied, x .list-room, x .slots)
 
 clear-requires : tie.Need-clear-requires
 clear-requires c κs =

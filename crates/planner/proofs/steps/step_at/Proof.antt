@@ -1,6 +1,7 @@
 -- The place of an entry. Assumes nothing.
-use Rattle.planner.proofs.TrueMemory.{placed}
+use Prim.Native.Nat.{_+_}
 use native.Mathlib.Omega.{arith}
+use Rattle.planner.proofs.TrueMemory.{placed}
 use borrow.Author.Needs.{needs}
 use Rattle.planner.proofs.steps.step_at.Statement.{statement}
 use Rattle.planner.proofs.steps.step_at.Tie as tie
@@ -9,10 +10,17 @@ pub step-at-spec : {M : Type 1} → statement M
 step-at-spec =
     tie.close
     (tie.spec
+    (λ c.
+    let start = c .before in
+    omega (arith, start .pre))
     (λ c. search needs)
     (λ c. search needs)
     (λ c. search needs)
     (λ c. search needs)
     (λ c. search needs)
-    (λ c. search needs)
-    (λ c. placed 128 (omega arith) 43648 4 _))
+    (λ c.
+    let start = c .before in
+    omega (arith, start .pre))
+    (λ c.
+    let start = c .before in
+    placed 128 (omega arith) (start .args .p .memory + 178) 4 _))

@@ -2,7 +2,7 @@
 use native.Mathlib.Omega.{arith}
 use borrow.Author.Needs.{needs}
 use Rattle.chart.specs.Laws.LoadedNodes.{read-copies}
-use Rattle.planner.proofs.ExplainedCall.{judge-ready, judge-memory, judge-high, judge-free, judge-verdict}
+use Rattle.planner.proofs.ExplainedCall.{judge-ready, judge-memory, judge-high, judge-verdict}
 use Rattle.planner.proofs.verdict.verdict_in.Statement.{statement}
 use Rattle.planner.proofs.verdict.verdict_in.Tie as tie
 
@@ -17,7 +17,7 @@ clear-requires c κs =
     let at-copy-table = c .before .before .before in
     let start = at-copy-table .before .before .before .before .before .before in
     let (th, (T, x)) = start .pre in
-    omega (arith, x .room, at-copy-table .copy-table .ensures .long)
+    omega (arith, x .laid .room, x .room, at-copy-table .copy-table .ensures .long)
 
 explained-requires : tie.Need-explained-requires
 explained-requires c κs =
@@ -27,7 +27,7 @@ explained-requires c κs =
     let (th, (T, x)) = start .pre in
     let l = at-copy-table .copy-table .ensures in
     let e = at-clear .clear in
-    ((th, (T, (judge-ready x l (e .ensures) (e .kept .0), judge-memory x l (e .ensures) (e .kept .0)))), x .who, x .what, x .foreseen .0, x .foreseen .1, judge-free x)
+    ((th, (T, (judge-ready x l (e .ensures) (e .kept .0), judge-memory x l (e .ensures) (e .kept .0)))), x .who, x .what, x .foreseen .0, x .foreseen .1, x .slots)
 
 sweep-requires : tie.Need-sweep-requires
 sweep-requires c κs =

@@ -12,7 +12,7 @@ use Rattle.transition.proofs.change.change_row.Statement.{statement}
 use Rattle.transition.proofs.change.change_row.Tie as tie
 
 place : (s : tie.Start) → let a = s .args in let w = a .t .width in
-    (a .i < a .t .nodes * 7 + 1) × (29284 + a .i * w + w ≤ length (a .work .now)) × (a .t .fluents + a .t .characters ≤ w) × (28832 + (a .t .nodes * 7 + 1) + (a .t .nodes * 7 + 1) ≤ 29284) × (a .t .nodes ≤ 32)
+    (a .i < a .t .nodes * 7 + 1) × (40756 + a .i * w + w ≤ length (a .work .now)) × (a .t .fluents + a .t .characters ≤ w) × (40304 + (a .t .nodes * 7 + 1) + (a .t .nodes * 7 + 1) ≤ 40756) × (a .t .nodes ≤ 32)
 place s = let p = s .pre in let (i, r, w) = row-room (p .0 .0 .1) (p .0 .1) (p .1 .0) (p .1 .1) in (i, r, w, p .0 .1 .scratch, p .0 .0 .1 .tabled .few)
 
 put-member-requires : tie.Need-put-member-requires

@@ -13,7 +13,7 @@ use Rattle.transition.proofs.change.change_table.Tie as tie
 
 abbrev Inv-loop : tie.InvT-loop
 Inv-loop pack places effects h work₀ t size first root count₀ i₀ work count i =
-    (length work ≡ length work₀) × First h t work₀ 28832 × ((s : Scene) → Stands s pack places effects h work₀ t → Making s h t work₀ work 28832 29284 i count)
+    (length work ≡ length work₀) × First h t work₀ 40304 × ((s : Scene) → Stands s pack places effects h work₀ t → Making s h t work₀ work 40304 40756 i count)
 
 abbrev μ-loop : tie.MeasureT-loop
 μ-loop pack places effects h work₀ t size first root count₀ i₀ work count i = slotsOf t - i
@@ -51,7 +51,7 @@ laid : (c : tie.At-loop Inv-loop μ-loop) →
     let at-clear = at-first-slot .before .before .before in
     let start = at-clear .before .before .before .before .before .before .before in
     let a = start .args in
-    Laid (c .loop .work) (a .t) 28832 29284
+    Laid (c .loop .work) (a .t) 40304 40756
 laid c =
     let at-number-of = c .before .before .before .before in
     let at-clear = at-number-of .before .before .before .before .before in
@@ -66,7 +66,7 @@ made : (c : tie.At-loop Inv-loop μ-loop) →
     let start = at-clear .before .before .before .before .before .before .before in
     let p = start .pre in
     let a = start .args in
-    Making (p .0 .0) (a .h) (a .t) (at-number-of .number-of .last .0) (c .loop .work) 28832 29284 (c .loop .i) (c .loop .count)
+    Making (p .0 .0) (a .h) (a .t) (at-number-of .number-of .last .0) (c .loop .work) 40304 40756 (c .loop .i) (c .loop .count)
 made c =
     let at-first-slot = c .before .before .before .before .before .before in
     let at-clear = at-first-slot .before .before .before in
@@ -145,7 +145,7 @@ change-table-spec =
     let at-clear = at-first-slot .before .before .before in
     let start = at-clear .before .before .before .before .before .before .before in
     let a = start .args in
-    (refl, making-start (start .pre .0 .0) (a .h) (a .t) {u = 29284} (at-first-slot .first-slot .ensures) (at-number-of .number-of .ensures) (c .more .ensures) .1, λ s x. making-start s (a .h) (a .t) (at-first-slot .first-slot .ensures) (at-number-of .number-of .ensures) (c .more .ensures) .0))
+    (refl, making-start (start .pre .0 .0) (a .h) (a .t) {u = 40756} (at-first-slot .first-slot .ensures) (at-number-of .number-of .ensures) (c .more .ensures) .1, λ s x. making-start s (a .h) (a .t) (at-first-slot .first-slot .ensures) (at-number-of .number-of .ensures) (c .more .ensures) .0))
     change-row-requires
     (λ c.
     let turn = c .before .before .before .before in

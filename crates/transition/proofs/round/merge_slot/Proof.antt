@@ -31,8 +31,8 @@ put-down-requires c κs =
     let at-partition = at-write-merged .before .before .before .before .before .before in
     let start = at-partition .before .before .before in
     let p = start .pre in
-    let (some, most, slim) = slot-few p (at-partition .partition .ensures) (at-write-merged .write-merged .ensures) in
-    (most, slim, p .slot-room, omega arith, omega (arith, slim, p .room, at-write-merged .write-merged .kept .0 ∙ at-partition .partition .kept .0))
+    let (some, most, slim, inside) = slot-few p (at-partition .partition .ensures) (at-write-merged .write-merged .ensures) in
+    (most, inside, omega arith, omega (arith, slim, p .room, at-write-merged .write-merged .kept .0 ∙ at-partition .partition .kept .0))
 
 returns-2 : tie.Need-returns-2
 returns-2 c =

@@ -13,7 +13,7 @@ put-down-requires c κs =
     let start = at-change-table .before .before .before .before .before .before in
     let p = start .pre in
     let slim : start .args .t .width ≤ 30 = omega (arith, p .0 .1 .tabled .fits .wide, small (p .0 .1 .tabled)) in
-    (omega arith, omega (arith, slim), p .1 .slot-room, omega arith, omega (arith, slim, p .1 .room, at-change-table .change-table .kept .1 .1 .1 .1 .0))
+    (omega arith, omega (arith, slim, p .1 .slot-room), omega arith, omega (arith, slim, p .1 .room, at-change-table .change-table .kept .1 .1 .1 .1 .0))
 
 partition-requires : tie.Need-partition-requires
 partition-requires c κs =
@@ -42,7 +42,7 @@ put-down-requires-2 c κs =
     let a = at-change-table .change-table in
     let b = at-partition .partition in
     let (few, slim, inside) = apart-inside (p .0 .1) (p .1) (a .ensures (p .0 .0) (p .0 .1)) (a .kept .1 .1 .1 .1 .0) (b .ensures) (b .kept .0) (omega (arith, at-if2 .if2 .left)) (c .before .if3 .taken) in
-    (few, slim, p .1 .slot-room, omega arith, inside)
+    (few, slim, omega arith, inside)
 
 returns-3 : tie.Need-returns-3
 returns-3 c =
@@ -84,7 +84,7 @@ put-down-requires-3 c κs =
     let o = at-write-merged .write-merged in
     let l : b .result ≤ 32 = omega (arith, at-if2 .if2 .left) in
     let (inside, slim, room) = stage-inside x (p .1) y (a .kept .1 .1 .1 .1 .0) (b .ensures) (b .kept .0) l (o .ensures) in
-    (stage-few x (p .1) y (a .kept .1 .1 .1 .1 .0) (b .ensures) (b .kept .0) l (o .ensures) .1, omega (arith, slim), p .1 .slot-room, omega arith, omega (arith, inside, room, o .kept .0 ∙ b .kept .0 ∙ a .kept .1 .1 .1 .1 .0))
+    (stage-few x (p .1) y (a .kept .1 .1 .1 .1 .0) (b .ensures) (b .kept .0) l (o .ensures) .1, slim, omega arith, omega (arith, inside, room, o .kept .0 ∙ b .kept .0 ∙ a .kept .1 .1 .1 .1 .0))
 
 returns-4 : tie.Need-returns-4
 returns-4 c =
