@@ -5,7 +5,7 @@ use reference::generate::{call, Ask};
 use reference::implementation::{answer, answer_by};
 use reference::tuned::Engine;
 
-/// The least that is taken, so that much is forgotten, and as much as the library is lent for it.
+/// The least that is taken, so that much is forgotten, and as much as the benchmarks hold it to.
 const HELD: [usize; 2] = [4_096, 27 * 1_024];
 
 #[test]
