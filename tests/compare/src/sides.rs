@@ -1,5 +1,5 @@
-//! Who searches in the benchmark: the library, and the tuned engine without and with a limit of its memory. Each side is run
-//! once in a child of the benchmark's own program, which is killed if it takes too long.
+//! Who searches in the benchmark: the library, and the tuned engine without and with a limit of its memory. Each side
+//! is run in a child of the benchmark's own program, which is killed if it takes too long.
 
 use crate::cutoff::within;
 use crate::library::Library;
@@ -18,7 +18,7 @@ pub const HELD: usize = 27 * 1_024;
 
 pub const SIDES: [&str; 3] = ["library", "tuned", "held"];
 
-/// What a child tells of one run of a case.
+/// What a child tells of a case.
 pub struct Run {
     pub nanoseconds: f64,
     /// The library doesn't tell its steps.
@@ -45,8 +45,8 @@ fn cases(table: &str) -> Vec<Case> {
     }
 }
 
-/// Some sides' runs of a case of a table, each in a child, or nothing where it was cut off. Those that answer must find the
-/// same.
+/// Some sides' runs of a case of a table, each in a child, or nothing where it was cut off. Those that answer must find
+/// the same.
 pub fn children<const N: usize>(sides: [&str; N], table: &str, case: usize) -> Result<[Option<Run>; N]> {
     let mut runs = sides.map(|_| None);
     for (side, run) in sides.iter().zip(&mut runs) {
@@ -70,24 +70,30 @@ pub fn found(runs: &[Option<Run>]) -> String {
     said.split(':').next().unwrap_or("").to_string()
 }
 
-/// One run of a side, told to the parent: nanoseconds, steps, what is found.
+/// A side's run, told to the parent: nanoseconds, steps, what is found. Of up to five runs, as far as they fit into a
+/// second, the middle one.
 fn one(side: &str, case: &Case) {
     let calls = calls(case);
-    let mut steps = 0;
+    let (mut library, mut engine) = (Library::new(), if side == "held" { Engine::held(HELD) } else { Engine::new() });
+    let mut times = Vec::new();
     let begin = Instant::now();
-    let answers: Vec<Outcome> = match side {
-        "library" => calls.iter().map(|call| answer(&mut Library::new(), call)).collect(),
-        _ => {
-            let mut engine = if side == "held" { Engine::held(HELD) } else { Engine::new() };
-            let mut counted = |call| {
+    loop {
+        let (before, mut steps) = (Instant::now(), 0);
+        let search = |call| match side {
+            "library" => answer(&mut library, call),
+            _ => {
                 let said = answer(&mut engine, call);
                 steps += engine.steps();
                 said
-            };
-            calls.iter().map(&mut counted).collect()
+            }
+        };
+        let answers: Vec<Outcome> = calls.iter().map(search).collect();
+        times.push(before.elapsed().as_nanos());
+        if times.len() == 5 || begin.elapsed() > Duration::from_secs(1) {
+            times.sort();
+            return println!("{} {steps} {}", times[times.len() / 2], summary(&answers));
         }
-    };
-    println!("{} {steps} {}", begin.elapsed().as_nanos(), summary(&answers));
+    }
 }
 
 /// How many are found, or how long the one is; and all answers, to be held against the others'.

@@ -31,7 +31,8 @@ pub struct Season {
 
 impl Season {
     pub fn title(&self) -> String {
-        format!("{} of {}, {} packs", self.name, self.size, self.count)
+        let packs = if self.count == 1 { "pack" } else { "packs" };
+        format!("{} of {}, {} {packs}", self.name, self.size, self.count)
     }
 }
 

@@ -1,4 +1,5 @@
-//! The steps that searches make, as the library's own code makes them: on the stories of `examples/` and on drawn packs.
+//! The steps that searches make, as the library's own code makes them: on the stories of `examples/` and on drawn
+//! packs.
 
 use crate::seasons::{Case, SMALL};
 use crate::sought::{doors, family, KINDS};

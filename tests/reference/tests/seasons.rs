@@ -1,5 +1,5 @@
-//! The packs of a season's size are accepted whatever their seed and size, and the tuned form finds the same in them with
-//! and without a limit of its memory.
+//! The packs of a season's size are accepted whatever their seed and size, and the tuned form finds the same in them
+//! with and without a limit of its memory.
 
 use reference::generate::random::Random;
 use reference::generate::{about, draft, seasons};

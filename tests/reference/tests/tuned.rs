@@ -1,5 +1,5 @@
-//! The tuned form gives the same answers as the readable one, bytes and all, with one engine for all calls; and so does the
-//! one with a memory of limited size.
+//! The tuned form gives the same answers as the readable one, bytes and all, with one engine for all calls; and so does
+//! the one with a memory of limited size.
 
 use reference::generate::{call, Ask};
 use reference::implementation::{answer, answer_by};

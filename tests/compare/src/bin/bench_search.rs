@@ -1,6 +1,7 @@
-//! How long Search takes in the proved library and in the tuned engine, without and with a limit of its memory, and how many
-//! steps each makes: on the stories of `examples/`, on families of drawn packs, and as the limits grow; on the small ones in
-//! the readable reference too. Words given as arguments measure only the cases that have all of them in their names.
+//! How long Search takes in the proved library and in the tuned engine, without and with a limit of its memory, and how
+//! many steps each makes: on the stories of `examples/`, on families of drawn packs, and as the limits grow; on the
+//! small ones in the readable reference too. Words given as arguments measure only the cases that have all of them in
+//! their names.
 //!
 //! Each search is run by a child of this program first, which is killed if it takes too long.
 
@@ -20,17 +21,19 @@ use std::hint::black_box;
 use std::io::Result;
 use std::path::Path;
 
-/// Where a side takes longer, its one run by the child is what is told.
+/// Where a side takes longer, what the children measured is told.
 const QUICK: f64 = 100e6;
 /// The readable reference is asked where a search that remembers nothing takes at most so many steps.
 const MOST_STEPS: usize = 100_000;
+
 const HEAD: &str = "\
-Searches one after the other on one thread, all sides in turn; medians of 301 measurements of a millisecond or of a single
-run, or of as many as five seconds allow; where a side takes more than 0.1 s, a single run of each, and where it takes more
-than 5 s it is cut off there. All are lent the same buffers and set the first 49,152 bytes of the work buffer to 0 in every
-call; nothing is cleared between calls. The tuned engine keeps its memory from call to call and nothing else; \"held\" is the
-same with at most 27 KB kept of a search; the readable reference allocates. Steps without memory are those of a search that
-remembers nothing; the library's own are counted by its sources, compiled as Rust.";
+Searches one after the other on one thread, all sides in turn; medians of 301 measurements of a millisecond or of a
+single run, or of as many as five seconds allow; where a side takes more than 0.1 s, the middle one of up to five runs
+that fit into a second; where it takes more than 5 s it is cut off there. All are lent the same buffers and set the
+first 49,152 bytes of the work buffer to 0 in every call; nothing is cleared between calls. The tuned engine keeps its
+memory from call to call and nothing else; \"held\" is the same with at most 27 KB kept of a search; the readable
+reference allocates. Steps without memory are those of a search that remembers nothing; the library's own are counted
+by its sources, compiled as Rust.";
 
 fn main() -> Result<()> {
     let words: Vec<String> = std::env::args().skip(1).collect();

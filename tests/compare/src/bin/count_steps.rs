@@ -1,6 +1,6 @@
-//! How many steps Search makes on the stories of `examples/` and on drawn packs, as the library's own code makes them: on the
-//! small ones with one part of it turned off too, on those of a season's size beside the tuned engine's, without and with a
-//! limit of its memory. Words given as arguments count only the rows that have all of them in their names.
+//! How many steps Search makes on the stories of `examples/` and on drawn packs, as the library's own code makes them:
+//! on the small ones with one part of it turned off too, on those of a season's size beside the tuned engine's, without
+//! and with a limit of its memory. Words given as arguments count only the rows that have all of them in their names.
 
 use compare::seasons::{large, Case};
 use compare::sides::{children, is_child, Run, MOST_SECONDS};

@@ -1,5 +1,5 @@
-//! Packs of a season's size, in kinds that are hard for a search in different ways: many characters, many actions, reasons
-//! that rest on others' reasons. Each is drawn from a seed, and all are accepted.
+//! Packs of a season's size, in kinds that are hard for a search in different ways: many characters, many actions,
+//! reasons that rest on others' reasons. Each is drawn from a seed, and all are accepted.
 
 use super::draft::*;
 use super::random::Random;
@@ -24,10 +24,10 @@ fn secrets(r: &mut Random, pack: &mut Pack, part: usize, whole: usize) {
     }
 }
 
-/// Favours at a court of so many (3 to 6). A favour takes the consent of two or three, in two stages, of which the second
-/// needs that the next one's favour has begun. Some gain by what they agree to, others only by what somebody else is
-/// granted after it: a reason to agree is then that others will agree to something else. The author wants as many favours
-/// as fit into a story.
+/// Favours at a court of so many (3 to 6). A favour takes the consent of two or three, in two stages, of which the
+/// second needs that the next one's favour has begun. Some gain by what they agree to, others only by what somebody
+/// else is granted after it: a reason to agree is then that others will agree to something else. The author wants as
+/// many favours as fit into a story.
 pub fn court(r: &mut Random, size: usize) -> Pack {
     let mut pack = empty(size, &vec![3; size]);
     for whose in 0..size {
@@ -66,9 +66,9 @@ fn wishes_at_court(r: &mut Random, whose: usize, size: usize) -> Vec<Rule> {
     vec![rule(all_three, 4), rule(two, 3), rule(all(vec![at_least(near, 1)]), 1)]
 }
 
-/// So many switches (1 to 8) that anyone may throw, which one character never sees, and a door that opens only with that
-/// character's consent. The character has a small world of its own to look through for a reason, and there is none: the
-/// question is put again in every state of the switches, and is the same question every time.
+/// So many switches (1 to 8) that anyone may throw, which one character never sees, and a door that opens only with
+/// that character's consent. The character has a small world of its own to look through for a reason, and there is
+/// none: the question is put again in every state of the switches, and is the same question every time.
 pub fn stubborn(r: &mut Random, switches: usize) -> Pack {
     const CHARACTERS: usize = 3;
     const ROOMS: usize = 3;
@@ -102,8 +102,9 @@ pub fn stubborn(r: &mut Random, switches: usize) -> Pack {
     pack
 }
 
-/// So many bargains (1 to 3), each between two: one hands over a good for the other's later one, and the other's is handed
-/// over for the deal's being closed by both. Goods may be taken back, or sold for less. The author wants all deals closed.
+/// So many bargains (1 to 3), each between two: one hands over a good for the other's later one, and the other's is
+/// handed over for the deal's being closed by both. Goods may be taken back, or sold for less. The author wants all
+/// deals closed.
 pub fn bargain(r: &mut Random, deals: usize) -> Pack {
     let mut pack = empty(2 * deals, &[[3, 3, 2]].repeat(deals).concat());
     for deal in 0..deals {
@@ -132,9 +133,9 @@ pub fn bargain(r: &mut Random, deals: usize) -> Pack {
     pack
 }
 
-/// 24 fluents in chains, so many of them (2 to 8), each fluent set once the one before it is, by six characters in turn who
-/// want the ends of chains; with actions besides that unset one, 32 actions. The author wants two ends, or one where the
-/// chains are long.
+/// 24 fluents in chains, so many of them (2 to 8), each fluent set once the one before it is, by six characters in turn
+/// who want the ends of chains; with actions besides that unset one, 32 actions. The author wants two ends, or one
+/// where the chains are long.
 pub fn chain(r: &mut Random, chains: usize) -> Pack {
     const FLUENTS: usize = 24;
     let length = FLUENTS / chains;

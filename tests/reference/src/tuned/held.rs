@@ -1,6 +1,6 @@
 //! The search once more with a memory of limited size. Since the number of a state is good only until something is
-//! forgotten, the states that a search stands on are tables on a stack, and are looked for by what is in them. What is done
-//! for the state in one place of the stack uses the places behind it.
+//! forgotten, the states that a search stands on are tables on a stack, and are looked for by what is in them. What is
+//! done for the state in one place of the stack uses the places behind it.
 //!
 //! As in the search without a limit, verdicts are kept by the state that is believed, and what is known of the author's
 //! lists by state; steps only until something is forgotten. Beliefs and utilities take no step and are worked out anew.
@@ -235,8 +235,8 @@ impl Held {
         found
     }
 
-    /// The verdict on an action in a belief, if it is known: what is explained stays so under a higher nesting limit, and
-    /// what is not under a lower one.
+    /// The verdict on an action in a belief, if it is known: what is explained stays so under a higher nesting limit,
+    /// and what is not under a lower one.
     fn judged(&mut self, place: usize, character: usize, action: usize, nesting: usize) -> Option<bool> {
         let Place { table, hash } = &self.places[place];
         let id = self.memory.find(table.rows(), *hash)?;
@@ -251,7 +251,8 @@ impl Held {
         None
     }
 
-    /// Whether it is known that no list of so many actions ends above: so of more, or under a higher nesting limit, do.
+    /// Whether it is known that no list of so many actions ends above. What is known of longer lists, or of lists under
+    /// a higher nesting limit, says it too.
     fn hopeless(&mut self, place: usize, character: usize, above: u32, left: usize, nesting: usize) -> bool {
         let Place { table, hash } = &self.places[place];
         let Some(id) = self.memory.find(table.rows(), *hash) else { return false };
@@ -270,7 +271,8 @@ impl Held {
         (0..rules.characters).all(|c| asked >> c & 1 == 0 || self.explained(rules, c, action, place, nesting))
     }
 
-    /// The earliest list of exactly `left` more actions that makes an ending goes to the list; says whether there is one.
+    /// The earliest list of exactly `left` more actions that makes an ending goes to the list; says whether there is
+    /// one.
     fn extend(&mut self, rules: &Rules, above: u32, place: usize, left: usize, length: usize, nesting: usize) -> bool {
         if self.known(place, EXHAUSTED).is_some_and(|lengths| lengths >> left & 1 == 1) {
             return false;

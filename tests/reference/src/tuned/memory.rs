@@ -1,9 +1,10 @@
-//! A memory of limited size: states under numbers, and facts about them. What is kept is counted in bytes, keys and all.
+//! A memory of limited size: states under numbers, and facts about them. What is kept is counted in bytes, keys and
+//! all.
 //!
-//! Each fact has a rank, by how many steps it took to find. When the memory is full it is sifted: the facts of the highest
-//! ranks stay, with the states that they are about, and all else is forgotten. Forgetting everything, or by two
-//! generations, was tried on a draft of `examples/necklace`: at T 8 K 6 E 3 both made over 20 times the steps.
-//! Numbers are good until the memory is sifted.
+//! Each fact has a rank, by how many steps it took to find. When the memory is full it is sifted: the facts of the
+//! highest ranks stay, with the states that they are about, and all else is forgotten. Forgetting everything, or by two
+//! generations, was tried on a draft of `examples/necklace`: at T 8 K 6 E 3 both made over 20 times the steps. Numbers
+//! are good until the memory is sifted.
 
 use super::table::{Row, MOST};
 use std::cmp::Reverse;
