@@ -68,3 +68,21 @@ pub fn large() -> Vec<Case> {
     }
     cases
 }
+
+#[cfg(test)]
+mod tests {
+    use super::*;
+
+    /// No story of `examples/` is left out of the benchmark.
+    #[test]
+    fn every_story_is_searched() {
+        let folder = Path::new(env!("CARGO_MANIFEST_DIR")).join("../../examples");
+        let files = std::fs::read_dir(folder).expect("the examples").map(|file| file.expect("a file").path());
+        let packs = files.filter(|file| file.extension().is_some_and(|end| end == "pack"));
+        let mut there: Vec<String> = packs.map(|file| file.file_stem().unwrap().to_string_lossy().into()).collect();
+        let mut searched: Vec<&str> = SMALL.into_iter().chain(LARGE).collect();
+        there.sort();
+        searched.sort();
+        assert_eq!(there, searched);
+    }
+}

@@ -103,9 +103,12 @@ impl Store {
 
     fn put(&mut self, key: u32, value: u16, rank: u8) {
         let at = self.place(key);
-        if self.facts[at].stamp != self.stamp {
+        let before = self.facts[at];
+        let known = before.stamp == self.stamp;
+        if !known {
             self.used += FACT;
         }
+        let rank = if known { rank.max(before.rank) } else { rank };
         self.facts[at] = Fact { key, value, rank, stamp: self.stamp };
     }
 }
