@@ -90,7 +90,7 @@ fn what_is_not_said() {
 #[test]
 fn both_readings_agree() {
     let everything = "../story/tests/everything"; // every form that the text has
-    for name in ["p", "letter", "alice", "shoes", "market", "lie", "safe", everything] {
+    for name in ["p", "letter", "alice", "shoes", "market", "lie", "safe", "necklace", "will", "thornby", everything] {
         let text = read_to_string(examples().join(format!("{name}.story"))).expect(name);
         let story = read(&text);
         let first: HashSet<Belief> = story.stated().into_iter().map(belief).collect();

@@ -16,7 +16,7 @@ fn letter() -> Story {
 
 #[test]
 fn stories_in_order() {
-    for name in ["p", "letter", "alice", "shoes", "market", "lie", "safe"] {
+    for name in ["p", "letter", "alice", "shoes", "market", "lie", "safe", "necklace", "will", "thornby"] {
         let file = format!("{name}.story");
         let Ok(Reading { story, .. }) = story::read(&read(examples().join(&file)).expect(name)) else {
             panic!("{name}")

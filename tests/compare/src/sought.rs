@@ -2,7 +2,7 @@
 
 use reference::generate::draft::{self, action, effect, is, rule};
 use reference::generate::random::Random;
-use reference::generate::{packs, stories, wander};
+use reference::generate::{packs, seasons, stories, wander};
 use reference::pack::Pack;
 
 /// Draws a pack of one kind.
@@ -20,6 +20,39 @@ pub const KINDS: [(&str, Draw); 4] = [
     ("stories at random", wander::wander),
     ("small packs", packs::small),
 ];
+
+/// A kind of packs of a season's size: how it is drawn, the size that is asked for, and how many are drawn.
+pub struct Season {
+    name: &'static str,
+    draw: fn(&mut Random, usize) -> Pack,
+    size: usize,
+    count: u64,
+}
+
+impl Season {
+    pub fn title(&self) -> String {
+        let packs = if self.count == 1 { "pack" } else { "packs" };
+        format!("{} of {}, {} {packs}", self.name, self.size, self.count)
+    }
+}
+
+pub const SEASONS: [Season; 9] = [
+    Season { name: "court", draw: seasons::court, size: 5, count: 6 },
+    Season { name: "court", draw: seasons::court, size: 6, count: 6 },
+    Season { name: "stubborn", draw: seasons::stubborn, size: 4, count: 1 },
+    Season { name: "stubborn", draw: seasons::stubborn, size: 6, count: 1 },
+    Season { name: "bargain", draw: seasons::bargain, size: 2, count: 4 },
+    Season { name: "bargain", draw: seasons::bargain, size: 3, count: 4 },
+    Season { name: "chain", draw: seasons::chain, size: 3, count: 4 },
+    Season { name: "chain", draw: seasons::chain, size: 4, count: 4 },
+    Season { name: "idle", draw: seasons::idle, size: 5, count: 6 },
+];
+
+/// The packs of such a kind, from fixed seeds.
+pub fn sized(season: &Season) -> Vec<Vec<u8>> {
+    let drawn = |seed| (season.draw)(&mut Random::new(900 + seed), season.size);
+    (0..season.count).map(|seed| draft::bytes(&drawn(seed))).collect()
+}
 
 /// Doors that may be opened and closed in any order, so that so many actions are playable in each of the 2^doors states
 /// and lists lead to few states; the author wants what never is. With a guard for each door who wants it open, nobody

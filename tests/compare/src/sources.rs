@@ -1,5 +1,6 @@
-//! The library's own sources as Rust: their contracts left out, each step counted. So the steps of a search can be counted
-//! as the proved code makes them, and what one part of it saves by turning that part off. Nothing is proved by that.
+//! The library's own sources as Rust: their contracts left out, each step counted. So the steps of a search can be
+//! counted as the proved code makes them, and what one part of it saves by turning that part off. Nothing is proved by
+//! that.
 
 use std::fs;
 use std::io::{Error, Result};
@@ -57,11 +58,21 @@ pub const APART: [Off; 3] = [
     Off { name: "memory of steps and of the author's lists", edits: &[STEPS, AUTHORS] },
 ];
 
-/// A program that searches packs and prints the steps of each search: a line `T K E FILE` each on its input.
+/// A program that searches packs and prints the steps of each search: a line `T K E FILE` each on its input. With a
+/// number of seconds as its argument it ends after these, with a line of `more` and the steps of the search that it was
+/// at.
 const PROGRAM: &str = r#"
 use planner::limits::{Foresight, Nesting, Story};
 
 fn main() {
+    if let Some(seconds) = std::env::args().nth(1) {
+        let limit = std::time::Duration::from_secs_f64(seconds.parse().unwrap());
+        std::thread::spawn(move || {
+            std::thread::sleep(limit);
+            println!("more {}", transition::step::STEPS.load(std::sync::atomic::Ordering::Relaxed));
+            std::process::exit(0);
+        });
+    }
     let (mut work, mut list) = (vec![0u8; 49152], [0u8; 8]);
     for line in std::io::stdin().lines() {
         let line = line.unwrap();

@@ -1,12 +1,13 @@
-//! The steps that searches make, as the library's own code makes them: on the stories of `examples/` and on drawn packs.
+//! The steps that searches make, as the library's own code makes them: on the stories of `examples/` and on drawn
+//! packs.
 
+use crate::seasons::{Case, SMALL};
 use crate::sought::{doors, family, KINDS};
 use std::fs;
 use std::io::{Result, Write};
 use std::path::{Path, PathBuf};
 use std::process::{Command, Stdio};
 
-pub const STORIES: [&str; 7] = ["p", "letter", "alice", "shoes", "market", "lie", "safe"];
 const FAMILY: u64 = 8;
 
 /// A name, the limits T, K and E, and the packs that are searched one after the other.
@@ -45,7 +46,7 @@ impl Drop for Room {
 pub fn stories(repository: &Path) -> Result<Vec<Row>> {
     let mut rows = Vec::new();
     for limits in [(4, 3, 2), (8, 6, 3)] {
-        for name in STORIES {
+        for name in SMALL {
             let pack = fs::canonicalize(repository.join(format!("examples/{name}.pack")))?;
             rows.push(Row { name: name.into(), limits, packs: vec![pack] });
         }
@@ -89,11 +90,34 @@ pub fn steps(program: &Path, rows: &[Row]) -> Result<Vec<u64>> {
     for Row { limits: (story, foresight, nesting), packs, .. } in rows {
         packs.iter().for_each(|pack| lines += &format!("{story} {foresight} {nesting} {}\n", pack.display()));
     }
-    let mut child = Command::new(program).stdin(Stdio::piped()).stdout(Stdio::piped()).spawn()?;
+    let output = said(&mut Command::new(program), lines)?;
+    let mut each = output.lines().map(|line| line.parse::<u64>().expect("a number"));
+    Ok(rows.iter().map(|row| each.by_ref().take(row.packs.len()).sum()).collect())
+}
+
+/// What a program prints that is handed these lines.
+fn said(program: &mut Command, lines: String) -> Result<String> {
+    let mut child = program.stdin(Stdio::piped()).stdout(Stdio::piped()).spawn()?;
     let mut input = child.stdin.take().expect("a pipe");
     let writer = std::thread::spawn(move || input.write_all(lines.as_bytes()));
     let output = String::from_utf8(child.wait_with_output()?.stdout).expect("numbers");
-    writer.join().expect("written")?;
-    let mut each = output.lines().map(|line| line.parse::<u64>().expect("a number"));
-    Ok(rows.iter().map(|row| each.by_ref().take(row.packs.len()).sum()).collect())
+    // A program that ends early reads no more.
+    let _ = writer.join().expect("no panic");
+    Ok(output)
+}
+
+/// How many steps were counted, and whether that is all.
+pub struct Counted {
+    pub steps: u64,
+    pub whole: bool,
+}
+
+/// The steps of a case, by such a program, as far as it comes in so many seconds.
+pub fn steps_within(program: &Path, room: &Room, case: &Case, seconds: f64) -> Result<Counted> {
+    let (story, foresight, nesting) = case.limits;
+    let packs = written(room, 20, case.packs.clone())?;
+    let lines = packs.iter().map(|pack| format!("{story} {foresight} {nesting} {}\n", pack.display())).collect();
+    let output = said(Command::new(program).arg(seconds.to_string()), lines)?;
+    let number = |line: &str| line.trim_start_matches("more ").parse::<u64>().expect("a number");
+    Ok(Counted { steps: output.lines().map(number).sum(), whole: !output.contains("more") })
 }

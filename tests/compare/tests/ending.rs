@@ -55,7 +55,7 @@ fn stories() {
             stories += 1;
         }
     }
-    assert!(stories >= 7);
+    assert!(stories >= 10);
 }
 
 #[test]

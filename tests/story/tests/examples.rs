@@ -4,7 +4,6 @@ use std::fs::{read, read_dir, read_to_string};
 use std::path::PathBuf;
 
 use reference::call::{Ask, Call, Outcome};
-use reference::calls::search_pack;
 use reference::ending::{ending, FORESIGHT, NESTING, STORY};
 use reference::implementation::Implementation;
 use reference::plain;
@@ -27,7 +26,7 @@ fn names(ending: &str) -> Vec<String> {
 #[test]
 fn every_story_has_all_its_files() {
     let stories = names(".story");
-    assert!(stories.len() >= 7, "{stories:?}");
+    assert!(stories.len() >= 10, "{stories:?}");
     for ending in [".pack", ".out", ".dot", ".md"] {
         assert_eq!(names(ending), stories, "{ending}");
     }
@@ -54,16 +53,22 @@ fn warnings() {
     assert_eq!(told, ["alice: nothing looks at 'Alice'", "market: nothing looks at 'the merchant's wealth'"]);
 }
 
+/// The plain way gives up on the large ones.
 #[test]
 fn every_pack_has_its_ending() {
+    let mut plainly = 0;
     for name in names(".pack") {
         let pack = read(folder().join(name.clone() + ".pack")).unwrap();
         let out = read_to_string(folder().join(name.clone() + ".out")).unwrap();
         assert_eq!(ending(&pack), out, "{name}");
         assert_eq!(Engine::new().ending(&pack), out, "{name}, the tuned form");
-        let plainly = plain::answer(&Call::new(pack, Ask::Ending)).map(|answer| answer.outcome);
-        assert_eq!(plainly, Some(Outcome::Text(out)), "{name}, the plain way");
+        assert_eq!(Engine::held(27 * 1_024).ending(&pack), out, "{name}, the tuned form with little memory");
+        if let Some(answer) = plain::answer(&Call::new(pack, Ask::Ending)) {
+            assert_eq!(answer.outcome, Outcome::Text(out), "{name}, the plain way");
+            plainly += 1;
+        }
     }
+    assert!(plainly >= 7, "{plainly}");
 }
 
 /// The page of a story quotes what `ending` prints, so that it can't tell of another ending.
@@ -77,18 +82,22 @@ fn every_page_quotes_its_ending() {
     }
 }
 
-/// The pages that quote the ending in words quote what is found, with the names of the actions.
+/// The pages that quote the ending in words quote what is found, with the names of the actions: under the limits of
+/// `ending`, and on the pages of the large stories under the largest.
 #[test]
 fn pages_in_words() {
-    for name in ["letter", "lie"] {
+    let limits = [(STORY as u64, FORESIGHT as u64, NESTING as u64), (8, 6, 3)];
+    for (name, (most, foresight, nesting)) in
+        [("letter", limits[0]), ("lie", limits[0]), ("necklace", limits[1]), ("thornby", limits[1])]
+    {
         let story = story::read(&read(folder().join(format!("{name}.story"))).unwrap()).unwrap().story;
-        let pack = reference::pack::read(&story.bytes()).unwrap();
-        let ending = search_pack(&pack, STORY, FORESIGHT, NESTING).unwrap();
+        let (mut list, mut work) = ([0; 8], vec![0; 49_152]);
+        let found = Engine::new().search(&story.bytes(), most, foresight, nesting, &mut list, &mut work).unwrap();
         let mut quoted = String::new();
-        for (i, &action) in ending.actions.iter().enumerate() {
-            quoted += &format!("    {}. {}\n", i + 1, story.names.actions[action]);
+        for (i, &action) in list[..found.length].iter().enumerate() {
+            quoted += &format!("    {}. {}\n", i + 1, story.names.actions[action as usize]);
         }
-        quoted += &format!("    The author goes from {} to {}.\n", ending.before, ending.after);
+        quoted += &format!("    The author goes from {} to {}.\n", found.before, found.after);
         assert!(read_to_string(folder().join(format!("{name}.md"))).unwrap().contains(&quoted), "{name}");
     }
 }

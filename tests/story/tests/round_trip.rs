@@ -188,13 +188,16 @@ fn long_chains() {
     assert!(text.contains("\nview number 5:\n    fact 0 is 5\n    everyone believes number 6\n"));
 }
 
-const STORIES: [&str; 8] = [
+const STORIES: [&str; 11] = [
     include_str!("../../../story/tests/everything.story"),
     include_str!("../../../examples/alice.story"),
     include_str!("../../../examples/letter.story"),
     include_str!("../../../examples/lie.story"),
     include_str!("../../../examples/market.story"),
+    include_str!("../../../examples/necklace.story"),
     include_str!("../../../examples/p.story"),
     include_str!("../../../examples/safe.story"),
     include_str!("../../../examples/shoes.story"),
+    include_str!("../../../examples/thornby.story"),
+    include_str!("../../../examples/will.story"),
 ];

@@ -2,11 +2,14 @@
 
 use reference::calls::search_pack;
 use reference::ending::{lines, FORESIGHT, NESTING, STORY};
+use reference::generate::draft;
 use reference::happening::step;
+use reference::implementation::Implementation;
 use reference::pack::{self, Pack};
 use reference::planner::Planner;
 use reference::refusal::{CONDITION, ROUNDS};
 use reference::state::State;
+use reference::tuned::Engine;
 use reference::{chart, text};
 use story::read;
 
@@ -16,6 +19,10 @@ const SHOES: &str = include_str!("../../../examples/shoes.story");
 const MARKET: &str = include_str!("../../../examples/market.story");
 const LIE: &str = include_str!("../../../examples/lie.story");
 const SAFE: &str = include_str!("../../../examples/safe.story");
+const NECKLACE: &str = include_str!("../../../examples/necklace.story");
+const WILL: &str = include_str!("../../../examples/will.story");
+const THORNBY: &str = include_str!("../../../examples/thornby.story");
+const WILL_PAGE: &str = include_str!("../../../examples/will.md");
 
 /// How the stories of one view begin: nobody is mistaken.
 const EVERYONE: &str = "    everyone believes this\n";
@@ -42,6 +49,20 @@ fn under(story: &Pack, (most, foresight, nesting): (usize, usize, usize)) -> Str
 
 fn ends(story: &str, changes: &[(&str, &str)]) -> String {
     under(&changed(story, changes), (STORY, FORESIGHT, NESTING))
+}
+
+/// The same for the large stories, by the tuned form: the actions, or nothing.
+fn found(story: &Pack, (most, foresight, nesting): (u64, u64, u64)) -> Vec<u8> {
+    let (mut list, mut work) = ([0; 8], vec![0; 49_152]);
+    let found = Engine::new().search(&draft::bytes(story), most, foresight, nesting, &mut list, &mut work);
+    list[..found.map_or(0, |found| found.length)].to_vec()
+}
+
+/// The text of an action, from its heading to the next one.
+fn action<'a>(story: &'a str, title: &str) -> &'a str {
+    let first = story.find(&format!("action {title}:")).unwrap();
+    let length = story[first + 1..].find("\naction ").unwrap() + 2;
+    &story[first..first + length]
 }
 
 /// The state after some actions.
@@ -199,4 +220,81 @@ fn safe() {
     assert_eq!(under(&no_pride, (5, 3, 2)), NONE);
     assert_eq!(under(&no_pride, (5, 4, 2)), NONE);
     assert_eq!(under(&no_pride, (5, 5, 2)), "1 0\n2 1\n3 2\n4 3\n5 4\nauthor 0 5\n");
+}
+
+/// The largest limits.
+const WIDEST: (u64, u64, u64) = (8, 6, 3);
+
+#[test]
+fn necklace() {
+    let story = changed(NECKLACE, &[]);
+    let told = [0, 4, 6, 8, 9, 10, 11];
+    assert_eq!(found(&story, WIDEST), told);
+    assert_eq!(found(&story, (7, 6, 3)), told);
+    assert!(found(&story, (6, 6, 3)).is_empty() && found(&story, (8, 5, 3)).is_empty());
+    assert_eq!(found(&story, (8, 6, 2)), [4, 0, 6, 8, 9, 10, 11]);
+    assert!(found(&story, (8, 6, 1)).is_empty());
+    let knows = ("    the stones are real\n    the rest", "    the stones are paste\n    the rest");
+    assert!(found(&changed(NECKLACE, &[knows]), WIDEST).is_empty());
+    let key = (
+        "    the key is with Lady Merrow\n    the party is at cards",
+        "    the key is on the piano\n    the party is at cards",
+    );
+    assert_eq!(found(&changed(NECKLACE, &[knows, key]), WIDEST), [1, 4, 6, 8, 9, 10, 11]);
+    let dark = ("    the lamps are lit\n    the inspector", "    the lamps are out\n    the inspector");
+    assert_eq!(found(&changed(NECKLACE, &[dark]), WIDEST), [0, 4, 14, 6, 8, 9, 10, 11]);
+    let blind = ("    seen by Lady Merrow if the lamps are lit\n", "");
+    assert!(found(&changed(NECKLACE, &[blind]), WIDEST).is_empty());
+    let ring = action(NECKLACE, "the doctor gives Miss Finch the ring");
+    assert!(found(&changed(NECKLACE, &[(ring, "")]), WIDEST).is_empty());
+}
+
+#[test]
+fn will() {
+    let story = changed(WILL, &[]);
+    assert!(found(&story, WIDEST).is_empty());
+    let first = WILL_PAGE.find("    action the solicitor drives").unwrap();
+    let drive: String = WILL_PAGE[first..].lines().take(5).map(|line| format!("{line}\n")).collect();
+    let drives = ("author wants:\n", format!("{drive}author wants:\n"));
+    let drives = (drives.0, drives.1.as_str());
+    let story = changed(WILL, &[drives]);
+    assert_eq!(found(&story, WIDEST), [0, 3, 6, 8, 9, 11, 18, 12]);
+    assert_eq!(found(&story, (8, 6, 2)), [0, 3, 8, 9, 11, 18, 6, 12]);
+    assert_eq!(found(&story, (8, 3, 2)), [0, 3, 8, 9, 11, 18, 6, 12]);
+    assert!(found(&story, (8, 6, 1)).is_empty());
+    let lie = action(WILL, "the housekeeper says that the horse is running");
+    assert!(found(&changed(WILL, &[drives, (lie, "")]), WIDEST).is_empty());
+    let awake = (
+        "    Lord Ashby is asleep\n    the solicitor is in London",
+        "    Lord Ashby is awake\n    the solicitor is in London",
+    );
+    assert_eq!(found(&changed(WILL, &[awake]), WIDEST), [0, 1, 2, 6, 8, 9, 11, 12]);
+    let anywhere = ("    7 if the will is signed and the nephew is at the races", "    7 if the will is signed");
+    assert!(found(&changed(WILL, &[anywhere]), WIDEST).is_empty());
+}
+
+/// The ending that the page of the will tells in words is that of the story with one more act.
+#[test]
+fn one_act_more() {
+    let first = WILL_PAGE.find("    action the solicitor drives").unwrap();
+    let drive: String = WILL_PAGE[first..].lines().take(5).map(|line| format!("{line}\n")).collect();
+    let text = WILL.replace("author wants:\n", &format!("{drive}author wants:\n"));
+    let story = read(text.as_bytes()).unwrap().story;
+    let list = found(&pack::read(&story.bytes()).unwrap(), WIDEST);
+    let mut quoted = String::new();
+    for (i, &action) in list.iter().enumerate() {
+        quoted += &format!("    {}. {}\n", i + 1, story.names.actions[action as usize]);
+    }
+    assert!(WILL_PAGE.contains(&(quoted + "    The author goes from 0 to 7.\n")));
+}
+
+#[test]
+fn thornby() {
+    let story = changed(THORNBY, &[]);
+    let told = [2, 3, 6, 8, 10, 11, 18, 17];
+    assert_eq!(found(&story, WIDEST), told);
+    assert_eq!(found(&story, (8, 2, 1)), told);
+    assert!(found(&story, (7, 6, 3)).is_empty() && found(&story, (8, 1, 1)).is_empty());
+    let chain = action(THORNBY, "the gardener chains the dog");
+    assert!(found(&changed(THORNBY, &[(chain, "")]), WIDEST).is_empty());
 }

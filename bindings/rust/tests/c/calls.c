@@ -288,7 +288,8 @@ static size_t contents(const char *folder, const char *name, const char *suffix,
 
 /* The stories: Search finds what their .out say, which is as the program `ending` prints it. */
 static void stories(const char *folder) {
-    static const char *const names[] = {"alice", "letter", "lie", "market", "p", "safe", "shoes"};
+    static const char *const names[] = {"alice", "letter", "lie",     "market",  "necklace",
+                                        "p",     "safe",   "shoes", "thornby", "will"};
     size_t i, j;
     for (i = 0; i < sizeof names / sizeof *names; i++) {
         uint8_t pack[8193];

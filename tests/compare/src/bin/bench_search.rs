@@ -1,110 +1,126 @@
-//! How long Search takes in the proved library, in the tuned engine and in the readable reference: on the stories of
-//! `examples/`, on families of drawn packs, and as the story limit grows. A word given as an argument measures only the
-//! cases that have it in their names.
+//! How long Search takes in the proved library and in the tuned engine, without and with a limit of its memory, and how
+//! many steps each makes: on the stories of `examples/`, on families of drawn packs, and as the limits grow; on the
+//! small ones in the readable reference too. Words given as arguments measure only the cases that have all of them in
+//! their names.
+//!
+//! Each search is run by a child of this program first, which is killed if it takes too long.
 
 use compare::effort;
 use compare::library::Library;
-use compare::sought::{doors, family, KINDS};
+use compare::seasons::{large, small, Case};
+use compare::sides::{calls, children, found, is_child, Run, HELD, MOST_SECONDS, SIDES};
+use compare::sources::{build, NOTHING_OFF};
+use compare::steps::{steps_within, Counted, Room};
 use compare::timing::{in_turn, Way};
-use reference::call::{lent, Ask, Call, Outcome};
+use reference::call::{lent, Call};
 use reference::calls::{LIST_ROOM, WORK_ROOM};
 use reference::implementation::{outcome, Implementation, Reference};
 use reference::tuned::Engine;
 use std::cell::RefCell;
 use std::hint::black_box;
+use std::io::Result;
 use std::path::Path;
 
-const STORIES: [&str; 7] = ["p", "letter", "alice", "shoes", "market", "lie", "safe"];
-/// T, K and E: those of the program `ending`, and the widest.
-const LIMITS: [(u64, u64, u64); 2] = [(4, 3, 2), (8, 6, 3)];
-const FAMILY: u64 = 24;
-/// Searches that take more steps if nothing is remembered are left out of a family; to be raised as the library remembers
-/// more.
+/// Where a side takes longer, what the children measured is told.
+const QUICK: f64 = 100e6;
+/// The readable reference is asked where a search that remembers nothing takes at most so many steps.
 const MOST_STEPS: usize = 100_000;
 
 const HEAD: &str = "\
-Searches one after the other on one thread, the three in turn; medians of 301 measurements of a millisecond or of a single
-run, or of as many as five seconds allow. All three are lent the same buffers and set the first 49,152 bytes of the work
-buffer to 0 in every call; nothing is cleared between calls. The tuned engine keeps its memory from call to call and nothing
-else; the readable reference allocates. Steps are those of a search that remembers nothing; the program count_steps has the
-library's own.
+Searches one after the other on one thread, all sides in turn; medians of 301 measurements of a millisecond or of a
+single run, or of as many as five seconds allow; where a side takes more than 0.1 s, the middle one of up to five runs
+that fit into a second; where it takes more than 5 s it is cut off there. All are lent the same buffers and set the
+first 49,152 bytes of the work buffer to 0 in every call; nothing is cleared between calls. The tuned engine keeps its
+memory from call to call and nothing else; \"held\" is the same with at most 27 KB kept of a search; the readable
+reference allocates. Steps without memory are those of a search that remembers nothing; the library's own are counted
+by its sources, compiled as Rust.";
 
-| Search | Found | Steps without memory | Library | Tuned | Readable | Library / tuned | Library / readable |
-|---|---|---|---|---|---|---|---|";
-
-fn main() {
-    println!("{HEAD}");
-    for limits in LIMITS {
-        for name in STORIES {
-            let file = Path::new(env!("CARGO_MANIFEST_DIR")).join(format!("../../examples/{name}.pack"));
-            let pack = std::fs::read(&file).unwrap_or_else(|error| panic!("{}: {error}", file.display()));
-            measure(name, limits, vec![pack]);
-        }
-        for (name, draw) in KINDS {
-            measure(name, limits, family(draw, FAMILY));
-        }
+fn main() -> Result<()> {
+    let words: Vec<String> = std::env::args().skip(1).collect();
+    if is_child(&words) {
+        return Ok(());
     }
-    for (name, guarded) in [("3 doors", false), ("3 guarded doors", true)] {
-        for story in 1..=8 {
-            measure(name, (story, 3, 2), vec![doors(3, guarded)]);
-        }
-    }
+    let chosen = |case: &Case| words.iter().all(|word| case.title().contains(word));
+    println!("{HEAD}\n");
+    small_table(chosen)?;
+    large_table(chosen)
 }
 
-/// A row for one pack, or for several that are searched one after the other; those are left out that take too long.
-fn measure(name: &str, (story, foresight, nesting): (u64, u64, u64), packs: Vec<Vec<u8>>) {
-    let name = format!("{name}, T {story} K {foresight} E {nesting}");
-    if !std::env::args().skip(1).all(|word| name.contains(&word)) {
-        return;
+fn small_table(chosen: impl Fn(&Case) -> bool) -> Result<()> {
+    let cases = small();
+    if !cases.iter().any(&chosen) {
+        return Ok(());
     }
-    let all = packs.len();
-    let ask = Ask::Search { story, foresight, nesting };
-    let calls = packs.into_iter().map(|pack| Call::new(pack, ask.clone()));
-    let (calls, steps): (Vec<Call>, Vec<usize>) =
-        calls.filter_map(|call| effort::steps(&call, MOST_STEPS).map(|steps| (call, steps))).unzip();
-    if calls.is_empty() {
-        return println!("| {name} | left out: more than {MOST_STEPS} steps | | | | | | |");
+    println!(
+        "| Search | Found | Steps without memory | Library | Tuned | Held | Readable | Library / tuned | / held |"
+    );
+    println!("|---|---|---|---|---|---|---|---|---|");
+    for (i, case) in cases.iter().enumerate().filter(|(_, case)| chosen(case)) {
+        let calls = calls(case);
+        let steps: Option<usize> = calls.iter().map(|call| effort::steps(call, MOST_STEPS)).sum();
+        let runs = children(SIDES, "small", i)?;
+        let (times, readable) = measured(&runs, &calls, steps.is_some());
+        let steps = steps.map_or(format!("more than {MOST_STEPS} in one"), |steps| steps.to_string());
+        let [library, tuned, held] = times.map(time);
+        print!("| {} | {} | {steps} | {library} | {tuned} | {held} ", case.title(), found(&runs));
+        println!(
+            "| {} | {} | {} |",
+            readable.map_or("not run".into(), |t| time(Some(t))),
+            over(times, 1),
+            over(times, 2)
+        );
     }
-    let (found, times) = searched(&calls);
-    let many =
-        if all == 1 { String::new() } else { format!(", {} packs, {} left out", calls.len(), all - calls.len()) };
-    let steps = steps.iter().sum::<usize>();
-    let [library, tuned, readable] = times.map(time);
-    let (to_tuned, to_readable) = (times[0] / times[1], times[0] / times[2]);
-    print!("| {name}{many} | {found} | {steps} ");
-    println!("| {library} | {tuned} | {readable} | {to_tuned:.2} | {to_readable:.2} |");
+    println!();
+    Ok(())
 }
 
-/// What is found, and how long it takes by the library, by the tuned engine and by the readable reference.
-fn searched(calls: &[Call]) -> (String, [f64; 3]) {
-    let (mut library, mut engine, mut reference) = (Library::new(), Engine::new(), Reference);
-    let found = found(&mut library, &mut engine, calls);
+fn large_table(chosen: impl Fn(&Case) -> bool) -> Result<()> {
+    let cases = large();
+    if !cases.iter().any(&chosen) {
+        return Ok(());
+    }
+    let room = Room::new("bench-search")?;
+    let repository = Path::new(env!("CARGO_MANIFEST_DIR")).join("../..");
+    let program = build(&repository, &room.0.join("sources"), &NOTHING_OFF)?;
+    print!("| Search | Found | Library | Tuned | Held | Library / tuned | / held ");
+    println!("| Steps: library | tuned | held |\n|---|---|---|---|---|---|---|---|---|---|");
+    for (i, case) in cases.iter().enumerate().filter(|(_, case)| chosen(case)) {
+        let runs = children(SIDES, "large", i)?;
+        let (times, _) = measured(&runs, &calls(case), false);
+        let steps = steps_within(&program, &room, case, MOST_SECONDS)?;
+        let [library, tuned, held] = times.map(time);
+        print!("| {} | {} | {library} | {tuned} | {held} ", case.title(), found(&runs));
+        print!("| {} | {} | {} ", over(times, 1), over(times, 2), counted(&steps));
+        let [tuned, held] = [1, 2].map(|side| runs[side].as_ref().map_or("".into(), |run| run.steps.to_string()));
+        println!("| {tuned} | {held} |");
+    }
+    Ok(())
+}
+
+fn counted(steps: &Counted) -> String {
+    format!("{}{}", if steps.whole { "" } else { "more than " }, steps.steps)
+}
+
+/// The times of the sides, in turn where all are quick, else as the children told them; and of the readable reference.
+fn measured(runs: &[Option<Run>; 3], calls: &[Call], readable: bool) -> ([Option<f64>; 3], Option<f64>) {
+    let once = [0, 1, 2].map(|side| runs[side].as_ref().map(|run| run.nanoseconds));
+    if once.iter().any(|time| time.is_none_or(|time| time > QUICK)) {
+        return (once, None);
+    }
+    let (mut library, mut free, mut held) = (Library::new(), Engine::new(), Engine::held(HELD));
+    let mut reference = Reference;
     // One pair of buffers for all, since how they lie in memory tells on the time.
     let buffers = RefCell::new((lent(LIST_ROOM), lent(WORK_ROOM)));
-    let mut ways = [
+    let mut ways = vec![
         Way::new("library", searching(&mut library, calls, &buffers)),
-        Way::new("tuned", searching(&mut engine, calls, &buffers)),
-        Way::new("readable", searching(&mut reference, calls, &buffers)),
+        Way::new("tuned", searching(&mut free, calls, &buffers)),
+        Way::new("held", searching(&mut held, calls, &buffers)),
     ];
-    let times = in_turn(&mut ways);
-    (found, [times[0].median, times[1].median, times[2].median])
-}
-
-/// What is found, which must be the same by all three.
-fn found(library: &mut Library, engine: &mut Engine, calls: &[Call]) -> String {
-    let answers: Vec<Outcome> = calls.iter().map(|call| answer(library, call)).collect();
-    for (call, said) in calls.iter().zip(&answers) {
-        assert!(answer(engine, call) == *said && answer(&mut Reference, call) == *said, "they differ on {call}");
+    if readable {
+        ways.push(Way::new("readable", searching(&mut reference, calls, &buffers)));
     }
-    match &answers[..] {
-        [Outcome::Found(found)] => format!("{} actions", found.length),
-        [_] => "none".to_string(),
-        _ => format!("{} endings", answers.iter().filter(|said| matches!(said, Outcome::Found(_))).count()),
-    }
-}
-
-fn answer(by: &mut impl Implementation, call: &Call) -> Outcome {
-    outcome(by, &call.ask, call.handed(), &mut lent(call.result), &mut lent(call.work))
+    let times: Vec<f64> = in_turn(&mut ways).iter().map(|time| time.median).collect();
+    ([0, 1, 2].map(|side| Some(times[side])), times.get(3).copied())
 }
 
 /// All searches, one after the other.
@@ -121,10 +137,20 @@ fn searching<'a>(
     }
 }
 
-fn time(nanoseconds: f64) -> String {
+/// The library's time over another side's, or the least that it can be.
+fn over(times: [Option<f64>; 3], side: usize) -> String {
+    match (times[0], times[side]) {
+        (Some(library), Some(other)) => format!("{:.2}", library / other),
+        (None, Some(other)) => format!("more than {:.0}", MOST_SECONDS * 1e9 / other),
+        _ => String::new(),
+    }
+}
+
+fn time(nanoseconds: Option<f64>) -> String {
     match nanoseconds {
-        n if n < 100_000.0 => format!("{:.1} µs", n / 1e3),
-        n if n < 100_000_000.0 => format!("{:.2} ms", n / 1e6),
-        n => format!("{:.2} s", n / 1e9),
+        None => format!("more than {MOST_SECONDS} s"),
+        Some(n) if n < 100_000.0 => format!("{:.1} µs", n / 1e3),
+        Some(n) if n < 100_000_000.0 => format!("{:.2} ms", n / 1e6),
+        Some(n) => format!("{:.2} s", n / 1e9),
     }
 }

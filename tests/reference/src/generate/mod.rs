@@ -11,6 +11,7 @@ pub mod draft;
 pub mod limits;
 pub mod packs;
 pub mod random;
+pub mod seasons;
 pub mod stories;
 pub mod tables;
 pub mod wander;

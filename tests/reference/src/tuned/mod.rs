@@ -1,9 +1,12 @@
 //! The calls once more, tuned: what benchmarks compare with. Packs are read into flat lists, states are tables of fixed
 //! size, a step allocates nothing, and a search keeps every state it meets with all it has found out about it.
+//! With `Engine::held` what a search keeps is limited to so many bytes.
 //! An `Engine` is kept from call to call for its memory; nothing of one call's contents is used in another.
 
 mod compare;
 mod compile;
+mod held;
+mod memory;
 mod reader;
 mod rules;
 mod search;
@@ -15,17 +18,24 @@ use crate::calls::{Differs, Found, CHAIN_ROOM, CHART_ROOM, LIST_ROOM, WORK_ROOM}
 use crate::ending;
 use crate::implementation::Implementation;
 use crate::refusal::{without_place, Refusal, NO_ENDING, RANGE, SHORT};
+use held::Held;
 use rules::Rules;
 use search::Search;
 use step::Stepper;
 use table::{Row, Table};
+
+/// A search that keeps all it finds out, or as much as fits.
+enum Finder {
+    Free(Box<Search>),
+    Held(Box<Held>),
+}
 
 pub struct Engine {
     rules: Rules,
     rows: Vec<Row>,
     other: Vec<Row>,
     stepper: Stepper,
-    search: Search,
+    finder: Finder,
     state: Table,
     result: Table,
 }
@@ -33,29 +43,57 @@ pub struct Engine {
 impl Engine {
     #[allow(clippy::new_without_default)]
     pub fn new() -> Engine {
+        Engine::with(Finder::Free(Box::new(Search::new())))
+    }
+
+    /// An engine whose searches keep at most so many bytes of states and of what is known of them.
+    pub fn held(bytes: usize) -> Engine {
+        Engine::with(Finder::Held(Box::new(Held::new(bytes))))
+    }
+
+    fn with(finder: Finder) -> Engine {
         Engine {
             rules: Rules::default(),
             rows: Vec::new(),
             other: Vec::new(),
             stepper: Stepper::new(),
-            search: Search::new(),
+            finder,
             state: Table::new(),
             result: Table::new(),
         }
     }
 
+    /// How many steps the last Explained, Search or `ending` made.
+    pub fn steps(&self) -> u64 {
+        match &self.finder {
+            Finder::Free(search) => search.steps,
+            Finder::Held(search) => search.steps,
+        }
+    }
+
     /// Search under limits already checked: the length of the ending and the author's utility before and after.
     fn find(&mut self, story: usize, foresight: usize, nesting: usize) -> Result<Found, Refusal> {
-        let (search, rules) = (&mut self.search, &self.rules);
-        let start = search.begin(rules, &rules.start, foresight);
-        for length in 1..=story {
-            if search.ending(rules, start, length, nesting) {
-                let before = search.utility(rules, start, 0) as usize;
-                let after = search.after(rules, start, length) as usize;
-                return Ok(Found { length, before, after });
-            }
+        let found = match &mut self.finder {
+            Finder::Free(search) => search.find(&self.rules, story, foresight, nesting),
+            Finder::Held(search) => search.find(&self.rules, story, foresight, nesting),
+        };
+        let [length, before, after] = found.ok_or(without_place(NO_ENDING))?;
+        Ok(Found { length, before, after })
+    }
+
+    /// A call begins.
+    fn no_steps(&mut self) {
+        match &mut self.finder {
+            Finder::Free(search) => search.steps = 0,
+            Finder::Held(search) => search.steps = 0,
         }
-        Err(without_place(NO_ENDING))
+    }
+
+    fn list(&self) -> &[u8; 8] {
+        match &self.finder {
+            Finder::Free(search) => &search.list,
+            Finder::Held(search) => &search.list,
+        }
     }
 
     /// Writes a state's chart and gives its length.
@@ -138,14 +176,18 @@ impl Implementation for Engine {
         nesting: u64,
         work: &mut [u8],
     ) -> Result<bool, Refusal> {
+        self.no_steps();
         compile::pack(&mut self.rules, pack)?;
         reader::chart(&self.rules, chart, &mut self.rows)?;
         lent(work.len() >= WORK_ROOM)?;
         in_range(character < self.rules.characters as u64 && action < self.rules.actions.len() as u64)?;
         in_range((1..=6).contains(&foresight) && nesting <= 3)?;
         work[..WORK_ROOM].fill(0);
-        let state = self.search.begin(&self.rules, &self.rows, foresight as usize);
-        Ok(self.search.explained(&self.rules, character as usize, action as usize, state, nesting as usize))
+        let (deed, limits) = ((character as usize, action as usize), (foresight as usize, nesting as usize));
+        Ok(match &mut self.finder {
+            Finder::Free(search) => search.explains(&self.rules, &self.rows, deed, limits),
+            Finder::Held(search) => search.explains(&self.rules, &self.rows, deed, limits),
+        })
     }
 
     fn search(
@@ -157,19 +199,21 @@ impl Implementation for Engine {
         result: &mut [u8],
         work: &mut [u8],
     ) -> Result<Found, Refusal> {
+        self.no_steps();
         compile::pack(&mut self.rules, pack)?;
         lent(result.len() >= LIST_ROOM && work.len() >= WORK_ROOM)?;
         in_range((1..=8).contains(&story) && (1..=6).contains(&foresight) && nesting <= 3)?;
         work[..WORK_ROOM].fill(0);
         let found = self.find(story as usize, foresight as usize, nesting as usize)?;
-        result[..found.length].copy_from_slice(&self.search.list[..found.length]);
+        result[..found.length].copy_from_slice(&self.list()[..found.length]);
         Ok(found)
     }
 
     fn ending(&mut self, pack: &[u8]) -> String {
+        self.no_steps();
         let found = compile::pack(&mut self.rules, pack)
             .and_then(|()| self.find(ending::STORY, ending::FORESIGHT, ending::NESTING));
-        ending::lines(found.map(|found| (&self.search.list[..found.length], found.before, found.after)))
+        ending::lines(found.map(|found| (&self.list()[..found.length], found.before, found.after)))
     }
 }
 

@@ -17,6 +17,7 @@ pub struct Search {
     here: Table,
     result: Table,
     pub list: [u8; 8],
+    pub steps: u64,
 }
 
 impl Search {
@@ -29,15 +30,34 @@ impl Search {
             here: Table::new(),
             result: Table::new(),
             list: [0; 8],
+            steps: 0,
         }
     }
 
     /// Forgets what was, and numbers the state of a table.
-    pub fn begin(&mut self, rules: &Rules, rows: &[Row], foresight: usize) -> Id {
+    fn begin(&mut self, rules: &Rules, rows: &[Row], foresight: usize) -> Id {
         self.states.begin(rules);
-        (self.foresight, self.loaded) = (foresight, UNKNOWN);
+        (self.foresight, self.loaded, self.steps) = (foresight, UNKNOWN, 0);
         self.stepper.state(rules, rows, 0, &mut self.result);
         self.states.intern(&self.result)
+    }
+
+    pub fn explains(
+        &mut self,
+        rules: &Rules,
+        rows: &[Row],
+        (character, action): (usize, usize),
+        (foresight, nesting): (usize, usize),
+    ) -> bool {
+        let state = self.begin(rules, rows, foresight);
+        self.explained(rules, character, action, state, nesting)
+    }
+
+    /// The length of the ending, which is then in the list, and the author's utility before and after.
+    pub fn find(&mut self, rules: &Rules, story: usize, foresight: usize, nesting: usize) -> Option<[usize; 3]> {
+        let start = self.begin(rules, &rules.start, foresight);
+        let length = (1..=story).find(|&length| self.ending(rules, start, length, nesting))?;
+        Some([length, self.utility(rules, start, 0) as usize, self.after(rules, start, length) as usize])
     }
 
     #[inline]
@@ -53,6 +73,7 @@ impl Search {
         let at = self.states.action(state, action);
         if self.states.next[at] == UNKNOWN {
             self.load(state);
+            self.steps += 1;
             let next = match self.stepper.step(rules, &self.here, action, &mut self.result) {
                 Ok(()) => self.states.intern(&self.result),
                 Err(_) => NOWHERE,
@@ -83,7 +104,7 @@ impl Search {
         self.states.beliefs[at]
     }
 
-    pub fn utility(&mut self, rules: &Rules, state: Id, who: usize) -> u32 {
+    fn utility(&mut self, rules: &Rules, state: Id, who: usize) -> u32 {
         let at = self.states.whose(state, who);
         if self.states.utilities[at] == UNKNOWN {
             self.load(state);
@@ -110,7 +131,7 @@ impl Search {
         next != NOWHERE && self.utility(rules, next, who) > above
     }
 
-    pub fn explained(&mut self, rules: &Rules, character: usize, action: usize, state: Id, nesting: usize) -> bool {
+    fn explained(&mut self, rules: &Rules, character: usize, action: usize, state: Id, nesting: usize) -> bool {
         if nesting == 0 {
             return false;
         }
@@ -169,7 +190,7 @@ impl Search {
     }
 
     /// The earliest ending of exactly `length` actions goes to the list; says whether there is one.
-    pub fn ending(&mut self, rules: &Rules, start: Id, length: usize, nesting: usize) -> bool {
+    fn ending(&mut self, rules: &Rules, start: Id, length: usize, nesting: usize) -> bool {
         let above = self.utility(rules, start, 0);
         self.extend(rules, above, start, length, length, nesting)
     }
@@ -199,7 +220,7 @@ impl Search {
     }
 
     /// The author's utility at the end of the list.
-    pub fn after(&mut self, rules: &Rules, start: Id, length: usize) -> u32 {
+    fn after(&mut self, rules: &Rules, start: Id, length: usize) -> u32 {
         let mut state = start;
         for i in 0..length {
             state = self.next(rules, state, self.list[i] as usize);

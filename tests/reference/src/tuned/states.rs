@@ -143,7 +143,7 @@ impl States {
 }
 
 /// Four lanes, so that the rows' words are mixed side by side.
-fn hash(rows: &[Row]) -> u64 {
+pub fn hash(rows: &[Row]) -> u64 {
     let mut lanes = [1u64, 2, 3, 4];
     for row in rows {
         let words = row.words();
