@@ -4,6 +4,7 @@
 // A bound before the search: a character's goal is set by the belief that an explanation begins with and stays the same
 // to its end, as the author's does from the start, so it is asked once for each, before anything is recalled or tried.
 use crate::entry::Deed;
+use crate::intern::is_large;
 use crate::intern::table_in;
 use crate::limits::Context;
 use pack::judge::after_condition;
@@ -54,6 +55,9 @@ pub fn pointless(pack: &[u8], places: &[u16], p: Context, work: &[u8], slot: usi
     ensures { λ r. ⌜ NoReason (now (pack .entry)) (now (places .entry)) p slot (now (work .entry)) (d .who)
         (d .action) r ⌝ }
 {
+    if !is_large(work, p) {
+        return false;
+    }
     let q = wide(work[slot + 1 + p.fluents + d.who]);
     let t = table_in(work, p, slot);
     let may = holds(pack, places[ACTION * d.action] as usize, work, t, q);

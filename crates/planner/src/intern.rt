@@ -6,6 +6,7 @@
 // as the slot that its table stands in.
 use crate::limits::Context;
 use crate::regions::BLOCKS;
+use crate::regions::ENOUGH;
 use crate::regions::HASHED;
 use crate::regions::TABLES;
 use crate::regions::TAKEN;
@@ -18,6 +19,8 @@ ghost use mathlib.Core.Path.{_≡_};
 ghost use mathlib.Core.Bool.{true, false};
 ghost use Prim.Native.Nat.{_+_, _*_, _<_, _≤_};
 ghost use lib.ListN.{length};
+ghost use Rattle.chart.specs.Call.{workRoom};
+ghost use Rattle.transition.specs.Contracts.Stage.{scratchAt};
 ghost use Rattle.planner.specs.Inner.Lists.{slotTable};
 ghost use Rattle.planner.specs.Inner.Memory.{Before, HasId, Stored, Interning};
 
@@ -33,6 +36,14 @@ pub fn table_in(work: &[u8], p: Context, slot: usize) -> Table
         characters: p.characters,
         width: p.fluents + p.characters,
     }
+}
+
+// Whether so much is kept that more is worth reckoning before a step is made: a search that ends sooner is quicker
+// without. Nothing depends on it.
+pub fn is_large(work: &[u8], p: Context) -> bool
+    requires { ⌜ (p .memory ≤ scratchAt) × (workRoom ≤ length (now work)) ⌝ }
+{
+    ENOUGH <= wide(work[p.memory + TAKEN])
 }
 
 // A number below 128 made of n bytes. Nothing depends on which.

@@ -3,14 +3,13 @@
 // A relaxed plan, level by level: what actions could be among the first, by conditions that could hold before anything is
 // played, which could then be among the first two, and so on. What one of them writes stays had, and consenters are not
 // asked, so where no rule above could hold even so no list of so many actions leads there, and no step is made.
+use crate::intern::is_large;
 use crate::intern::table_in;
 use crate::limits::Context;
 use crate::prune::Course;
 use crate::prune::Hope;
 use crate::prune::could_exceed;
 use crate::prune::could_hold;
-use crate::regions::TAKEN;
-use pack::number::wide;
 use pack::places::ACTION;
 use pack::places::UTILITIES;
 use pack::table::Table;
@@ -70,9 +69,6 @@ pub fn mark_level(
     }
 }
 
-// How much is to be kept in the memory before anything is reckoned: a search that ends sooner is quicker without.
-pub const ENOUGH: usize = 30;
-
 // Whether a utility above another could be had within so many actions from the state in a slot. Each last action is looked
 // at by itself (`next_promising`), so of fewer than two nothing is reckoned.
 pub fn within_reach(
@@ -91,7 +87,7 @@ pub fn within_reach(
     if h.left < 2 {
         return true;
     }
-    if wide(work[p.memory + TAKEN]) < ENOUGH {
+    if !is_large(work, p) {
         return true;
     }
     let t = table_in(work, p, slot);

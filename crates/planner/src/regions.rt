@@ -18,3 +18,6 @@ pub const TABLES: usize = 2482;
 
 // How many blocks there are, as many as an id of one byte can tell apart.
 pub const BLOCKS: usize = 255;
+
+// So many blocks are taken where a search is large.
+pub const ENOUGH: usize = 20;

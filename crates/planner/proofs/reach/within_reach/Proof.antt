@@ -29,17 +29,17 @@ abbrev μ-loop : tie.MeasureT-loop
 
 -- whose rules they are, of the table that was read
 whose-there : (c : tie.After-table-in Inv-loop μ-loop) →
-    let start = c .before .before .before .before .before .before .before .before .before .before in
+    let start = c .before .before .before .before .before .before .before .before in
     start .args .h .whose < c .table-in .result .characters + 1
 whose-there c =
-    let start = c .before .before .before .before .before .before .before .before .before .before in
+    let start = c .before .before .before .before .before .before .before .before in
     subst (λ (t : Table). start .args .h .whose < t .characters + 1) (sym (c .table-in .ensures)) (start .pre .0 .2)
 
 could-exceed-requires : tie.Need-could-exceed-requires Inv-loop μ-loop
 could-exceed-requires c κs =
     let at-loop = c .before in
     let at-table-in = at-loop .before .before .before in
-    let start = at-table-in .before .before .before .before .before .before .before .before .before .before in
+    let start = at-table-in .before .before .before .before .before .before .before .before in
     let (th, (T, x)) = start .pre .0 .0 in
     level-rules (stage-level (table-stage (at-table-in .table-in .ensures) x) (omega (arith, start .pre .0 .1, x .laid .room)) (at-loop .loop .inv .0)) (at-loop .loop .i) (whose-there at-table-in)
 
@@ -49,7 +49,7 @@ returns-4 c =
     let at-could-exceed = at-if3 .before in
     let at-loop = at-could-exceed .before .before in
     let at-table-in = at-loop .before .before .before in
-    let start = at-table-in .before .before .before .before .before .before .before .before .before .before in
+    let start = at-table-in .before .before .before .before .before .before .before .before in
     λ e th T x list u few played.
     stage-beyond (table-stage (at-table-in .table-in .ensures) x) (omega (arith, start .pre .0 .1, x .laid .room)) (at-loop .loop .inv .0) (whose-there at-table-in) (at-loop .loop .inv .2 th T x) (at-could-exceed .could-exceed .ensures) (at-if3 .if3 .left) list u (omega (arith, few, c .if4 .taken))
     (subst (λ (t : Table). Played th (meaning (t .characters) T 0) list u) (sym (at-table-in .table-in .ensures)) played)
@@ -59,7 +59,7 @@ mark-level-requires c κs =
     let at-if4 = c .before in
     let at-loop = at-if4 .before .before .before .before .before in
     let at-table-in = at-loop .before .before .before in
-    let start = at-table-in .before .before .before .before .before .before .before .before .before .before in
+    let start = at-table-in .before .before .before .before .before .before .before .before in
     let (th, (T, x)) = start .pre .0 .0 in
     ((th, stage-level (table-stage (at-table-in .table-in .ensures) x) (omega (arith, start .pre .0 .1, x .laid .room)) (at-loop .loop .inv .0)), omega (arith, at-loop .loop .inv .1, at-if4 .if4 .left, start .pre .1))
 
@@ -69,7 +69,7 @@ loop-again c =
     let at-if4 = at-mark-level .before .before in
     let at-loop = at-if4 .before .before .before .before .before in
     let at-table-in = at-loop .before .before .before in
-    let start = at-table-in .before .before .before .before .before .before .before .before .before .before in
+    let start = at-table-in .before .before .before .before .before .before .before .before in
     let (long, few, levels) = at-loop .loop .inv in
     let next : at-loop .loop .i + 1 ≡ suc (at-loop .loop .i) = omega arith in (
       at-mark-level .mark-level .kept .1 .1 .1 .1 .1 .0 ∙ long,
@@ -84,26 +84,21 @@ within-reach-spec =
     Inv-loop
     μ-loop
     (λ c. λ e. absurd (unequal e))
-    (λ c.
-    let start = c .before .before .before .before .before .before in
+    (λ c κs.
+    let start = c .before .before .before .before .before in
     let (th, (T, x)) = start .pre .0 .0 in
-    omega (arith, x .laid .room))
-    (λ c.
-    let start = c .before .before .before .before .before .before .before in
-    let (th, (T, x)) = start .pre .0 .0 in
-    omega (arith, x .room, x .laid .room))
-    (λ c κs. search needs)
+    (omega (arith, x .laid .room), x .room))
     (λ c. λ e. absurd (unequal e))
     (λ c κs.
-    let start = c .before .before .before .before .before .before .before .before .before in
+    let start = c .before .before .before .before .before .before .before in
     let (th, (T, x)) = start .pre .0 .0 in
     (omega (arith, start .pre .0 .1, x .laid .room, x .laid .some, x .room), omega (arith, small (x .tabled))))
     (λ c. search needs)
     (λ c. search needs)
     (λ c. search needs)
     (λ c.
-    let start = c .before .before .before .before .before .before .before .before .before .before .before .before in
-    omega (arith, c .shared-slice-known5 .given (320 + start .args .h .whose)))
+    let start = c .before .before .before .before .before .before .before .before .before .before in
+    omega (arith, c .shared-slice-known4 .given (320 + start .args .h .whose)))
     (λ c. (refl, omega arith, λ th T x. levels-none))
     (λ c. search needs)
     could-exceed-requires
