@@ -1,9 +1,9 @@
 // What could come of a state, before a step is made: whether a test could pass, a condition hold or a utility be had
 // after some actions that are marked have been played from it.
 //
-// Pruning: a test about the state itself could pass if it does now, if one of these actions leaves a value that it is met
-// by, or if a trigger writes its fluent; one about what is believed is left open. So no step is made for an action whose
-// condition fails, nor for a last one after which no rule above some utility could hold. Only a "no" is promised
+// Pruning: a test about the state itself could pass if it does now, if one of these actions leaves a value that it is
+// met by, or if a trigger writes its fluent; one about what is believed is left open. So no step is made for an action
+// whose condition fails, nor for a last one after which no rule above some utility could hold. Only a "no" is promised
 // anything.
 use crate::intern::table_in;
 use crate::limits::Context;
@@ -37,8 +37,8 @@ ghost use Rattle.planner.specs.Inner.Reach.{couldAll, couldHold, couldEx
 ghost use Rattle.planner.specs.Inner.Look.{Triggered, Moved, Cast, Brought, Lookable, Looked, Tryable, Hopeless};
 ghost use Rattle.planner.specs.Inner.Look.{Trying, Skipped};
 
-// Which actions may have been played: of those from `from` up to `to` the ones whose mark is 1 to `within`. And how many
-// triggers there are that may fire after each.
+// Which actions may have been played: of those from `from` up to `to` the ones whose mark is 1 to `within`. And how
+// many triggers there are that may fire after each.
 pub struct Course {
     pub from: usize,
     pub to: usize,

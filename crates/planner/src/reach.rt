@@ -1,8 +1,8 @@
 // How far a state is from a utility: whether one above another could be had within so many actions.
 //
-// A relaxed plan, level by level: what actions could be among the first, by conditions that could hold before anything is
-// played, which could then be among the first two, and so on. What one of them writes stays had, and consenters are not
-// asked, so where no rule above could hold even so no list of so many actions leads there, and no step is made.
+// A relaxed plan, level by level: what actions could be among the first, by conditions that could hold before anything
+// is played, which could then be among the first two, and so on. What one of them writes stays had, and consenters are
+// not asked, so where no rule above could hold even so no list of so many actions leads there, and no step is made.
 use crate::intern::is_large;
 use crate::intern::table_in;
 use crate::limits::Context;
@@ -69,8 +69,8 @@ pub fn mark_level(
     }
 }
 
-// Whether a utility above another could be had within so many actions from the state in a slot. Each last action is looked
-// at by itself (`next_promising`), so of fewer than two nothing is reckoned.
+// Whether a utility above another could be had within so many actions from the state in a slot. Each last action is
+// looked at by itself (`next_promising`), so of fewer than two nothing is reckoned.
 pub fn within_reach(
     pack: &[u8],
     places: &[u16],

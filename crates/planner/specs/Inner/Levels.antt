@@ -1,5 +1,5 @@
--- What is reckoned of the actions that may be played, level by level: an action's mark says among how many of the first it
--- may be at the earliest. Assumes nothing.
+-- What is reckoned of the actions that may be played, level by level: an action's mark says among how many of the first
+-- it may be at the earliest. Assumes nothing.
 use Prim.Native.Nat.{ℕ, suc, _+_, _<_, _≤_}
 use mathlib.Core.Path.{_≡_}
 use mathlib.Core.Bool.{true}

@@ -145,7 +145,8 @@ left-either f [] v w = inl refl
 left-either f (e ∷ es) v w = go (asks (Sets f) e) (left-either f es v w)
   where
     go : (b : Bool) → (leftOf f es v ≡ v) ⊎ (leftOf f es v ≡ leftOf f es w)
-        → (leftOf f es (cond b (e .value) v) ≡ v) ⊎ (leftOf f es (cond b (e .value) v) ≡ leftOf f es (cond b (e .value) w))
+        → (leftOf f es (cond b (e .value) v) ≡ v)
+        ⊎ (leftOf f es (cond b (e .value) v) ≡ leftOf f es (cond b (e .value) w))
     go true more = inr refl
     go false more = more
 
@@ -186,7 +187,8 @@ unmet met es f values w old own = by-cases (decLt f (length values))
 -- One action more
 module _ (p : Theory) (A : ℕ → Bool) (n : ℕ) (s : State) where
   -- what could not pass is not met
-  pub own-unmet : (x : Test) → couldPass p A n s x ≡ false → (x .chain ≡ []) × (metBy x (getD (s []) (x .fluent) 0) ≡ false)
+  pub own-unmet : (x : Test) → couldPass p A n s x ≡ false
+      → (x .chain ≡ []) × (metBy x (getD (s []) (x .fluent) 0) ≡ false)
   unfolding couldAt
   own-unmet x e = go (x .chain) e
     where
@@ -220,7 +222,8 @@ module _ (p : Theory) (A : ℕ → Bool) (n : ℕ) (s : State) where
       ap (λ (c : List ℕ). metBy x (getD (u c) f 0)) q
       ∙ ap (metBy x) (plays-acted p t a u plays f still)
       ∙ unmet (metBy x) (actionOf p a .effects) f (t []) (getD (s []) f 0)
-      (ap (λ (c : List ℕ). metBy x (getD (t c) f 0)) (sym q) ∙ was) (own (A a) there (some-not (leavesMet p A n s x) n some a l))
+      (ap (λ (c : List ℕ). metBy x (getD (t c) f 0)) (sym q) ∙ was)
+      (own (A a) there (some-not (leavesMet p A n s x) n some a l))
     where
       own-of : (b : Bool) → b ≡ true
           → (b && metBy x (leftOf (x .fluent) (actionOf p a .effects) (getD (s []) (x .fluent) 0))) ≡ false
@@ -270,8 +273,10 @@ module _ {p : Theory} {s : State} {A : ℕ → ℕ → Bool} {n left : ℕ} (g :
   barred-play : (i : ℕ) {a : ℕ} {t u : State} → i < left → Barred i t → Plays p t a u → Barred (suc i) u
   barred-play i {a} {t} {u} l b plays x e =
       let few : a < n = omega (arith, plays .there, g .all) in
-      let may : couldHold (couldPass p (A i) n s) (actionOf p a .condition) ≡ true =
-      ⊎-elim (λ q. q) (λ q. absurd (unequal (sym (plays .may) ∙ no-hold (couldPass p (A i) n s) t b (actionOf p a .condition) q))) (either (couldHold (couldPass p (A i) n s) (actionOf p a .condition))) in
+      let could : Test → Bool = couldPass p (A i) n s in
+      let c : Condition = actionOf p a .condition in
+      let may : couldHold could c ≡ true =
+      ⊎-elim (λ q. q) (λ q. absurd (unequal (sym (plays .may) ∙ no-hold could t b c q))) (either (couldHold could c)) in
       play-barred p (A (suc i)) n s plays (g .next i a l few may) few x e (barred-on i t b x e)
 
   barred-list : (list : List ℕ) (i : ℕ) (t u : State) → i + length list ≤ left → Barred i t → Played p t list u
@@ -282,8 +287,9 @@ module _ {p : Theory} {s : State} {A : ℕ → ℕ → Bool} {n left : ℕ} (g :
       barred-list list (suc i) m u (omega arith) (barred-play i (omega arith) b plays) more
 
   -- no list of at most so many actions has a utility above base where none could be had
-  pub none-reached : (list : List ℕ) (u : State) → length list ≤ left → Played p s list u → (base : ℕ) (rules : List Rule)
-      → couldExceed (couldPass p (A left) n s) base rules ≡ false → utility u rules ≤ base
+  pub none-reached : (list : List ℕ) (u : State) → length list ≤ left → Played p s list u
+      → (base : ℕ) (rules : List Rule) → couldExceed (couldPass p (A left) n s) base rules ≡ false
+      → utility u rules ≤ base
   none-reached list u l played base rules e =
       no-exceed (couldPass p (A left) n s) u
       (barred-list list 0 s u (omega arith) (start-barred p (A 0) n s) played) base rules e
