@@ -76,8 +76,8 @@ fn trying(line: &str, limits: &str) -> Option<u8> {
     (none == expected && length <= 8).then_some(length)
 }
 
-/// The line comes while the search runs, and not within the first second. The program is ended as by Ctrl-C, and has
-/// written no answer by then.
+/// The line comes while the search runs, and not within the first second. The program is then killed, and has
+/// written no answer.
 #[test]
 fn a_long_search_says_how_far_it_is() {
     let began = Instant::now();
