@@ -10,7 +10,7 @@ use crate::said::{Refused, Said};
 use crate::stage::Stage;
 
 /// An ending has at most so many actions, whatever T is.
-const LONGEST_ENDING: usize = 8;
+pub const LONGEST_ENDING: usize = 8;
 
 pub fn attempt(file: &str, lists: &[&str], limits: Limits) -> Result<Said, Refused> {
     let mut stage = open(file)?.stage;

@@ -2,7 +2,7 @@
 //! a chart is decoded only to be printed, and to know which chains of beliefs are worth asking for.
 //!
 //! In the order of reading: `said`, `arguments`, `open`, `stage`, `list`, `judge`, `mistakes`, `act`, then a module for
-//! each command, with `again` for `check`.
+//! each command, with `again` for `check` and `progress` for `play`.
 
 mod act;
 pub mod again;
@@ -17,6 +17,7 @@ mod mistakes;
 mod new;
 pub mod open;
 mod play;
+mod progress;
 mod said;
 mod show;
 pub mod stage;

@@ -6,12 +6,13 @@ use story::print::people;
 
 use crate::act::{self, Act};
 use crate::open::open;
+use crate::progress;
 use crate::said::{Refused, Said};
 use crate::stage::Stage;
 
 pub fn play(file: &str, limits: Limits) -> Result<Said, Refused> {
     let mut stage = open(file)?.stage;
-    match stage.search(limits) {
+    match progress::search(&mut stage, limits) {
         Ok(ending) => Ok(Said::answer(told(&mut stage, &ending, limits)?)),
         Err(Refusal { number: NO_ENDING, .. }) => Ok(Said::no(none(limits))),
         Err(refusal) => Err(out_of_range(refusal)),
@@ -32,7 +33,7 @@ fn none(limits: Limits) -> String {
     format!("There is no ending of at most {actions} with foresight {} and nesting {}.\n", foresight.0, nesting.0)
 }
 
-fn counted(actions: usize) -> String {
+pub fn counted(actions: usize) -> String {
     if actions == 1 {
         return "1 action".to_string();
     }
