@@ -39,7 +39,7 @@ module _ {was : List ℕ} {n w f c : ℕ} (p : Mergeable was n w f c) where
   pub merge-laid : Laid was n w f c 1 1024 1100
   merge-laid = record { few = omega (arith, p .few); wide = p .wide; source = omega (arith, small n (omega arith)); scratch = omega (arith, p .few); target = omega (arith, small n (omega arith), p .room) }
 
-  module _ {mid : List ℕ} {k : ℕ} (x : Copied was mid n w f c 1 1024 1100 k) (long : length mid ≡ length was) where
+  module _ {mid : List ℕ} {k : ℕ} (x : Copied was mid n w f c 1 1024 1100 0 k) (long : length mid ≡ length was) where
     pub merge-levels : Levels mid k w f c 1100 2100 2200 2300
     merge-levels = record { few = omega (arith, x .few, p .few); wide = p .wide; source = omega (arith, small k (x .few)); new = omega (arith, x .few, p .few); old = omega (arith, x .few, p .few); leads = omega (arith, x .few, p .few, p .room) }
 

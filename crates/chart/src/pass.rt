@@ -1,4 +1,4 @@
-// The pass that copies the rows of a table that row 0 reaches, in the order met breadth first.
+// The pass that copies the rows of a table that a row reaches, in the order met breadth first.
 use crate::bytes::clear;
 use crate::bytes::copy_part;
 use crate::numbering::more;
@@ -23,14 +23,14 @@ pub fn fill_row(work: &mut [u8], s: Table, m: usize, t: usize, i: usize, count: 
     name_beliefs(work, m, s.nodes, to + s.fluents, s.characters, count)
 }
 
-// Copies what can be reached from row 0 of the table s to t, in the order met breadth first; how many rows that is.
-pub fn copy_reachable(work: &mut [u8], s: Table, m: usize, t: usize) -> usize
-    requires { ⌜ ofTable (Laid (now work)) s m t × ofTable (Sound (now work)) s × (0 < s .nodes) ⌝ }
-    ensures { λ r. ⌜ ofTable (Copied (now (work .entry)) (now (work .exit))) s m t r ⌝ }
+// Copies what can be reached from a row of the table s to t, in the order met breadth first; how many rows that is.
+pub fn copy_reachable(work: &mut [u8], s: Table, m: usize, t: usize, root: usize) -> usize
+    requires { ⌜ ofTable (Laid (now work)) s m t × ofTable (Sound (now work)) s × (root < s .nodes) ⌝ }
+    ensures { λ r. ⌜ ofTable (Copied (now (work .entry)) (now (work .exit))) s m t root r ⌝ }
 {
     clear(work, m, s.nodes);
-    let root = number_of(work, m, s.nodes, 0, 0);
-    let mut count = more(0, root);
+    let first = number_of(work, m, s.nodes, 0, root);
+    let mut count = more(0, first);
     let mut i = 0;
     while i < count {
         count = fill_row(work, s, m, t, i, count);

@@ -49,7 +49,7 @@ pub fn merge_table(work: &mut [u8], n: usize, w: usize, f: usize, c: usize) -> u
         characters: c,
         width: w,
     };
-    let reached = crate::pass::copy_reachable(work, s, NUMBERS, REACHED);
+    let reached = crate::pass::copy_reachable(work, s, NUMBERS, REACHED, 0);
     let t = Table {
         rows: REACHED,
         nodes: reached,

@@ -17,7 +17,7 @@ ghost use Rattle.pack.specs.Reading.{done};
 ghost use Rattle.pack.specs.Grammar.{Dimensions, kindOf, testAt, conditionAt, rulesAt};
 ghost use Rattle.pack.specs.Condition.{compares, allPass};
 ghost use Rattle.pack.specs.Contracts.Table.{stateOf};
-ghost use Rattle.pack.specs.Contracts.Judge.{alternativeAt, Small, Over, Readable, Judged, Tells};
+ghost use Rattle.pack.specs.Contracts.Judge.{alternativeAt, Small, Over, Readable, Judged};
 
 // A test's kind: 0 is, 1 is not, 2 at least. An accepted pack has no other, and a test of another would never hold.
 pub fn relates(kind: u8, x: u8, value: u8) -> bool
@@ -29,15 +29,6 @@ pub fn relates(kind: u8, x: u8, value: u8) -> bool
         2 => value <= x,
         3..=255 => false,
     }
-}
-
-// Whether a value meets a test, wherever the test looks.
-pub fn met_by(s: &[u8], at: usize, x: u8) -> bool
-    requires { ⌜ Readable testAt (now s) at ⌝ }
-    ensures { λ r. ⌜ Tells testAt (λ (t : Test). compares (t .kind) x (t .value)) (now (s .entry)) at r ⌝ }
-{
-    let n = at + 1 + wide(s[at]);
-    relates(s[n], x, s[n + 2])
 }
 
 // Whether a test holds where its chain leads.

@@ -211,7 +211,8 @@ module _ {pack : List ℕ} {p : Pack} (given : Given pack p) where
         (promise : Comparison pack first second chain work chain′ work′ r) where
       pub compare-call-same : (r ≡ matched.Same) ↔ ((ch : List ℕ) → Valid C ch → state t ch ≡ state u ch)
       compare-call-same =
-          let x = same-exactly (compareReply pack first second chain work) chain (promise .answer) (promise .result) in (
+          let said = compareReply pack first second chain work in
+          let x = same-exactly said chain (promise .answer) (promise .result) in (
             λ e ch valid. ap (λ (s : State). s ch) (compare-is same .1 (x .0 e)),
             λ h. x .1 (compare-is same .0 (one-meaning C t u h)),
           )
@@ -280,10 +281,12 @@ module _ {pack : List ℕ} {p : Pack} (given : Given pack p) where
     pub step-exactly : ((bytes : List ℕ) × (stepReply pack chart a out work ≡ gives bytes))
         ↔ ((s′ : State) × Plays theory (state t) a s′)
     step-exactly = (
-      λ x. ⊎-elim (λ (l : (s′ : State) × Plays theory (state t) a s′ × (bytes : List ℕ) × (stepReply pack chart a out work ≡ gives bytes) × ChartOf C (theory .domains) s′ bytes). (l .0, l .1))
+      λ x. ⊎-elim (λ (l : (s′ : State) × Plays theory (state t) a s′ × (bytes : List ℕ)
+          × (stepReply pack chart a out work ≡ gives bytes) × ChartOf C (theory .domains) s′ bytes). (l .0, l .1))
           (λ (r : (n : ℕ) × Refuses theory (state t) a n × (stepReply pack chart a out work ≡ refuses n 0)).
           never-gives (sym (r .2) ∙ x .1)) step-is,
-      λ y. ⊎-elim (λ (l : (s′ : State) × Plays theory (state t) a s′ × (bytes : List ℕ) × (stepReply pack chart a out work ≡ gives bytes) × ChartOf C (theory .domains) s′ bytes). (l .2, l .3))
+      λ y. ⊎-elim (λ (l : (s′ : State) × Plays theory (state t) a s′ × (bytes : List ℕ)
+          × (stepReply pack chart a out work ≡ gives bytes) × ChartOf C (theory .domains) s′ bytes). (l .2, l .3))
           (λ (r : (n : ℕ) × Refuses theory (state t) a n × (stepReply pack chart a out work ≡ refuses n 0)).
           absurd (plays-refuses (y .1) (r .1))) step-is,
     )
@@ -296,7 +299,8 @@ module _ {pack : List ℕ} {p : Pack} (given : Given pack p) where
         ⊎ ((n : ℕ) × Refuses theory (state t) a n × (r ≡ charted.Refused n 0) × (out′ ≡ out))
     unfolding resultAfter
     step-call {r = r} promise = ⊎-elim
-        (λ (l : (s′ : State) × Plays theory (state t) a s′ × (bytes : List ℕ) × (stepReply pack chart a out work ≡ gives bytes) × ChartOf C (theory .domains) s′ bytes).
+        (λ (l : (s′ : State) × Plays theory (state t) a s′ × (bytes : List ℕ)
+        × (stepReply pack chart a out work ≡ gives bytes) × ChartOf C (theory .domains) s′ bytes).
         let (s′, plays, bytes, e, of) = l in
         inl (
           s′,
@@ -324,7 +328,8 @@ module _ {pack : List ℕ} {p : Pack} (given : Given pack p) where
         ⊎ ((n : ℕ) × Refuses theory (state t) a n × (r ≡ n) × (report′ ≡ put (0 ∷ []) report) × (out′ ≡ out))
     unfolding resultAfter
     step-exported {report} promise three = ⊎-elim
-        (λ (l : (s′ : State) × Plays theory (state t) a s′ × (bytes : List ℕ) × (stepReply pack chart a out work ≡ gives bytes) × ChartOf C (theory .domains) s′ bytes).
+        (λ (l : (s′ : State) × Plays theory (state t) a s′ × (bytes : List ℕ)
+        × (stepReply pack chart a out work ≡ gives bytes) × ChartOf C (theory .domains) s′ bytes).
         let (s′, plays, bytes, e, of) = l in
         let e′ = ap (stepReply pack chart a out) (seen-all report work three) ∙ e in
         let (zero, told-so, clear) = told-answer (promise .returned) (ap (told (λ bytes. length bytes ∷ [])) e′) in

@@ -4,34 +4,24 @@ use mathlib.Core.Path.{_≡_, sym, ap, _∙_, refl}
 use mathlib.Core.Bool.{Bool, true, false, _||_}
 use mathlib.Core.List.{List, [], _∷_}
 use native.Mathlib.Omega.{arith}
-use lib.ListN.{length, getD}
-use lib.Dec.{ltb}
+use lib.ListN.{getD}
 use borrow.Author.Tests.{lt-ltb, le-ltb}
 use Rattle.pack.specs.Syntax.{Condition, Rule, Node, Theory}
 use Rattle.pack.specs.State.{State, meaning}
 use Rattle.pack.specs.Condition.{holds}
-use Rattle.pack.specs.Reading.{Reading, Reader, done}
-use Rattle.pack.specs.Number.{numberAt, counted}
-use Rattle.pack.specs.Grammar.{Dimensions, conditionAt, rulesAt, ruleAt}
+use Rattle.pack.specs.Reading.{Reader, done}
+use Rattle.pack.specs.Grammar.{Dimensions, conditionAt, rulesAt}
 use Rattle.pack.specs.Contracts.Answer.{dims}
 use Rattle.pack.specs.Contracts.Contents.{Gives}
-use Rattle.pack.specs.Contracts.Judge.{Small, Over, Readable, Judged, Tells, Ends}
+use Rattle.pack.specs.Contracts.Judge.{Over, Readable, Judged, Tells}
 use Rattle.pack.specs.Contracts.Table.{stateOf}
 use Rattle.pack.specs.declared.table.Table.{Table}
-use Rattle.pack.specs.Laws.Judged.{RuleParts, rule-parts, counted-starts}
 use Rattle.transition.specs.Happening.{nothing, actionOf, Plays}
 use Rattle.planner.specs.declared.limits.Context.{Context}
 use Rattle.planner.specs.Inner.Explain.{Stage}
 use Rattle.planner.specs.Inner.Bound.{exceeds}
 use Rattle.planner.proofs.Explanations.{stage-state}
-use Rattle.planner.proofs.Pruning.{unequal, Run, Rest, Told, run-item, run-here}
-
--- rules, over small dimensions
-abbrev Tiny : Type 0
-Tiny = (d : Dimensions) × Small d
-
-abbrev pub aboveRun : ℕ → Run Rule Tiny
-aboveRun base = record { part = λ k. ruleAt (k .0); limit = 9; tells = λ k. exceeds base }
+use Rattle.planner.proofs.Pruning.{unequal}
 
 -- by one rule more
 module _ (base : ℕ) where
@@ -47,32 +37,6 @@ module _ (base : ℕ) where
     pub above-not : x .utility ≤ base → exceeds base (x ∷ rest) ≡ exceeds base rest
     unfolding exceeds
     above-not l = ap (λ (b : Bool). b || exceeds base rest) (le-ltb base (x .utility) l)
-
-module _ {s : List ℕ} {from : ℕ} where
-  module _ (x : Readable rulesAt s from) where
-    pub rules-inside : from < length s
-    unfolding rulesAt
-    rules-inside = counted-starts 9 (ruleAt (x .over)) s from (x .value) (x .end) (omega arith) (x .reads) (getD s from 0) refl .1
-
-    -- the condition of the next rule
-    pub rules-next : (base : ℕ) {n left : ℕ} → Rest (aboveRun base) s from n left → 0 < left → Readable conditionAt s n
-    unfolding rulesAt
-    rules-next base {n} i h =
-        let whole : Gives (counted 0 9 (ruleAt (x .over))) s from (x .value) = record { end = x .end; reads = x .reads } in
-        let v = run-item (aboveRun base) s from i h (x .over, x .small) (x .value) whole in
-        let g = run-here (aboveRun base) s from i h (x .over, x .small) (x .value) whole in
-        let q = rule-parts (x .over) s n v (g .end) (g .reads) in
-        record { over = x .over; small = x .small; value = v .condition; end = q .middle; reads = q .condition }
-
-  pub above-told : (base : ℕ) {b : Bool} → Told (aboveRun base) s from b → Tells rulesAt (exceeds base) s from b
-  unfolding rulesAt
-  above-told base w d small rules n e = w (d, small) rules (record { end = n; reads = e })
-
--- a rule's number is read behind its condition
-pub above-number : {s : List ℕ} {n m : ℕ} {r : Reading ℕ} → Ends conditionAt s n m → numberAt s m ≡ r → (d : Dimensions) → Small d → (v : Rule) (g : Gives (ruleAt d) s n v) → r ≡ done (v .utility) (g .end)
-above-number {s} {n} after e d small v g =
-    let q = rule-parts d s n v (g .end) (g .reads) in
-    sym e ∙ ap (numberAt s) (after d small (v .condition) (q .middle) (q .condition)) ∙ q .number
 
 pub judged-readable : {A : Type 0} {part : Dimensions → Reader A} {s : List ℕ} {at : ℕ} {t : Table} {work : List ℕ} {root : ℕ} → Judged part s at t work root → Readable part s at
 judged-readable j = record { over = j .dimensions; small = j .over .small; value = j .value; end = j .end; reads = j .reads }

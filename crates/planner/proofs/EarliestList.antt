@@ -49,7 +49,7 @@ pub best-same : {M : List ℕ → Type 0} {Good : List ℕ → ℕ → Type 0} {
 best-same {M} {Good} {n} {n′} {was} {now} {at} {slot} {work} {work′} {r} e b = subst (λ (n : ℕ). Best M Good n was now at slot work work′ r) e b
 
 -- that there is none is a fact
-pub fact-of-none : (th : Theory) (K e base : ℕ) (s : State) {left who : ℕ} → ((list : List ℕ) (v : ℕ) → length list ≡ left → ¬ Ends th K e base s list v) → Fact th K 3 (record { who = who; nesting = e; number = left; base = base }) s
+pub fact-of-none : (th : Theory) (K e base : ℕ) (s : ℕ → State) {left who : ℕ} → ((list : List ℕ) (v : ℕ) → length list ≡ left → ¬ Ends th K e base (s 0) list v) → Fact th K 3 (record { who = who; nesting = e; number = left; base = base }) s
 fact-of-none th K e base s f = record { no = λ z. absurd (omega (arith, z)); yes = λ z. absurd (omega (arith, z)); none = λ z. f; unexplained = λ z. absurd (omega (arith, z)); explained = λ z. absurd (omega (arith, z)) }
 
 -- a slot lies no further than one of a number at least as great, and a number no further than its slot

@@ -82,12 +82,12 @@ module _ {th : Theory} {T : List Node} {pack places : List ℕ} {h : Context} {c
     }
 
     -- the memory is empty then
-    module _ {then : List ℕ} (cl : Cleared mid then (h .memory) 2482) (long : length then ≡ length mid) where
+    module _ {then : List ℕ} (cl : Cleared mid then (h .memory) 4404) (long : length then ≡ length mid) where
       pub judge-ready : Stage th T pack places h then (slotTable h then 0) (0 + h .stride)
       judge-ready = subst (λ (n : ℕ). Stage th T pack places h then (slots.counted h 0 n) (0 + h .stride)) (sym (cl .low 0 (omega (arith, judge-first, x .laid .some)) ∙ y .count)) (stage-same judge-stage (λ q l. cl .low q (omega (arith, l, judge-first))) long)
 
       pub judge-memory : Memory th K h (0 + h .stride) then
-      judge-memory = memory-clear h (x .laid) (omega (arith, judge-first)) (emptied h cl)
+      judge-memory = memory-clear h (x .laid) (emptied h cl)
 
       pub judge-high : Above mid then workRoom
       judge-high q l = cl .high q (omega (arith, l, x .laid .room))
@@ -135,11 +135,11 @@ module _ {pack places : List ℕ} (chart : List ℕ) (c a K e : ℕ) (work : Lis
         nodes-read (x .accepted) (x .found) (first .read) (ap (λ (l : List (List Node)). getD (map length l) 0 0) (sym (first .same)) ∙ ap (λ (l : List ℕ). getD l 0 0) (x .long) ∙ g)
 
     abbrev pub context : Context
-    context = laidOut p (record { 0 = K }) (1 + K * e)
+    context = laidOut p (record { 0 = K }) (1 + (1 + K) * e)
 
     -- the numbers are those of something there
-    ranges : (c < p .characters) × (a < p .actions) × (0 < K) × (K ≤ 6) × (e ≤ 3)
-    ranges =
+    pub judge-ranges : (c < p .characters) × (a < p .actions) × (0 < K) × (K ≤ 6) × (e ≤ 3)
+    judge-ranges =
         let (who, rest) = and-true (ltb c (p .characters)) (ltb a (p .actions) && (foresightLimit K && nestingLimit e)) (sym here ∙ accepted-now .2 .0 .in-range) in
         let (what, limits) = and-true (ltb a (p .actions)) (foresightLimit K && nestingLimit e) rest in
         let (foresight, nesting) = and-true (foresightLimit K) (nestingLimit e) limits in
@@ -147,17 +147,17 @@ module _ {pack places : List ℕ} (chart : List ℕ) (c a K e : ℕ) (work : Lis
         (ltb-true c (p .characters) who, ltb-true a (p .actions) what, leb-true 1 K low, leb-true K 6 high, leb-true e 3 nesting)
 
     -- what the context is made of
-    pub judge-sizes : (p .fluents ≤ 24) × (p .characters ≤ 6) × (1 + K * e ≤ 27)
+    pub judge-sizes : (p .fluents ≤ 24) × (p .characters ≤ 6) × (1 + (1 + K) * e ≤ 30)
     judge-sizes =
         let x = accepted-now .2 .0 in
         let small = small-pack pack (x .thePack) (x .accepted) in
-        let (who, what, low, high, nested) = ranges in
-        (got .few, omega (arith, small .characters, x .found .characters), omega (arith, mul-le-mul-left K nested, mul-le-mul-right 3 high))
+        let (who, what, low, high, nested) = judge-ranges in
+        (got .few, omega (arith, small .characters, x .found .characters), omega (arith, mul-le-mul-left (1 + K) nested, mul-le-mul-right 3 high))
 
     ready : Judging theory (first .table) pack places context chart n c a K e work
     ready =
         let x = accepted-now .2 .0 in
-        let (who, what, low, high, nested) = ranges in
+        let (who, what, low, high, nested) = judge-ranges in
         record {
           theorized = record { small = small-pack pack (x .thePack) (x .accepted); found = x .found .theory; short = short-pack pack (x .thePack) (x .accepted); marked = marked };
           read = read;
@@ -166,8 +166,8 @@ module _ {pack places : List ℕ} (chart : List ℕ) (c a K e : ℕ) (work : Lis
           who = who;
           what = what;
           foreseen = (low, high);
-          laid = laid-fits p (record { 0 = K }) (1 + K * e) (omega (arith, who)) judge-sizes;
-          slots = laid-free p (record { 0 = K }) (1 + K * e);
+          laid = laid-fits p (record { 0 = K }) (1 + (1 + K) * e) (omega (arith, who)) judge-sizes;
+          slots = laid-free p (record { 0 = K }) (1 + (1 + K) * e);
           room = leb-true workRoom (length work) (x .enough-there);
         }
 

@@ -10,7 +10,7 @@ use lib.ListN.{length, getD}
 use lib.Dec.{ltb}
 use borrow.Author.Count.{below-more}
 use Rattle.pack.specs.Syntax.{Node, Theory, Rule}
-use Rattle.pack.specs.State.{State, belief, meaning, target}
+use Rattle.pack.specs.State.{State, belief, meaning, target, Closed}
 use Rattle.pack.specs.Reading.{Reader, done, refused, pick, mapped, runs}
 use Rattle.pack.specs.Number.{item, between, risingAt}
 use Rattle.pack.specs.Contracts.Answer.{dims}
@@ -38,11 +38,11 @@ use Rattle.transition.specs.Laws.ChangedRows.{tabled-same, small, row-inside, b
 use Rattle.planner.specs.declared.limits.Context.{Context}
 use Rattle.planner.specs.declared.entry.Key.{Key}
 use Rattle.planner.specs.Ending.{Leads, Explained, utilityTo}
-use Rattle.planner.specs.Inner.Lists.{counted, slotTable, Other, AboveBy, AboveBySome, Agreed}
+use Rattle.planner.specs.Inner.Lists.{counted, slotTable, Other, AboveBy, AboveBySome, ExplainedBy, Agreed}
 use Rattle.planner.specs.Inner.Lists as inner
-use Rattle.planner.specs.Inner.Memory.{takenAt, stepsAt, keptTable, HasId, StepFact, StepEntry, Memory, Fact, Place, Before, InSlot, Interning, StepRead, Noted, Slot, Again, LeftNoted}
+use Rattle.planner.specs.Inner.Memory.{takenAt, stepsAt, keptTable, HasId, StepFact, StepEntry, Memory, Fact, Place, Before, InSlot, Only, Interning, StepRead, Noted, Slot, Again, LeftNoted}
 use Rattle.planner.specs.Inner.Explain.{Stage, Free, Told, Advanced}
-use Rattle.planner.proofs.TrueMemory.{fact-same, first-same, before-now, named-state, memory-quiet, memory-fewer}
+use Rattle.planner.proofs.TrueMemory.{fact-same, rows-mean, before-now, named-state, memory-quiet, memory-fewer, nameless, nameless-only, memory-nameless}
 
 -- Told: passed on
 pub told-none : {M : List ℕ → Type 0} {slot : ℕ} (was : List ℕ) {P : Type 0} → M was → (P → ⊥) → Told M slot was was false P
@@ -115,6 +115,30 @@ module _ {th : Theory} {T : List Node} {pack places : List ℕ} {h : Context} {w
       f d (x .tabled .over) (getD (th .utilities) (c + 1) []) (g .end) (ap (λ (k : ℕ). rulesAt d pack (getD places k 0)) (sym place) ∙ g .reads)
       ∙ ap (λ (U : List Node). condition.utility (meaning C U root) (getD (th .utilities) (c + 1) [])) (x .tabled .same) ∙ ap (λ (k : ℕ). condition.utility (meaning C T root) (getD (th .utilities) k [])) next
 
+  -- a table that is closed, in the first free slot
+  pub stage-next : {now : List ℕ} → Free h slot 1 → length now ≡ length was → getD now slot 0 ≤ 32 → 0 < getD now slot 0 → Closed (h .characters) (tableOf (slotTable h now slot) now)
+      → Stage th (tableOf (slotTable h now slot) now) pack places h now (slotTable h now slot) (slot + h .stride)
+  stage-next {now} f long few some closed =
+      let most : getD now slot 0 * (h .fluents + h .characters) ≤ 32 * (h .fluents + h .characters) = mul-le-mul-right (h .fluents + h .characters) few in
+      let size : 1 + getD now slot 0 * (h .fluents + h .characters) ≤ h .stride = omega (arith, most, x .laid .wide) in
+      record {
+        theorized = x .theorized;
+        tabled = record {
+          over = record { small = x .tabled .over .small; characters = x .tabled .over .characters ∙ sym (x .same-characters); fluents = x .tabled .over .fluents ∙ sym (x .same-fluents) };
+          fits = record { wide = refl; inside = omega (arith, size, f, long, x .room, x .laid .room); closed = closed };
+          same = refl;
+          few = few;
+          some = some;
+        };
+        same-fluents = refl;
+        same-characters = refl;
+        behind = omega (arith, size);
+        room = omega (arith, long, x .room);
+        laid = x .laid;
+        slotted = record { number = x .slotted .number + 1; rows = omega (arith, x .free); counted = let z : h .stride * (x .slotted .number + 1) ≡ slot = omega (arith, x .free) in ap (λ (q : ℕ). getD now q 0) z; before = omega (arith, x .free) };
+        free = omega (arith, x .free);
+      }
+
   -- a step into the first free slot
   module _ (root : ℕ) {now : List ℕ} {K a r : ℕ} (y : Advanced th K h (meaning C T root) a t was now slot r) (f : Free h slot 1) (long : length now ≡ length was) where
     module _ (e : r ≡ 0) where
@@ -139,31 +163,8 @@ module _ {th : Theory} {T : List Node} {pack places : List ℕ} {h : Context} {w
       pub next-plays : Plays th (meaning C T root) a (meaning (h .characters) nextTable 0)
       next-plays = subst (Plays th (meaning C T root) a) (sym next-state) (y .plays e .1)
 
-      rows-small : 1 + getD now slot 0 * (h .fluents + h .characters) ≤ h .stride
-      rows-small = let most : getD now slot 0 * (h .fluents + h .characters) ≤ 32 * (h .fluents + h .characters) = mul-le-mul-right (h .fluents + h .characters) (left .few) in omega (arith, most, x .laid .wide)
-
       pub next-stage : Stage th nextTable pack places h now (slotTable h now slot) (slot + h .stride)
-      next-stage = record {
-        theorized = x .theorized;
-        tabled = record {
-          over = record { small = x .tabled .over .small; characters = x .tabled .over .characters ∙ sym (x .same-characters); fluents = x .tabled .over .fluents ∙ sym (x .same-fluents) };
-          fits = record {
-            wide = refl;
-            inside = omega (arith, rows-small, f, long, x .room, x .laid .room);
-            closed = subst (λ (c : ℕ). Rattle.pack.specs.State.Closed c nextTable) (sym (x .same-characters)) (starts .0 .ordered .closed);
-          };
-          same = refl;
-          few = left .few;
-          some = omega (arith, some nextTable (starts .0 .ordered .whole), rows-length now (h .fluents + h .characters) (h .fluents) (h .characters) (slot + 1) (getD now slot 0));
-        };
-        same-fluents = refl;
-        same-characters = refl;
-        behind = omega (arith, rows-small);
-        room = omega (arith, long, x .room);
-        laid = x .laid;
-        slotted = record { number = x .slotted .number + 1; rows = omega (arith, x .free); counted = let z : h .stride * (x .slotted .number + 1) ≡ slot = omega (arith, x .free) in ap (λ (q : ℕ). getD now q 0) z; before = omega (arith, x .free) };
-        free = omega (arith, x .free);
-      }
+      next-stage = stage-next f long (left .few) (omega (arith, some nextTable (starts .0 .ordered .whole), rows-length now (h .fluents + h .characters) (h .fluents) (h .characters) (slot + 1) (getD now slot 0))) (next-written .ordered .closed)
 
 -- a step, known or made
 module _ {th : Theory} {T : List Node} {pack places : List ℕ} {h : Context} {was : List ℕ} {t : Table} {slot : ℕ} (x : Stage th T pack places h was t slot) (f : Free h slot 1) (root : ℕ) where
@@ -211,12 +212,12 @@ module _ {th : Theory} {T : List Node} {pack places : List ℕ} {h : Context} {w
     }
 
   -- it is made
-  module _ {K : ℕ} {mid left : List ℕ} {id a r : ℕ} (n : Interning h t was mid id) (y : PlayedIn th (meaning (t .characters) T root) a t mid left slot r) (m : Memory th K h slot was) (long : length left ≡ length was) where
+  module _ {K : ℕ} {mid left : List ℕ} {a r : ℕ} (o : Only h was mid) (before : Memory th K h slot mid) (y : PlayedIn th (meaning (t .characters) T root) a t mid left slot r) (long : length left ≡ length was) where
     left-low : Below was left slot
-    left-low q l = y .only .low q l ∙ n .only .low q (omega (arith, l, bound))
+    left-low q l = y .only .low q l ∙ o .low q (omega (arith, l, bound))
 
     left-high : Above was left workRoom
-    left-high q l = y .only .high q (omega (arith, l)) ∙ n .only .high q l
+    left-high q l = y .only .high q (omega (arith, l)) ∙ o .high q l
 
     left-in : InSlot h left t slot
     left-in = record { number = x .slotted .number; rows = x .slotted .rows; counted = left-low (h .stride * x .slotted .number) (omega (arith, x .free)) ∙ x .slotted .counted; before = x .slotted .before }
@@ -227,21 +228,26 @@ module _ {th : Theory} {T : List Node} {pack places : List ℕ} {h : Context} {w
 
     left-memory : Memory th K h slot left
     left-memory =
-        let before = n .told th K slot (omega (arith, bound)) (x .slotted) m .0 in
         let taken = left-mid (takenAt h) (omega arith) (omega (arith, x .laid .room)) in
-        memory-quiet h (record { taken = omega (arith, taken); within = λ l. omega (arith, ap (λ (k : ℕ). h .block * k) taken, l); tables = λ q l g. left-mid q (omega (arith, l)) (omega (arith, g, before .within)) }) (x .laid) (omega (arith, bound)) (y .only .low) (λ q l g. left-mid q l (omega (arith, g, x .laid .room))) (λ q l g. left-mid q (omega (arith, l)) (omega (arith, g, x .laid .room))) before
+        memory-quiet h (record { taken = omega (arith, taken); within = λ l. omega (arith, ap (λ (k : ℕ). h .block * k) taken, l); tables = λ q l g. left-mid q (omega (arith, l)) (omega (arith, g, before .within)) }) (y .only .low) (λ q l g. left-mid q l (omega (arith, g, x .laid .room))) (λ q l g. left-mid q (omega (arith, l)) (omega (arith, g, x .laid .room))) before
 
-    -- what it leaves is noted
+    -- what it leaves stays where only the memory changes
+    left-stays : {now : List ℕ} → Only h left now → r ≡ 0 → (s : State) × Plays th (meaning (t .characters) T root) a s × Left s t now slot
+    left-stays {now} only e =
+        let (s, plays, l) = y .plays e in
+        let most : getD left slot 0 * t .width ≤ 32 * t .width = mul-le-mul-right (t .width) (l .few) in
+        let count : getD now slot 0 ≡ getD left slot 0 = only .low slot (omega (arith, f)) in
+        let same : rowsBy now (t .width) (t .fluents) (t .characters) ≡ rowsBy left (t .width) (t .fluents) (t .characters) = ap (λ (k : ℕ). rowsAt now (t .width) (t .fluents) (t .characters) (slot + 1) k) count ∙ rows-same left now (t .width) (t .fluents) (t .characters) (slot + 1) (slot + 1) (getD left slot 0) (omega (arith, x .tabled .fits .wide)) (λ q g. only .low (slot + 1 + q) (omega (arith, g, most, f, x .laid .wide, x .same-fluents, x .same-characters, x .tabled .fits .wide))) in
+        (s, plays, record { few = omega (arith, count, l .few); starts = subst (Starts (t .characters) s) (sym same) (l .starts) })
+
+    -- it is noted
     pub step-left : {now : List ℕ} → r ≡ 0 → LeftNoted h t root a slot left now → Advanced th K h (meaning (t .characters) T root) a t was now slot r
     step-left {now} e z =
         let (s, plays, l) = y .plays e in
         let starts : Starts (h .characters) s (tableOf (slotTable h left slot) left) = subst (λ (c : ℕ). Starts c s (tableOf (slotTable h left slot) left)) (sym (x .same-characters)) (subst (Starts (t .characters) s) (sym (same-rows left)) (l .starts)) in
-        let most : getD left slot 0 * t .width ≤ 32 * t .width = mul-le-mul-right (t .width) (l .few) in
-        let count : getD now slot 0 ≡ getD left slot 0 = z .only .low slot (omega (arith, f)) in
-        let same : rowsBy now (t .width) (t .fluents) (t .characters) ≡ rowsBy left (t .width) (t .fluents) (t .characters) = ap (λ (k : ℕ). rowsAt now (t .width) (t .fluents) (t .characters) (slot + 1) k) count ∙ rows-same left now (t .width) (t .fluents) (t .characters) (slot + 1) (slot + 1) (getD left slot 0) (omega (arith, x .tabled .fits .wide)) (λ q g. z .only .low (slot + 1 + q) (omega (arith, g, most, f, x .laid .wide, x .same-fluents, x .same-characters, x .tabled .fits .wide))) in
         let memory = z .memory th K left-in left-memory (s, subst (λ (u : State). Plays th u a s) (sym (row-state left left-low)) plays, starts) in
         record {
-          plays = λ _. (s, plays, record { few = omega (arith, count, l .few); starts = subst (Starts (t .characters) s) (sym same) (l .starts) });
+          plays = left-stays (z .only);
           none = λ n. absurd (n e);
           low = λ q l. z .only .low q (omega (arith, l, bound)) ∙ left-low q l;
           high = λ q l. z .only .high q l ∙ left-high q l;
@@ -263,6 +269,20 @@ module _ {th : Theory} {T : List Node} {pack places : List ℕ} {h : Context} {w
       });
       further = λ g. absurd (e g);
     }
+
+    -- it is not noted
+    pub step-plain : (s : Slot h left slot) → Advanced th K h (meaning (t .characters) T root) a t was (nameless h s) slot r
+    step-plain s =
+        let only = nameless-only h s in
+        let memory = memory-nameless h s left-memory in
+        record {
+          plays = left-stays only;
+          none = λ g s plays. plays-refuses plays (y .refuses g);
+          low = λ q l. only .low q (omega (arith, l, bound)) ∙ left-low q l;
+          high = λ q l. only .high q l ∙ left-high q l;
+          memory = memory-fewer h (omega arith) memory;
+          further = λ _. memory;
+        }
 
 -- What is explained, and what lists reach, by what is found out of their parts
 module _ (th : Theory) (K e c base : ℕ) where
@@ -303,24 +323,35 @@ module _ (th : Theory) (K e c base : ℕ) where
   pub by-to : (n x : ℕ) (s t : State) → Plays th s x t → AboveBy th K e c base n x s → Reach n t
   by-to n x s t plays (u, q, agreed, r) = subst (Reach n) (plays-one q plays) r
 
--- the explanation itself
-module _ (th : Theory) (K e c a : ℕ) (s t : State) (base : ℕ) (b : base ≡ utilityTo th c (belief s c)) (plays : Plays th (belief s c) a t) (k : ℕ) (same : suc k ≡ K) where
-  pub explained-from : inner.Above th K e c base (suc k) t → Explained th K (suc e) c a s
-  unfolding Explained
-  explained-from (rest, l, (s′, leads, above)) = (rest, t, s′, omega arith, plays, leads, omega arith)
+-- the explanation by a belief
+module _ (th : Theory) (K e c a : ℕ) (b t : State) (base : ℕ) (q : base ≡ utilityTo th c b) (plays : Plays th b a t) (k : ℕ) (same : suc k ≡ K) where
+  pub explained-from : inner.Above th K e c base (suc k) t → ExplainedBy th K (suc e) c a b
+  unfolding ExplainedBy
+  explained-from z = (t, plays, subst (λ (v : ℕ). inner.Above th K e c v K t) q (subst (λ (n : ℕ). inner.Above th K e c base n t) same z))
 
-  pub explained-to : Explained th K (suc e) c a s → inner.Above th K e c base (suc k) t
-  unfolding Explained
-  explained-to (rest, u, s′, l, q, leads, above) = (rest, omega arith, (s′, subst (λ (u : State). Leads th (Other c) (Explained th K e) u rest s′) (plays-one q plays) leads, omega arith))
+  pub explained-to : ExplainedBy th K (suc e) c a b → inner.Above th K e c base (suc k) t
+  unfolding ExplainedBy
+  explained-to (u, p, z) = subst (λ (n : ℕ). inner.Above th K e c base n t) (sym same) (subst (λ (v : ℕ). inner.Above th K e c v K t) (sym q) (subst (inner.Above th K e c (utilityTo th c b) K) (plays-one p plays) z))
+
+pub explained-plays : (th : Theory) (K e c a : ℕ) (b : State) → ((t : State) → Plays th b a t → ⊥) → ExplainedBy th K e c a b → ⊥
+unfolding ExplainedBy
+explained-plays th K zero c a b f x = x
+explained-plays th K (suc e) c a b f (t, plays, z) = f t plays
 
 pub explained-zero : (th : Theory) (K c a : ℕ) (s : State) → Explained th K 0 c a s → ⊥
 unfolding Explained
 explained-zero th K c a s x = x
 
-pub explained-plays : (th : Theory) (K e c a : ℕ) (s : State) → ((t : State) → Plays th (belief s c) a t → ⊥) → Explained th K e c a s → ⊥
-unfolding Explained
-explained-plays th K zero c a s f x = x
-explained-plays th K (suc e) c a s f (rest, t, s′, l, plays, leads, b) = f t plays
+-- Explained is a matter of the belief alone
+pub by-belief : (th : Theory) (K e c a : ℕ) (s : State) → Explained th K e c a s → ExplainedBy th K e c a (belief s c)
+unfolding Explained ExplainedBy
+by-belief th K zero c a s x = x
+by-belief th K (suc e) c a s (rest, t, s′, l, plays, leads, above) = (t, plays, (rest, l, (s′, leads, above)))
+
+pub of-belief : (th : Theory) (K e c a : ℕ) (s : State) → ExplainedBy th K e c a (belief s c) → Explained th K e c a s
+unfolding Explained ExplainedBy
+of-belief th K zero c a s x = x
+of-belief th K (suc e) c a s (t, plays, (rest, l, (s′, leads, above))) = (rest, t, s′, l, plays, leads, above)
 
 -- consenters one after the other
 module _ (th : Theory) (K e who x : ℕ) (s : State) where
@@ -381,6 +412,24 @@ free-next h n left more f = omega (arith, f)
 pub one-less : (k e : ℕ) → 0 < e → k * e ≡ k * (e - 1) + k
 one-less k e l = let s : e ≡ suc (e - 1) = omega arith in ap (λ (e : ℕ). k * e) s ∙ mul-suc k (e - 1)
 
+-- slots for a state and its explanation: for the state, the belief and a step; from the belief on; up to the belief's; for
+-- a step, and for what follows it
+pub free-two : (h : Context) (slot : ℕ) {k e : ℕ} → 0 < k → 0 < e → Free h slot (1 + (1 + k) * e) → Free h slot 2
+free-two h slot {k} {e} some l f = free-fewer h slot (1 + (1 + k) * e) 2 (omega (arith, one-less (1 + k) e l, some)) f
+
+pub free-held : (h : Context) (slot : ℕ) {at : ℕ} (n : ℕ) → at ≤ slot + h .stride → Free h slot (1 + n) → Free h at n
+free-held h slot n l f = omega (arith, l, f)
+
+module _ (h : Context) (slot : ℕ) {k e : ℕ} (some : 0 < k) (l : 0 < e) (f : Free h slot ((1 + k) * e)) where
+  pub held-step : Free h (slot + h .stride) 1
+  held-step = omega (arith, free-fewer h slot ((1 + k) * e) 2 (omega (arith, one-less (1 + k) e l, some)) f)
+
+  pub within : slot + h .stride ≤ h .memory
+  within = omega (arith, held-step)
+
+  pub held-rest : Free h (slot + h .stride) (1 + (k - 1) + (1 + k) * (e - 1))
+  held-rest = omega (arith, free-fewer h slot ((1 + k) * e) (2 + (k - 1) + (1 + k) * (e - 1)) (omega (arith, one-less (1 + k) e l, some)) f)
+
 -- the row that a character believes in, and the consenters of an action
 module _ {th : Theory} {T : List Node} {pack places : List ℕ} {h : Context} {was : List ℕ} {t : Table} {slot : ℕ} (x : Stage th T pack places h was t slot) where
   pub stage-row : (root c : ℕ) → root < t .nodes → c < t .characters → (t .rows + root * t .width + t .fluents + c < slot) × (slot ≤ h .memory → slot < length was)
@@ -440,28 +489,28 @@ stage-extent {h = h} {work = work} slot x = let most : getD work slot 0 * (h .fl
 
 -- what is known of a state, by its table
 module _ {th : Theory} {T : List Node} {pack places : List ℕ} {h : Context} {work : List ℕ} {t : Table} {slot : ℕ} (x : Stage th T pack places h work t slot) where
-  here : stateOf t work 0 ≡ meaning (t .characters) T 0
-  here = first-same (t .characters) (x .tabled .same)
+  here : stateOf t work ≡ meaning (t .characters) T
+  here = rows-mean (t .characters) (x .tabled .same)
 
-  pub known : {K m : ℕ} {k k′ : Key} → k ≡ k′ → Fact th K m k (stateOf t work 0) → Fact th K m k′ (meaning (t .characters) T 0)
+  pub known : {K m : ℕ} {k k′ : Key} → k ≡ k′ → Fact th K m k (stateOf t work) → Fact th K m k′ (meaning (t .characters) T)
   known {K} e f = fact-same th K refl e here f
 
-  pub note : {K m : ℕ} {k k′ : Key} → k ≡ k′ → Fact th K m k′ (meaning (t .characters) T 0) → Fact th K m k (stateOf t work 0)
+  pub note : {K m : ℕ} {k k′ : Key} → k ≡ k′ → Fact th K m k′ (meaning (t .characters) T) → Fact th K m k (stateOf t work)
   note {K} e f = fact-same th K refl (sym e) (sym here) f
 
 -- a verdict, by the mark 3 above that of an answer
-pub verdict : (th : Theory) (K : ℕ) (k : Key) (s : State) {m : ℕ} {r : Bool} → (r ≡ true → Explained th K (k .nesting) (k .who) (k .number) s) → (r ≡ false → Explained th K (k .nesting) (k .who) (k .number) s → ⊥) → (m ≡ 1 → r ≡ false) × (m ≡ 2 → r ≡ true) × (0 < m) × (m < 3) → Fact th K (m + 3) k s
+pub verdict : (th : Theory) (K : ℕ) (k : Key) (s : ℕ → State) {m : ℕ} {r : Bool} → (r ≡ true → ExplainedBy th K (k .nesting) (k .who) (k .number) (s (k .base))) → (r ≡ false → ExplainedBy th K (k .nesting) (k .who) (k .number) (s (k .base)) → ⊥) → (m ≡ 1 → r ≡ false) × (m ≡ 2 → r ≡ true) × (0 < m) × (m < 3) → Fact th K (m + 3) k s
 verdict th K k s sound complete (f, g, pos, few) = record { no = λ z. absurd (omega (arith, z)); yes = λ z. absurd (omega (arith, z)); none = λ z. absurd (omega (arith, z, pos)); unexplained = λ z. complete (f (omega (arith, z))); explained = λ z. sound (g (omega (arith, z))) }
 
 -- a state that is not above itself, by what follows it
-module _ (th : Theory) (K e c base left : ℕ) (s : State) (some : 0 < left) (here : base < utilityTo th c s → ⊥) {M : List ℕ → Type 0} {slot : ℕ} {was now : List ℕ} {r : Bool} (told : Told M slot was now r (AboveBySome th K e c base (suc (left - 1)) s)) where
+module _ (th : Theory) (K e c base left : ℕ) (s : ℕ → State) (some : 0 < left) (here : base < utilityTo th c (s 0) → ⊥) {M : List ℕ → Type 0} {slot : ℕ} {was now : List ℕ} {r : Bool} (told : Told M slot was now r (AboveBySome th K e c base (suc (left - 1)) (s 0))) where
   up : suc (suc (left - 1)) ≡ suc left
   up = omega arith
 
-  pub extended : Told M slot was now r (inner.Above th K e c base (suc left) s)
+  pub extended : Told M slot was now r (inner.Above th K e c base (suc left) (s 0))
   extended = record {
-    sound = λ z. let (x, by) = told .sound z in subst (λ (n : ℕ). inner.Above th K e c base n s) up (reach-by th K e c base (suc (left - 1)) x s by);
-    complete = λ z g. reach-not th K e c base (suc (left - 1)) s here (λ x l by. told .complete z (x, by)) (subst (λ (n : ℕ). inner.Above th K e c base n s) (sym up) g);
+    sound = λ z. let (x, by) = told .sound z in subst (λ (n : ℕ). inner.Above th K e c base n (s 0)) up (reach-by th K e c base (suc (left - 1)) x (s 0) by);
+    complete = λ z g. reach-not th K e c base (suc (left - 1)) (s 0) here (λ x l by. told .complete z (x, by)) (subst (λ (n : ℕ). inner.Above th K e c base n (s 0)) (sym up) g);
     low = told .low;
     high = told .high;
     memory = told .memory;

@@ -1,8 +1,10 @@
 -- The modules of `proofs/` that belong to no one function.
 pub mod TrueMemory
+pub mod LastNoted
 pub mod Explanations
 pub mod Pruning
 pub mod Reckoning
+pub mod Beliefs
 pub mod Bounds
 pub mod Slots
 pub mod ExplainedCall

@@ -2,39 +2,40 @@
 use Prim.Native.Nat.{ℕ, zero, suc, _+_, _*_, _-_, _<_, _≤_}
 use mathlib.Core.Path.{_≡_, refl, sym, ap, _∙_, subst}
 use mathlib.Core.Bool.{Bool, true, false, _&&_, _||_}
+use mathlib.Core.Logic.{by-cases}
 use mathlib.Core.List.{List, [], _∷_}
-use native.Mathlib.Decide.{decLt}
+use native.Mathlib.Decide.{ℕ-discrete, decLt}
 use native.Mathlib.Omega.{arith}
-use lib.ListN.{length, getD}
-use lib.Dec.{ltb, leb}
+use lib.ListN.{length, getD, set, replicate}
+use lib.Seq.{getD-set-same, getD-set-other, ext-getD}
+use lib.Dec.{ltb}
 use borrow.Author.Count.{below-more}
-use borrow.Author.Tests.{lt-ltb, le-ltb, le-leb, lt-leb}
-use Rattle.pack.specs.Syntax.{Effect, Trigger, Test, Condition, Rule, Node, Theory}
+use borrow.Author.Tests.{lt-ltb, le-ltb}
+use Rattle.pack.specs.Syntax.{Effect, Test, Condition, Rule, Node, Theory}
 use Rattle.pack.specs.State.{State, meaning}
-use Rattle.pack.specs.Reading.{Reading, done, Reader, pick}
+use Rattle.pack.specs.Reading.{Reading, done, Reader, pick, many}
 use Rattle.pack.specs.Number.{counted, numberAt}
 use Rattle.pack.specs.Grammar.{Dimensions, dimensions, testAt, conditionAt, rulesAt, ruleAt, effectAt, effectsAt}
-use Rattle.pack.specs.Condition.{compares, holds, utility}
+use Rattle.pack.specs.Condition.{holds, utility, write}
 use Rattle.pack.specs.Contracts.Contents.{Gives}
+use Rattle.pack.specs.Contracts.Copy.{Copyable, Copied}
 use Rattle.pack.specs.Contracts.Judge.{alternativeAt, Small, Over, Readable, Judged, Tells, Ends}
-use Rattle.pack.specs.Contracts.Effects.{asks, someOf, leftOf}
-use Rattle.pack.specs.Contracts.Table.{stateOf, rowAt, cells}
-use Rattle.pack.specs.declared.effects.Wanted.the-variants.{Sets}
+use Rattle.pack.specs.Contracts.Table.{stateOf, rowAt, cells, TableFits}
+use Rattle.pack.specs.Contracts.Write.{Writable, EffectsWritten}
 use Rattle.pack.specs.declared.table.Table.{Table}
-use Rattle.pack.specs.Laws.Judged.{Left, Next, left-start, left-one, left-next, left-last, left-none, counted-starts, RuleParts, rule-parts}
-use Rattle.pack.specs.Laws.OneByte.{test-bytes}
-use Rattle.pack.specs.Laws.Rows.{upto-length, rows-at, value-at, cell-in}
+use Rattle.pack.specs.Laws.Judged.{Left, Next, left-start, left-one, left-next, left-last, left-none, counted-starts, rule-parts}
+use Rattle.pack.specs.Laws.OneByte.{test-bytes, effect-bytes}
+use Rattle.pack.specs.Laws.Rows.{rows-at, cells-at, cell-in}
+use Rattle.pack.specs.Laws.WrittenValues.{cells-length, Owed, Due, owed-one, owed-none}
 use Rattle.chart.specs.Call.{workRoom}
-use Rattle.transition.specs.Happening.{nothing, actionOf, Plays}
+use Rattle.transition.specs.Happening.{change, act, nothing, actionOf, Plays}
 use Rattle.transition.specs.Contracts.Play.{Theorized}
 use Rattle.transition.specs.Laws.ChangedRows as changing
-use Rattle.transition.specs.Laws.Still.{writes, triggerWrites}
-use Rattle.planner.specs.Inner.Reach.{someBelow, none-below, some-below, metBy, couldAt, couldPass, couldAll, couldHold, couldExceed, no-exceed, start-barred, play-barred}
 use Rattle.planner.specs.declared.limits.Context.{Context}
 use Rattle.planner.specs.Inner.Lists.{slotTable}
 use Rattle.planner.specs.Inner.Explain.{Stage}
-use Rattle.planner.specs.declared.prune.Course.{Course}
-use Rattle.planner.specs.Inner.Look.{Triggered, Moved, marked, among, Casting, Cast, Brought, Looking, Lookable, Looked, Trial, Tryable, Hopeless, Trying, Skipped}
+use Rattle.planner.specs.Inner.Range.{couldMeet, couldAt, couldPass, couldAll, couldHold, couldExceed, Within, InRange, AllInRange, idle, TriggersInRange, Wider, no-exceed, within-barred, within-wider, all-wider, wider-same, wider-then, settles-within}
+use Rattle.planner.specs.Inner.Look.{Widened, Triggered, TriggersWidened, Trial, Tryable, Hopeless, Trying, Skipped}
 
 -- flags
 pub unequal : true ≡ false → ⊥
@@ -99,58 +100,67 @@ module _ {A K : Type 0} (w : Run A K) (s : List ℕ) (from : ℕ) where
         let y = one k xs g in
         left-next (w .part k) s (w .tells k) xs (g .end) n left y m (ends k (y .item) (run-here k xs g)) (e k (y .item) (y .rest) (run-here k xs g))
 
--- Triggers; `idle` stands for one that isn't there
-abbrev pub idle : Trigger
-idle = record { condition = []; effects = [] }
+-- A run over small dimensions
+abbrev pub Tiny : Type 0
+Tiny = (d : Dimensions) × Small d
 
-triggers-still : (ts : List Trigger) (f : ℕ) → ((j : ℕ) → j < length ts → writes (getD ts j idle .effects) f ≡ false) → triggerWrites ts f ≡ false
-unfolding triggerWrites
-triggers-still [] f h = refl
-triggers-still (t ∷ ts) f h = rw (h 0 (omega arith)) (triggers-still ts f (λ j l. h (suc j) (omega arith)))
+module _ {A : Type 0} (part : Dimensions → Reader A) where
+  abbrev pub tinyRun : (List A → Bool) → Run A Tiny
+  tinyRun tells = record { part = λ k. part (k .0); limit = 9; tells = λ k. tells }
 
-trigger-writes : (ts : List Trigger) (f j : ℕ) → j < length ts → writes (getD ts j idle .effects) f ≡ true → triggerWrites ts f ≡ true
-unfolding triggerWrites
-trigger-writes [] f j l e = absurd (omega arith)
-trigger-writes (t ∷ ts) f zero l e = ap (λ (a : Bool). a || triggerWrites ts f) e
-trigger-writes (t ∷ ts) f (suc j) l e = either-true (writes (t .effects) f) (trigger-writes ts f j (omega arith) e)
-  where
-    either-true : (a : Bool) {b : Bool} → b ≡ true → (a || b) ≡ true
-    either-true true q = refl
-    either-true false q = q
+  module _ {s : List ℕ} {from : ℕ} where
+    pub run-inside : Readable (λ d. counted 0 9 (part d)) s from → from < length s
+    run-inside x = counted-starts 9 (part (x .over)) s from (x .value) (x .end) (omega arith) (x .reads) (getD s from 0) refl .1
 
-module _ (pack places : List ℕ) (triggers fluent : ℕ) where
-  -- no trigger below i writes the fluent
-  abbrev pub Unmoved : ℕ → Type 0
-  Unmoved i = (p : Theory) (actions : ℕ) → Theorized p pack places actions triggers → (j : ℕ) → j < i → writes (getD (p .triggers) j idle .effects) fluent ≡ false
+    pub run-next : Readable (λ d. counted 0 9 (part d)) s from → {tells : List A → Bool} {n left : ℕ} → Rest (tinyRun tells) s from n left → 0 < left → Readable part s n
+    run-next x {tells} {n} i h =
+        let whole : Gives (counted 0 9 (part (x .over))) s from (x .value) = record { end = x .end; reads = x .reads } in
+        let g = run-here (tinyRun tells) s from i h (x .over, x .small) (x .value) whole in
+        record { over = x .over; small = x .small; value = run-item (tinyRun tells) s from i h (x .over, x .small) (x .value) whole; end = g .end; reads = g .reads }
 
-  -- what is told of the effects at a place
-  abbrev pub WritesAt : ℕ → Bool → Type 0
-  WritesAt at r = Tells effectsAt (someOf (asks (Sets fluent))) pack at r
+    pub run-told : {tells : List A → Bool} {b : Bool} → Told (tinyRun tells) s from b → Tells (λ d. counted 0 9 (part d)) tells s from b
+    run-told w d small xs n e = w (d, small) xs (record { end = n; reads = e })
 
-  pub triggered-few : Triggered pack places triggers → (triggers ≤ 16) × (327 ≤ length places)
-  triggered-few (p, (n, x)) = (x .found .mostTriggers, x .marked)
+-- what is told of a part, and where it ends, of what it gives
+module _ {A : Type 0} (part : Dimensions → Reader A) {s : List ℕ} {n : ℕ} where
+  pub told-of : {B : Type 0} (f : A → B) {r : B} → Tells part f s n r → (k : Tiny) (x : A) → Gives (part (k .0)) s n x → r ≡ f x
+  told-of f w k x g = w (k .0) (k .1) x (g .end) (g .reads)
 
-  module _ (i : ℕ) (l : i < triggers) where
-    place : (289 + 2 * i) ≡ (288 + 2 * i) + 1
-    place = omega arith
+  pub end-of : {m : ℕ} → Ends part s n m → (k : Tiny) (x : A) (g : Gives (part (k .0)) s n x) → g .end ≡ m
+  end-of w k x g = sym (w (k .0) (k .1) x (g .end) (g .reads))
 
-    next : (p : Theory) (n : ℕ) → Theorized p pack places n triggers → Gives (effectsAt (dimensions p)) pack (getD places (289 + 2 * i) 0) (getD (p .triggers) i idle .effects)
-    next p n x = subst (λ (k : ℕ). Gives (effectsAt (dimensions p)) pack (getD places k 0) (getD (p .triggers) i idle .effects)) (sym place) (x .found .trigger i l idle .effects)
+-- a condition is a run of alternatives, rules are one of rules
+module _ {s : List ℕ} {at : ℕ} where
+  pub condition-parts : Readable conditionAt s at → Readable (λ d. counted 0 9 (alternativeAt d)) s at
+  unfolding conditionAt
+  condition-parts x = x
 
-    next-told : {r c : Bool} → WritesAt (getD places (289 + 2 * i) 0) r → r ≡ c → (p : Theory) (n : ℕ) → Theorized p pack places n triggers → writes (getD (p .triggers) i idle .effects) fluent ≡ c
-    next-told w e p n x = let g = next p n x in sym (w (dimensions p) (x .small) (getD (p .triggers) i idle .effects) (g .end) (g .reads)) ∙ e
+  pub condition-told : {tells : Condition → Bool} {b : Bool} → Told (tinyRun alternativeAt tells) s at b → Tells conditionAt tells s at b
+  unfolding conditionAt
+  condition-told w = run-told alternativeAt w
 
-    pub next-readable : Triggered pack places triggers → Readable effectsAt pack (getD places (289 + 2 * i) 0)
-    next-readable (p, (n, x)) = let g = next p n x in record { over = dimensions p; small = x .small; value = getD (p .triggers) i idle .effects; end = g .end; reads = g .reads }
+  pub rules-parts : Readable rulesAt s at → Readable (λ d. counted 0 9 (ruleAt d)) s at
+  unfolding rulesAt
+  rules-parts x = x
 
-    pub next-moves : {r : Bool} → WritesAt (getD places (289 + 2 * i) 0) r → r ≡ true → Moved pack places triggers fluent true
-    next-moves w e p n x = sym (trigger-writes (p .triggers) fluent i (omega (arith, x .found .triggers)) (next-told w e p n x))
+  pub rules-told : {tells : List Rule → Bool} {b : Bool} → Told (tinyRun ruleAt tells) s at b → Tells rulesAt tells s at b
+  unfolding rulesAt
+  rules-told w = run-told ruleAt w
 
-    pub next-still : {r : Bool} → WritesAt (getD places (289 + 2 * i) 0) r → r ≡ false → Unmoved i → Unmoved (i + 1)
-    next-still w e u p n x = below-more (λ (j : ℕ). writes (getD (p .triggers) j idle .effects) fluent ≡ false) i (u p n x) (next-told w e p n x)
+-- a rule: its condition, and its number behind it
+module _ {s : List ℕ} {n : ℕ} where
+  pub rule-condition : (d : Dimensions) (v : Rule) → Gives (ruleAt d) s n v → Gives (conditionAt d) s n (v .condition)
+  rule-condition d v g = let q = rule-parts d s n v (g .end) (g .reads) in record { end = q .middle; reads = q .condition }
 
-  pub all-still : {i : ℕ} → triggers ≤ i → Unmoved i → Moved pack places triggers fluent false
-  all-still h u p n x = sym (triggers-still (p .triggers) fluent (λ j l. u p n x j (omega (arith, x .found .triggers))))
+  pub rule-readable : Readable ruleAt s n → Readable conditionAt s n
+  rule-readable x =
+      let g = rule-condition (x .over) (x .value) (record { end = x .end; reads = x .reads }) in
+      record { over = x .over; small = x .small; value = x .value .condition; end = g .end; reads = g .reads }
+
+  pub rule-number : {m : ℕ} {r : Reading ℕ} → Ends conditionAt s n m → numberAt s m ≡ r → (k : Tiny) (v : Rule) (g : Gives (ruleAt (k .0)) s n v) → r ≡ done (v .utility) (g .end)
+  rule-number after e (d, small) v g =
+      let q = rule-parts d s n v (g .end) (g .reads) in
+      sym e ∙ ap (numberAt s) (after d small (v .condition) (q .middle) (q .condition)) ∙ q .number
 
 -- What could pass, hold and exceed, by one more
 module _ (may : Test → Bool) where
@@ -187,205 +197,188 @@ module _ (may : Test → Bool) where
     unfolding couldExceed
     exceed-low l = ap (λ (b : Bool). (b && couldHold may (x .condition)) || couldExceed may base rest) (le-ltb base (x .utility) l)
 
--- a rule: its condition, and its number behind it
-module _ (pack : List ℕ) (n : ℕ) (p : Theory) (v : Rule) (g : Gives (ruleAt (dimensions p)) pack n v) where
-  parts : RuleParts (dimensions p) pack n v (g .end)
-  parts = rule-parts (dimensions p) pack n v (g .end) (g .reads)
+-- A test: how long its chain is
+module _ (lows highs pack : List ℕ) (n : ℕ) {k : ℕ} (chain : Tells testAt (λ (x : Test). length (x .chain)) pack n k) where
+  -- about what is believed
+  pub pass-open : (k ≡ 0 → ⊥) → Tells testAt (couldPass lows highs) pack n true
+  unfolding couldAt
+  pass-open z d small v m e = sym (go (v .chain) (chain d small v m e))
+    where
+      go : (ch : List ℕ) → k ≡ length ch → couldAt lows highs ch v ≡ true
+      go [] e = absurd (z e)
+      go (c ∷ ch) e = refl
 
-  pub rule-condition : Gives (conditionAt (dimensions p)) pack n (v .condition)
-  rule-condition = record { end = parts .middle; reads = parts .condition }
+  -- about the state itself
+  pub pass-own : k ≡ 0 → {f : ℕ} → Tells testAt (λ (x : Test). x .fluent) pack n f → {r : Bool} → Tells testAt (λ (x : Test). couldMeet (x .kind) (getD lows f 0) (getD highs f 0) (x .value)) pack n r → Tells testAt (couldPass lows highs) pack n r
+  unfolding couldAt
+  pass-own z {f} fluent {r} met d small v m e =
+      let here = nil (v .chain) (sym (chain d small v m e) ∙ z) in
+      met d small v m e
+      ∙ ap (λ (f : ℕ). couldMeet (v .kind) (getD lows f 0) (getD highs f 0) (v .value)) (fluent d small v m e)
+      ∙ sym (ap (λ (ch : List ℕ). couldAt lows highs ch v) here)
+    where
+      nil : (l : List ℕ) → length l ≡ 0 → l ≡ []
+      nil [] e = refl
+      nil (c ∷ l) e = absurd (omega (arith, e))
 
--- the own values of what row 0 means
-module _ (t : Table) (work : List ℕ) (some : 0 < t .nodes) {f : ℕ} (below : f < t .fluents) where
-  own-value : getD (stateOf t work 0 []) f 0 ≡ getD work (t .rows + f) 0
-  unfolding meaning
-  own-value = let at : (t .rows + 0 * t .width) + f ≡ t .rows + f = omega arith in value-at t work 0 f some below ∙ ap (λ (q : ℕ). getD work q 0) at
+-- the fluent of a test has a range
+pub fluent-few : {pack : List ℕ} {n f : ℕ} → Readable testAt pack n → Tells testAt (λ (x : Test). x .fluent) pack n f → f < 24
+fluent-few {pack} {n} x fluent =
+    let b = test-bytes (x .over) (x .small) pack n (x .value) (x .end) (x .reads) in
+    omega (arith, fluent (x .over) (x .small) (x .value) (x .end) (x .reads), b .fluent, b .below, x .small .fluents)
 
-  own-there : f < length (stateOf t work 0 [])
-  unfolding meaning rowAt cells
-  own-there = omega (arith, below, ap (λ (x : Node). length (x .values)) (rows-at work (t .width) (t .fluents) (t .characters) (t .rows) (t .nodes) 0 some), upto-length (λ i. getD work ((t .rows + 0 * t .width) + i) 0) (t .fluents))
+-- Widening by an effect: only the ranges of its fluent change
+module _ {pack : List ℕ} {n : ℕ} (x : Readable effectAt pack n) where
+  pub effect-few : getD pack (n + 1) 0 < 24
+  effect-few =
+      let b = effect-bytes (x .over) (x .small) pack n (x .value) (x .end) (x .reads) in
+      omega (arith, b .below, x .small .fluents)
 
--- The actions of a course
-module _ {p : Theory} {pack places : List ℕ} {c : Course} {ahead : List ℕ} (x : Casting p pack places c ahead) where
-  pub cast-few : (c .to ≤ 32) × (327 ≤ length places)
-  cast-few = (omega (arith, x .there, x .theorized .found .mostActions), x .theorized .marked)
+module _ {pack : List ℕ} {n : ℕ} {lows highs : List ℕ} where
+  pub widened-not : {w : ℕ} → getD pack n 0 ≡ w → (w ≡ 0 → ⊥) → Widened effectAt InRange pack n lows highs lows highs
+  widened-not is other = record {
+    wider = wider-same;
+    covers = λ d small e m r q. absurd (other (sym is ∙ sym (effect-bytes d small pack n e m r .whom) ∙ q));
+  }
 
-  cast-gives : (a : ℕ) → a < c .to → Gives (effectsAt (dimensions p)) pack (getD places (9 * a + 1) 0) (actionOf p a .effects)
-  cast-gives a l = x .theorized .found .action a (omega (arith, l, x .there)) nothing .effects
+  pub widened-one : {f v l h : ℕ} → getD pack (n + 1) 0 ≡ f → getD pack (n + 2) 0 ≡ v → f < length lows → f < length highs
+      → (l ≤ getD lows f 0) × (l ≤ v) → (getD highs f 0 ≤ h) × (v ≤ h) → Widened effectAt InRange pack n lows highs (set lows f l) (set highs f h)
+  widened-one {f} {v} {l} {h} fluent value in-l in-h low high =
+      let here-l : getD (set lows f l) f 0 ≡ l = getD-set-same lows f l 0 in-l in
+      let here-h : getD (set highs f h) f 0 ≡ h = getD-set-same highs f h 0 in-h in
+      record {
+        wider = record {
+          low = λ i. by-cases (ℕ-discrete i f)
+              (λ q. subst (λ (i : ℕ). getD (set lows f l) i 0 ≤ getD lows i 0) (sym q) (omega (arith, here-l, low .0)))
+              (λ q. omega (arith, getD-set-other lows f i l 0 q));
+          high = λ i. by-cases (ℕ-discrete i f)
+              (λ q. subst (λ (i : ℕ). getD highs i 0 ≤ getD (set highs f h) i 0) (sym q) (omega (arith, here-h, high .0)))
+              (λ q. omega (arith, getD-set-other highs f i h 0 q));
+        };
+        covers = λ d small e m r q.
+            let b = effect-bytes d small pack n e m r in
+            let is : e .fluent ≡ f = b .fluent ∙ fluent in
+            let val : e .value ≡ v = b .value ∙ value in (
+              subst (λ (i : ℕ). getD (set lows f l) i 0 ≤ e .value) (sym is) (omega (arith, here-l, low .1, val)),
+              subst (λ (i : ℕ). e .value ≤ getD (set highs f h) i 0) (sym is) (omega (arith, here-h, high .1, val)),
+            );
+      }
 
-  pub cast-effects : (a : ℕ) → a < c .to → Readable effectsAt pack (getD places (9 * a + 1) 0)
-  cast-effects a l = let g = cast-gives a l in record { over = dimensions p; small = x .theorized .small; value = actionOf p a .effects; end = g .end; reads = g .reads }
+-- by effects one after the other: where what is left is in range, all are
+pub record Widening (lows highs : List ℕ) (d : Dimensions) (s : List ℕ) (n left : ℕ) (xs : List Effect) (end : ℕ) : Type 0 where
+  pub rest : List Effect
+  pub reads : Owed (λ (es v : List Effect). es) d s n left [] rest end
+  pub brings : (A B : List ℕ) → Wider lows highs A B → AllInRange A B rest → AllInRange A B xs
 
--- those of them below i leave no value that the test is met by
-module _ (pack places : List ℕ) (c : Course) (ahead : List ℕ) (at fluent value : ℕ) where
-  abbrev One : Theory → Test → ℕ → Bool
-  One p x a = among c ahead a && metBy x (leftOf fluent (actionOf p a .effects) value)
+module _ {lows highs : List ℕ} {d : Dimensions} {s : List ℕ} {n left : ℕ} {xs : List Effect} {end : ℕ} where
+  pub widening-one : (w : Widening lows highs d s n left xs end) → 0 < left → Due (λ (es v : List Effect). es) d s n left [] (w .rest) end
+  widening-one w h = owed-one (λ (es v : List Effect). es) d s n left [] (w .rest) end (w .reads) h
 
-  abbrev pub Unbrought : ℕ → Type 0
-  Unbrought i = (p : Theory) → Casting p pack places c ahead → (x : Test) → Gives (testAt (dimensions p)) pack at x → (j : ℕ) → j < i → One p x j ≡ false
+  pub widening-next : {lows′ highs′ : List ℕ} (w : Widening lows highs d s n left xs end) (h : 0 < left) → Small d → Widened effectAt InRange s n lows highs lows′ highs′
+      → {m : ℕ} → Ends effectAt s n m → Widening lows′ highs′ d s m (left - 1) xs end
+  unfolding AllInRange widening-one
+  widening-next w h small one ends =
+      let x = widening-one w h in
+      record {
+        rest = x .rest;
+        reads = record { rest = x .rest; reads = ap (many (effectAt d) (left - 1) s) (ends d small (x .item) (x .place) (x .here)) ∙ x .more; same = refl };
+        brings = λ A B wider all. w .brings A B (wider-then (one .wider) wider)
+            (subst (AllInRange A B) (sym (x .same)) (
+              λ q. let (l, h) = one .covers d small (x .item) (x .place) (x .here) q in
+                  (omega (arith, wider .low (x .item .fluent), l), omega (arith, wider .high (x .item .fluent), h)),
+              all,
+            ));
+      }
 
-  pub unbrought-start : Unbrought (c .from)
-  unbrought-start p y x g j l = ap (λ (b : Bool). (b && marked (getD ahead j 0) (c .within)) && metBy x (leftOf fluent (actionOf p j .effects) value)) (lt-leb (c .from) j l)
+  pub widening-none : Widening lows highs d s n left xs end → left ≤ 0 → AllInRange lows highs xs
+  unfolding AllInRange
+  widening-none w h =
+      w .brings lows highs wider-same (subst (AllInRange lows highs) (sym (owed-none (λ (es v : List Effect). es) d s n left [] (w .rest) end (w .reads) h refl)) tt)
 
-  pub brought-none : {i : ℕ} → c .to ≤ i → Unbrought i → Brought pack places c ahead at fluent value false
-  brought-none h u p y x g = sym (none-below (One p x) (c .to) (λ j l. u p y x g j (omega (arith, l, h))))
+pub widening-start : {lows highs : List ℕ} (d : Dimensions) (s : List ℕ) (at : ℕ) {xs : List Effect} {end : ℕ} → effectsAt d s at ≡ done xs end → (n : ℕ) → getD s at 0 ≡ n → Widening lows highs d s (at + 1) n xs end
+unfolding effectsAt
+widening-start d s at {xs} {end} e n q = record {
+  rest = xs;
+  reads = record { rest = xs; reads = counted-starts 17 (effectAt d) s at xs end (omega arith) e n q .0; same = refl };
+  brings = λ A B wider all. all;
+}
 
-  module _ (i : ℕ) (from : c .from ≤ i) (to : i < c .to) where
-    one-is : (p : Theory) (x : Test) {b : Bool} → b ≡ marked (getD ahead i 0) (c .within) → One p x i ≡ (b && metBy x (leftOf fluent (actionOf p i .effects) value))
-    one-is p x q = ap (λ (b : Bool). (b && marked (getD ahead i 0) (c .within)) && metBy x (leftOf fluent (actionOf p i .effects) value)) (le-leb (c .from) i from) ∙ ap (λ (b : Bool). b && metBy x (leftOf fluent (actionOf p i .effects) value)) (sym q)
+pub effects-inside : {s : List ℕ} {at : ℕ} → Readable effectsAt s at → at < length s
+unfolding effectsAt
+effects-inside {s} {at} x = counted-starts 17 (effectAt (x .over)) s at (x .value) (x .end) (omega arith) (x .reads) (getD s at 0) refl .1
 
-    pub unbrought-unmarked : {b : Bool} → b ≡ marked (getD ahead i 0) (c .within) → b ≡ false → Unbrought i → Unbrought (i + 1)
-    unbrought-unmarked q e u p y x g = below-more (λ (j : ℕ). One p x j ≡ false) i (u p y x g) (one-is p x q ∙ ap (λ (b : Bool). b && metBy x (leftOf fluent (actionOf p i .effects) value)) e)
+-- by triggers one after the other
+module _ (pack places : List ℕ) (triggers : ℕ) where
+  pub triggered-few : Triggered pack places triggers → (triggers ≤ 16) × (327 ≤ length places)
+  triggered-few (p, (n, x)) = (x .found .mostTriggers, x .marked)
 
-    module _ {b : Bool} (q : b ≡ marked (getD ahead i 0) (c .within)) (e : b ≡ true) {w : ℕ} (leaves : Tells effectsAt (λ (es : List Effect). leftOf fluent es value) pack (getD places (9 * i + 1) 0) w) {r : Bool} (met : Tells testAt (λ (x : Test). compares (x .kind) w (x .value)) pack at r) where
-      told-met : (p : Theory) → Casting p pack places c ahead → (x : Test) → Gives (testAt (dimensions p)) pack at x → One p x i ≡ r
-      told-met p y x g =
-          let h = cast-gives y i to in
-          one-is p x q ∙ ap (λ (b : Bool). b && metBy x (leftOf fluent (actionOf p i .effects) value)) e
-          ∙ ap (metBy x) (sym (leaves (dimensions p) (y .theorized .small) (actionOf p i .effects) (h .end) (h .reads)))
-          ∙ sym (met (dimensions p) (y .theorized .small) x (g .end) (g .reads))
+  module _ (i : ℕ) (l : i < triggers) where
+    place : (289 + 2 * i) ≡ (288 + 2 * i) + 1
+    place = omega arith
 
-      pub unbrought-unmet : r ≡ false → Unbrought i → Unbrought (i + 1)
-      unbrought-unmet f u p y x g = below-more (λ (j : ℕ). One p x j ≡ false) i (u p y x g) (told-met p y x g ∙ f)
+    next : (p : Theory) (n : ℕ) → Theorized p pack places n triggers → Gives (effectsAt (dimensions p)) pack (getD places (289 + 2 * i) 0) (getD (p .triggers) i idle .effects)
+    next p n x = subst (λ (k : ℕ). Gives (effectsAt (dimensions p)) pack (getD places k 0) (getD (p .triggers) i idle .effects)) (sym place) (x .found .trigger i l idle .effects)
 
-      pub brought-one : r ≡ true → Brought pack places c ahead at fluent value true
-      brought-one f p y x g = sym (some-below (One p x) (c .to) i to (told-met p y x g ∙ f))
+    pub trigger-readable : Triggered pack places triggers → Readable effectsAt pack (getD places (289 + 2 * i) 0)
+    trigger-readable (p, (n, x)) = let g = next p n x in record { over = dimensions p; small = x .small; value = getD (p .triggers) i idle .effects; end = g .end; reads = g .reads }
 
--- A test, an alternative, a condition, rules
-module _ (pack places : List ℕ) (c : Course) (ahead work : List ℕ) (t : Table) where
-  abbrev Seen : Type 0
-  Seen = (p : Theory) × Looking p pack places c ahead work t
+    pub triggers-more : {lows highs lows′ highs′ : List ℕ} → Widened effectsAt AllInRange pack (getD places (289 + 2 * i) 0) lows highs lows′ highs′ → (p : Theory) (n : ℕ) → Theorized p pack places n triggers
+        → TriggersInRange lows highs (p .triggers) i → TriggersInRange lows′ highs′ (p .triggers) (i + 1)
+    triggers-more {lows′ = lows′} {highs′} w p n x old =
+        let g = next p n x in
+        below-more (λ (j : ℕ). AllInRange lows′ highs′ (getD (p .triggers) j idle .effects)) i
+        (λ j h. all-wider (w .wider) (getD (p .triggers) j idle .effects) (old j h))
+        (w .covers (dimensions p) (x .small) (getD (p .triggers) i idle .effects) (g .end) (g .reads))
 
-  abbrev S : State
-  S = stateOf t work 0
+  -- all of a theory's
+  pub all-triggers : {p : Theory} {n : ℕ} (lows highs : List ℕ) → Theorized p pack places n triggers → TriggersInRange lows highs (p .triggers) triggers → TriggersInRange lows highs (p .triggers) (length (p .triggers))
+  all-triggers lows highs x c j l = c j (omega (arith, l, x .found .triggers))
 
-  -- what could pass after some of the actions
-  abbrev May : Theory → Test → Bool
-  May p = couldPass p (among c ahead) (c .to) S
+-- The own values of what row 0 means, copied
+module _ (t : Table) (work : List ℕ) (some : 0 < t .nodes) where
+  pub own-values : stateOf t work 0 [] ≡ cells work (t .rows) (t .fluents)
+  unfolding meaning rowAt
+  own-values =
+      let here : t .rows + 0 * t .width ≡ t .rows = omega arith in
+      ap (λ (x : Node). x .values) (rows-at work (t .width) (t .fluents) (t .characters) (t .rows) (t .nodes) 0 some)
+      ∙ ap (λ (a : ℕ). cells work a (t .fluents)) here
 
-  abbrev pub testRun : Run Test Seen
-  testRun = record { part = λ k. testAt (dimensions (k .0)); limit = 9; tells = λ k. couldAll (May (k .0)) }
+module _ {work : List ℕ} {from F : ℕ} {was lows : List ℕ} (c : Copied work from was lows 0 F 0) where
+  pub copied-cells : cells lows 0 F ≡ cells work from F
+  copied-cells =
+      ext-getD 0 _ _ (cells-length lows 0 F ∙ sym (cells-length work from F))
+      (λ i l. let m : i < F = omega (arith, cells-length lows 0 F, l) in
+      cells-at lows 0 F i m ∙ c .copied i m ∙ sub-none (getD work (from + i) 0) ∙ sym (cells-at work from F i m))
+    where
+      sub-none : (v : ℕ) → v - 0 ≡ v
+      sub-none v = omega arith
 
-  abbrev pub alternativeRun : Run (List Test) Seen
-  alternativeRun = record { part = λ k. alternativeAt (dimensions (k .0)); limit = 9; tells = λ k. couldHold (May (k .0)) }
+pub row-copyable : {t : Table} {work lows : List ℕ} → TableFits t work → 0 < t .nodes → t .fluents ≤ length lows → Copyable work (t .rows) lows 0 (t .fluents) 0
+row-copyable {t} {work} {lows} fits some room = record {
+  source = λ i l. omega (arith, cell-in t work fits 0 i some (omega (arith, l, fits .wide)));
+  enough = λ i l. omega arith;
+  room = omega (arith, room);
+}
 
-  abbrev pub ruleRun : ℕ → Run Rule Seen
-  ruleRun base = record { part = λ k. ruleAt (dimensions (k .0)); limit = 9; tells = λ k. couldExceed (May (k .0)) base }
+-- values that are laid out, none behind them, are a range each of one value
+pub laid-within : (F : ℕ) (lows : List ℕ) → ((f : ℕ) → F ≤ f → getD lows f 0 ≡ 0) → Within lows lows (cells lows 0 F)
+laid-within F lows past = record {
+  low = λ f. by-cases (decLt f F) (λ l. omega (arith, at f l)) (λ l. omega (arith, past f (omega (arith, l))));
+  high = λ f. by-cases (decLt f F) (λ l. omega (arith, at f l)) (λ l. omega (arith, beyond (cells lows 0 F) f (omega (arith, l, cells-length lows 0 F))));
+}
+  where
+    at : (f : ℕ) → f < F → getD (cells lows 0 F) f 0 ≡ getD lows f 0
+    at f l = let here : 0 + f ≡ f = omega arith in cells-at lows 0 F f l ∙ ap (λ (k : ℕ). getD lows k 0) here
 
-  small : {p : Theory} → Looking p pack places c ahead work t → Small (dimensions p)
-  small x = x .casting .theorized .small
+    beyond : (l : List ℕ) (f : ℕ) → length l ≤ f → getD l f 0 ≡ 0
+    beyond [] f h = refl
+    beyond (x ∷ l) zero h = absurd (omega (arith, h))
+    beyond (x ∷ l) (suc f) h = beyond l f (omega (arith, h))
 
-  pub look-triggered : {A : Type 0} {part : Dimensions → Reader A} {at : ℕ} → Lookable part pack places c ahead at work t → Triggered pack places (c .triggers)
-  look-triggered x = (x .theory, (x .looking .casting .actions, x .looking .casting .theorized))
-
-  pub look-cast : {A : Type 0} {part : Dimensions → Reader A} {at : ℕ} → Lookable part pack places c ahead at work t → Cast pack places c ahead
-  look-cast x = (x .theory, x .looking .casting)
-
-  -- a test
-  module _ (n : ℕ) where
-    -- how long its chain is
-    module _ {k : ℕ} (chain : Tells testAt (λ (x : Test). length (x .chain)) pack n k) where
-      -- about what is believed
-      pub pass-open : (k ≡ 0 → ⊥) → Looked testAt (λ (may : Test → Bool). may) pack places c ahead n work t true
-      unfolding couldAt
-      pass-open z p x v g = sym (go (v .chain) (chain (dimensions p) (small x) v (g .end) (g .reads)))
-        where
-          go : (ch : List ℕ) → k ≡ length ch → couldAt p (among c ahead) (c .to) S ch v ≡ true
-          go [] e = absurd (z e)
-          go (d ∷ ch) e = refl
-
-      -- about the state itself
-      module _ (z : k ≡ 0) {f : ℕ} (fluent : Tells testAt (λ (x : Test). x .fluent) pack n f) where
-        -- its fluent is one of the state's
-        own-fluent : (p : Theory) → Looking p pack places c ahead work t → (v : Test) → Gives (testAt (dimensions p)) pack n v → f < t .fluents
-        own-fluent p x v g =
-            let b = test-bytes (dimensions p) (small x) pack n v (g .end) (g .reads) in
-            omega (arith, fluent (dimensions p) (small x) v (g .end) (g .reads), b .fluent, b .below, x .over .fluents)
-
-        pub own-cell : Lookable testAt pack places c ahead n work t → (t .rows + f < length work) × (t .rows + f < 50000)
-        own-cell x =
-            let y = x .looking in
-            let below = own-fluent (x .theory) y (x .value) (x .stands) in
-            (omega (arith, cell-in t work (y .fits) 0 f (y .some) (omega (arith, below, y .fits .wide))), omega (arith, below, y .over .fluents, small y .fluents, y .low))
-
-        abbrev Brings : Theory → Test → Bool
-        Brings p v = someBelow (λ a. among c ahead a && metBy v (leftOf f (actionOf p a .effects) (getD work (t .rows + f) 0))) (c .to)
-
-        own-is : (p : Theory) → Looking p pack places c ahead work t → (v : Test) → Gives (testAt (dimensions p)) pack n v → May p v ≡ (metBy v (getD work (t .rows + f) 0) || (Brings p v || triggerWrites (p .triggers) f))
-        unfolding couldAt
-        own-is p x v g =
-            let here = nil (v .chain) (sym (chain (dimensions p) (small x) v (g .end) (g .reads)) ∙ z) in
-            let is = fluent (dimensions p) (small x) v (g .end) (g .reads) in
-            ap (λ (c′ : List ℕ). couldAt p (among c ahead) (c .to) S c′ v) here
-            ∙ ap (λ (f : ℕ). metBy v (getD (S []) f 0) || (someBelow (λ a. among c ahead a && metBy v (leftOf f (actionOf p a .effects) (getD (S []) f 0))) (c .to) || triggerWrites (p .triggers) f)) (sym is)
-            ∙ ap (λ (w : ℕ). metBy v w || (someBelow (λ a. among c ahead a && metBy v (leftOf f (actionOf p a .effects) w)) (c .to) || triggerWrites (p .triggers) f)) (own-value t work (x .some) (own-fluent p x v g))
-          where
-            nil : (l : List ℕ) → length l ≡ 0 → l ≡ []
-            nil [] e = refl
-            nil (d ∷ l) e = absurd (omega (arith, e))
-
-        module _ {b : Bool} (met : Tells testAt (λ (x : Test). compares (x .kind) (getD work (t .rows + f) 0) (x .value)) pack n b) where
-          met-is : {q : Bool} → b ≡ q → (p : Theory) → Looking p pack places c ahead work t → (v : Test) → Gives (testAt (dimensions p)) pack n v → May p v ≡ (q || (Brings p v || triggerWrites (p .triggers) f))
-          met-is e p x v g = own-is p x v g ∙ ap (λ (b : Bool). b || (Brings p v || triggerWrites (p .triggers) f)) (sym (met (dimensions p) (small x) v (g .end) (g .reads)) ∙ e)
-
-          pub pass-met : b ≡ true → Looked testAt (λ (may : Test → Bool). may) pack places c ahead n work t true
-          pass-met e p x v g = sym (met-is e p x v g)
-
-          module _ (e : b ≡ false) {r : Bool} (brought : Brought pack places c ahead n f (getD work (t .rows + f) 0) r) where
-            brought-is : {q : Bool} → r ≡ q → (p : Theory) → Looking p pack places c ahead work t → (v : Test) → Gives (testAt (dimensions p)) pack n v → May p v ≡ (q || triggerWrites (p .triggers) f)
-            brought-is h p x v g = met-is e p x v g ∙ ap (λ (b : Bool). b || triggerWrites (p .triggers) f) (sym (brought p (x .casting) v g) ∙ h)
-
-            pub pass-brought : r ≡ true → Looked testAt (λ (may : Test → Bool). may) pack places c ahead n work t true
-            pass-brought h p x v g = sym (brought-is h p x v g)
-
-            pub pass-moved : r ≡ false → {m : Bool} → Moved pack places (c .triggers) f m → Looked testAt (λ (may : Test → Bool). may) pack places c ahead n work t m
-            pass-moved h m p x v g = m p (x .casting .actions) (x .casting .theorized) ∙ sym (brought-is h p x v g)
-
-    -- where it ends
-    pub test-end : {m : ℕ} → Ends testAt pack n m → (p : Theory) → Looking p pack places c ahead work t → (v : Test) (g : Gives (testAt (dimensions p)) pack n v) → g .end ≡ m
-    test-end ends p x v g = sym (ends (dimensions p) (small x) v (g .end) (g .reads))
-
-  -- a run of parts that can be looked at
-  module _ {A : Type 0} (part : Dimensions → Reader A) where
-    pub look-inside : {from : ℕ} → Lookable (λ d. counted 0 9 (part d)) pack places c ahead from work t → from < length pack
-    look-inside {from} x = counted-starts 9 (part (dimensions (x .theory))) pack from (x .value) (x .stands .end) (omega arith) (x .stands .reads) (getD pack from 0) refl .1
-
-    pub look-next : {tells : Seen → List A → Bool} {from n left : ℕ} → Lookable (λ d. counted 0 9 (part d)) pack places c ahead from work t → Rest (record { part = λ k. part (dimensions (k .0)); limit = 9; tells = tells }) pack from n left → 0 < left → Lookable part pack places c ahead n work t
-    look-next {tells} {from} x i h =
-        let run : Run A Seen = record { part = λ k. part (dimensions (k .0)); limit = 9; tells = tells } in
-        record { theory = x .theory; looking = x .looking; value = run-item run pack from i h (x .theory, x .looking) (x .value) (x .stands); stands = run-here run pack from i h (x .theory, x .looking) (x .value) (x .stands) }
-
-  pub look-readable : {A : Type 0} {part : Dimensions → Reader A} {at : ℕ} → Lookable part pack places c ahead at work t → Readable part pack at
-  look-readable x = record { over = dimensions (x .theory); small = small (x .looking); value = x .value; end = x .stands .end; reads = x .stands .reads }
-
-  -- a condition is a run of alternatives, rules are one of rules
-  pub condition-parts : {at : ℕ} → Lookable conditionAt pack places c ahead at work t → Lookable (λ d. counted 0 9 (alternativeAt d)) pack places c ahead at work t
-  unfolding conditionAt
-  condition-parts x = x
-
-  pub hold-told : {at : ℕ} {b : Bool} → Told alternativeRun pack at b → Looked conditionAt couldHold pack places c ahead at work t b
-  unfolding conditionAt
-  hold-told w p x v g = w (p, x) v g
-
-  pub rules-parts : {at : ℕ} → Lookable rulesAt pack places c ahead at work t → Lookable (λ d. counted 0 9 (ruleAt d)) pack places c ahead at work t
-  unfolding rulesAt
-  rules-parts x = x
-
-  pub exceed-told : {at : ℕ} (base : ℕ) {b : Bool} → Told (ruleRun base) pack at b → Looked rulesAt (λ (may : Test → Bool). couldExceed may base) pack places c ahead at work t b
-  unfolding rulesAt
-  exceed-told base w p x v g = w (p, x) v g
-
-  -- the place after an alternative
-  pub alternative-end : {n m : ℕ} → ((d : Dimensions) → Small d → (ts : List Test) (e : ℕ) → alternativeAt d pack n ≡ done ts e → m ≡ e) → (p : Theory) → Looking p pack places c ahead work t → (v : List Test) (g : Gives (alternativeAt (dimensions p)) pack n v) → g .end ≡ m
-  alternative-end after p x v g = sym (after (dimensions p) (small x) v (g .end) (g .reads))
-
-  -- a rule
-  module _ (n : ℕ) where
-    pub rule-look : Lookable ruleAt pack places c ahead n work t → Lookable conditionAt pack places c ahead n work t
-    rule-look x = record { theory = x .theory; looking = x .looking; value = x .value .condition; stands = rule-condition pack n (x .theory) (x .value) (x .stands) }
-
-    pub rule-number : {m : ℕ} {r : Reading ℕ} → ((d : Dimensions) → Small d → (c : Condition) (e : ℕ) → conditionAt d pack n ≡ done c e → m ≡ e) → numberAt pack m ≡ r → (p : Theory) → Looking p pack places c ahead work t → (v : Rule) (g : Gives (ruleAt (dimensions p)) pack n v) → r ≡ done (v .utility) (g .end)
-    rule-number after e p x v g = let q = parts pack n p v g in sym e ∙ ap (numberAt pack) (after (dimensions p) (small x) (v .condition) (q .middle) (q .condition)) ∙ q .number
+pub zeros : (n a : ℕ) → _≡_ {A = ℕ} (getD (replicate n 0) a 0) 0
+zeros zero a = refl
+zeros (suc n) zero = refl
+zeros (suc n) (suc a) = zeros n a
 
 -- Trying an action
 module _ (pack places : List ℕ) (triggers a : ℕ) (work : List ℕ) (t : Table) where
@@ -398,34 +391,52 @@ module _ (pack places : List ℕ) (triggers a : ℕ) (work : List ℕ) (t : Tabl
   pub try-forbidden : {r : Bool} → ((d : Dimensions) → Over d t → (c : Condition) (n : ℕ) → conditionAt d pack (getD places (9 * a) 0) ≡ done c n → r ≡ holds (stateOf t work 0) c) → r ≡ false → (whose left base : ℕ) → Hopeless pack places triggers a work t whose left base
   try-forbidden judged e whose left base p x s plays = let g = condition-at p x in absurd (unequal (sym (plays .may) ∙ sym (judged (dimensions p) (x .over) (actionOf p a .condition) (g .end) (g .reads)) ∙ e))
 
-  pub try-few : {whose : ℕ} → Tryable pack places triggers a work t whose → a < 32
-  try-few x = omega (arith, x .trial .there, x .trial .theorized .found .mostActions)
-
-  -- the course of it alone
-  abbrev pub lastOf : Course
-  lastOf = record { from = a; to = a + 1; within = 1; triggers = triggers }
+  effects-at : (p : Theory) → Trial p pack places triggers a work t → Gives (effectsAt (dimensions p)) pack (getD places (9 * a + 1) 0) (actionOf p a .effects)
+  effects-at p x = x .theorized .found .action a (x .there) nothing .effects
 
   rules-at : {whose : ℕ} → whose < t .characters + 1 → (p : Theory) → Trial p pack places triggers a work t → Gives (rulesAt (dimensions p)) pack (getD places (320 + whose) 0) (getD (p .utilities) whose [])
   rules-at {whose} l p x = x .theorized .found .rules whose (omega (arith, x .over .characters, l))
 
-  module _ (marks : List ℕ) (ones : (i : ℕ) → i < 32 → getD marks i 0 ≡ 1) (long : length marks ≡ 32) where
-    trial-looking : {p : Theory} → Trial p pack places triggers a work t → Looking p pack places lastOf marks work t
-    trial-looking x = record { casting = record { actions = x .actions; theorized = x .theorized; there = omega (arith, x .there); long = omega (arith, x .there, x .theorized .found .mostActions, long) }; over = x .over; fits = x .fits; low = x .low; some = x .some }
+  module _ {whose : ℕ} (y : Tryable pack places triggers a work t whose) where
+    pub try-fluents : t .fluents ≤ 24
+    try-fluents = omega (arith, y .trial .over .fluents, y .trial .over .small .fluents)
 
-    module _ {whose : ℕ} (l : whose < t .characters + 1) where
-      pub try-hopeless : {left base : ℕ} {r : Bool} → left ≡ 0 → Looked rulesAt (λ (may : Test → Bool). couldExceed may base) pack places lastOf marks (getD places (320 + whose) 0) work t r → r ≡ false → Hopeless pack places triggers a work t whose left base
-      try-hopeless {left} {base} none w e p x s plays =
-          let S = stateOf t work 0 in
-          let few : a < 32 = omega (arith, x .there, x .theorized .found .mostActions) in
-          let A = among lastOf marks in
-          let mine : A a ≡ true = ap (λ (b : Bool). b && marked (getD marks a 0) 1) (le-leb a a (omega arith)) ∙ ap (λ (m : ℕ). marked m 1) (ones a few) in (
-            none,
-            no-exceed (couldPass p A (a + 1) S) s (λ y q. play-barred p A (a + 1) S plays mine (omega arith) y q (start-barred p A (a + 1) S y q)) base (getD (p .utilities) whose [])
-                (sym (w p (trial-looking x) (getD (p .utilities) whose []) (rules-at l p x)) ∙ e),
-          )
+    pub try-copyable : {lows : List ℕ} → length lows ≡ 24 → Copyable work (t .rows) lows 0 (t .fluents) 0
+    try-copyable long = row-copyable (y .trial .fits) (y .trial .some) (omega (arith, long, try-fluents))
 
-    pub try-rules : {whose : ℕ} → Tryable pack places triggers a work t whose → Lookable rulesAt pack places lastOf marks (getD places (320 + whose) 0) work t
-    try-rules {whose} x = record { theory = x .theory; looking = trial-looking (x .trial); value = getD (x .theory .utilities) whose []; stands = rules-at (x .rules) (x .theory) (x .trial) }
+    pub try-writable : {lows : List ℕ} → length lows ≡ 24 → Writable effectsAt pack (getD places (9 * a + 1) 0) lows 0 (t .fluents)
+    try-writable long =
+        let g = effects-at (y .theory) (y .trial) in
+        record { dimensions = dimensions (y .theory); small = y .trial .over .small; wide = y .trial .over .fluents; value = actionOf (y .theory) a .effects; end = g .end; reads = g .reads; inside = omega (arith, long, try-fluents) }
+
+    pub try-triggered : Triggered pack places triggers
+    try-triggered = (y .theory, (y .trial .actions, y .trial .theorized))
+
+    pub try-rules : Readable rulesAt pack (getD places (320 + whose) 0)
+    try-rules =
+        let g = rules-at (y .rules) (y .theory) (y .trial) in
+        record { over = dimensions (y .theory); small = y .trial .over .small; value = getD (y .theory .utilities) whose []; end = g .end; reads = g .reads }
+
+    -- what the action leaves, and the triggers after it, is within the ranges
+    pub try-hopeless : {mid late lows highs : List ℕ} → Copied work (t .rows) (replicate 24 0) mid 0 (t .fluents) 0 → EffectsWritten pack (getD places (9 * a + 1) 0) 0 mid late 0 (t .fluents) → TriggersWidened pack places triggers late late lows highs
+        → {base : ℕ} {r : Bool} → Tells rulesAt (couldExceed (couldPass lows highs) base) pack (getD places (320 + whose) 0) r → r ≡ false → Hopeless pack places triggers a work t whose 0 base
+    unfolding act change
+    try-hopeless {mid} {late} {lows} {highs} copied written widened {base} told e p x s plays =
+        let es = actionOf p a .effects in
+        let g = effects-at p x in
+        let h = rules-at (y .rules) p x in
+        let S = stateOf t work 0 in
+        let laid : cells late 0 (t .fluents) ≡ write 0 es (S []) =
+        written .values (dimensions p) (x .over .small) (x .over .fluents) es (g .end) (g .reads) ∙ ap (write 0 es) (copied-cells copied ∙ sym (own-values t work (x .some))) in
+        let past : (f : ℕ) → t .fluents ≤ f → getD late f 0 ≡ 0 = λ f l. written .only .above f (omega (arith, l)) ∙ copied .only .above f (omega (arith, l)) ∙ zeros 24 f in
+        let acted : Within lows highs (act (actionOf p a) S []) =
+        within-wider (widened .wider) (subst (Within late late) laid (laid-within (t .fluents) late past)) in
+        let within : Within lows highs (s []) =
+        settles-within lows highs p (all-triggers pack places triggers lows highs (x .theorized) (widened .covers p (x .actions) (x .theorized))) 16 (act (actionOf p a) S) s (plays .settles) acted in (
+          refl,
+          no-exceed (couldPass lows highs) s (within-barred s within) base (getD (p .utilities) whose [])
+              (sym (told (dimensions p) (x .over .small) (getD (p .utilities) whose []) (h .end) (h .reads)) ∙ e),
+        )
 
 -- a table before the free slots, in which an action is looked at
 module _ {th : Theory} {T : List Node} {pack places : List ℕ} {h : Context} {was : List ℕ} {t : Table} {slot : ℕ} (x : Stage th T pack places h was t slot) (before : slot ≤ workRoom) where

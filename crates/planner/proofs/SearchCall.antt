@@ -120,7 +120,7 @@ module _ {th : Theory} {T : List Node} {pack places : List ℕ} {h : Context} {f
     }
 
     pub seek-memory : Memory th foresight h (0 + h .stride) then
-    seek-memory = memory-clear h (x .laid) (omega (arith, seek-first)) (y .empty)
+    seek-memory = memory-clear h (x .laid) (y .empty)
 
     seek-means : meaning C seekTable 0 ≡ meaning C T 0
     seek-means = y .starts .1
@@ -237,26 +237,26 @@ module _ {pack places : List ℕ} (T K E : ℕ) (list work : List ℕ) {p : Cont
     theNodes = accepted-now .2 .0 .thePack .nodes
 
     abbrev pub context : Context
-    context = laidOut p (record { 0 = K }) (1 + T + K * E)
+    context = laidOut p (record { 0 = K }) (1 + T + (1 + K) * E)
 
     fit : ChartFits (theory .characters) (theory .domains) theNodes
     fit = let y = accepted-now .2 .0 in pack-exactly pack bytes (y .thePack) .0 (y .accepted) .0 .nodes
 
     -- the limits are within theirs
-    ranges : (T ≤ 8) × (0 < K) × (K ≤ 6) × (E ≤ 3)
-    ranges =
+    pub search-ranges : (T ≤ 8) × (0 < K) × (K ≤ 6) × (E ≤ 3)
+    search-ranges =
         let (told, rest) = and-true (storyLimit T) (foresightLimit K && nestingLimit E) (sym within ∙ accepted-now .2 .0 .in-range) in
         let (foresight, nesting) = and-true (foresightLimit K) (nestingLimit E) rest in
         let (least, most) = and-true (leb 1 K) (leb K 6) foresight in
         (leb-true T 8 (and-true (leb 1 T) (leb T 8) told .1), leb-true 1 K least, leb-true K 6 most, leb-true E 3 nesting)
 
     -- what the context is made of
-    pub search-sizes : (p .fluents ≤ 24) × (p .characters ≤ 6) × (1 + T + K * E ≤ 27)
+    pub search-sizes : (p .fluents ≤ 24) × (p .characters ≤ 6) × (1 + T + (1 + K) * E ≤ 30)
     search-sizes =
         let y = accepted-now .2 .0 in
         let small = small-pack pack (y .thePack) (y .accepted) in
-        let (told, least, most, nested) = ranges in
-        (got .few, omega (arith, small .characters, y .found .characters), omega (arith, told, mul-le-mul-left K nested, mul-le-mul-right 3 most))
+        let (told, least, most, nested) = search-ranges in
+        (got .few, omega (arith, small .characters, y .found .characters), omega (arith, told, mul-le-mul-left (1 + K) nested, mul-le-mul-right 3 most))
 
     ready : Seeking theory theNodes pack places context (p .first) (p .nodes) T K E list work
     ready =
@@ -264,7 +264,7 @@ module _ {pack places : List ℕ} (T K E : ℕ) (list work : List ℕ) {p : Cont
         let x = y .thePack in
         let g = y .found in
         let (list-room, work-room) = and-true (fits listRoom list) (fits workRoom work) (y .enough-there) in
-        let (told, least, most, nested) = ranges in
+        let (told, least, most, nested) = search-ranges in
         let some = pack-exactly pack bytes x .0 (y .accepted) .0 .characters .0 in
         record {
           theorized = record { small = small-pack pack x (y .accepted); found = g .theory; short = short-pack pack x (y .accepted); marked = marked };
@@ -274,8 +274,8 @@ module _ {pack places : List ℕ} (T K E : ℕ) (list work : List ℕ) {p : Cont
           same-fluents = g .fluents;
           storied = told;
           foreseen = (least, most);
-          laid = laid-fits p (record { 0 = K }) (1 + T + K * E) (omega (arith, some, g .characters)) search-sizes;
-          slots = laid-free p (record { 0 = K }) (1 + T + K * E);
+          laid = laid-fits p (record { 0 = K }) (1 + T + (1 + K) * E) (omega (arith, some, g .characters)) search-sizes;
+          slots = laid-free p (record { 0 = K }) (1 + T + (1 + K) * E);
           list-room = leb-true listRoom (length list) list-room;
           room = leb-true workRoom (length work) work-room;
         }

@@ -17,11 +17,11 @@ module _ (c : Contents) (k : Foresight) (slots : ℕ) where
   abbrev size : ℕ
   size = slotRoom (c .fluents + c .characters)
 
-  pub laid-fits : 0 < c .characters → (c .fluents ≤ 24) × (c .characters ≤ 6) × (slots ≤ 27) → Laid (laidOut c k slots)
+  pub laid-fits : 0 < c .characters → (c .fluents ≤ 24) × (c .characters ≤ 6) × (slots ≤ 30) → Laid (laidOut c k slots)
   laid-fits some (fluents, characters, few) =
-      let most : slots * size ≤ 27 * size = mul-le-mul-right size few in
-      let all = div-add-mod (scratchAt - 2482 - slots * size) 255 in
-      let rest : (scratchAt - 2482 - slots * size) % 255 < 255 = mod-lt (scratchAt - 2482 - slots * size) (omega arith) in
+      let most : slots * size ≤ 30 * size = mul-le-mul-right size few in
+      let all = div-add-mod (scratchAt - 4404 - slots * size) 255 in
+      let rest : (scratchAt - 4404 - slots * size) % 255 < 255 = mod-lt (scratchAt - 4404 - slots * size) (omega arith) in
       record {
         narrow = omega arith;
         wide = omega arith;

@@ -44,18 +44,10 @@ module _ {T : List Node} {pack : List ℕ} {first nodes : ℕ} {h : Context} {wo
       pub lay-down : Apart 2400 1 (r * w) × (2400 + r * w ≤ length (set mid′ 0 r)) × (1 + r * w ≤ length (set mid′ 0 r))
       lay-down = let room = length-set mid′ 0 r ∙ long ∙ y .long in (omega (arith, merged-size), omega (arith, merged-size, room, x .room), omega (arith, merged-size, room, x .room))
 
-      -- the memory is emptied in two parts
-      module _ {now half then : List ℕ} (c : PartCopied (set mid′ 0 r) now 2400 1 (r * w)) (one : Cleared now half (h .memory) 690) (two : Cleared half then (h .memory + 690) 1792) where
+      -- the memory is emptied
+      module _ {now then : List ℕ} (c : PartCopied (set mid′ 0 r) now 2400 1 (r * w)) (whole : Cleared now then (h .memory) 4404) where
         low : (q : ℕ) → q < h .memory → getD then q 0 ≡ getD now q 0
-        low q l = two .low q (omega (arith, l)) ∙ one .low q l
-
-        all-clear : (q : ℕ) → q < 2482 → getD then (h .memory + q) 0 ≡ 0
-        all-clear q l = by-cases (decLt q 690)
-            (λ k. two .low (h .memory + q) (omega (arith, k)) ∙ one .clear q k)
-            (λ k. let e : h .memory + q ≡ h .memory + 690 + (q - 690) = omega (arith, k) in ap (λ (i : ℕ). getD then i 0) e ∙ two .clear (q - 690) (omega (arith, k, l)))
-
-        whole : Cleared now then (h .memory) 2482
-        whole = record { clear = all-clear; low = low; high = λ q l. two .high q (omega (arith, l)) ∙ one .high q (omega (arith, l)) }
+        low = whole .low
 
         -- what lies behind the work buffer is as it was
         behind : (q : ℕ) → workRoom ≤ q → getD then q 0 ≡ getD work q 0

@@ -24,10 +24,10 @@ use Rattle.chart.specs.Laws.Cells.{rows-same, row-in, rows-most}
 use Rattle.planner.specs.declared.limits.Context.{Context}
 use Rattle.planner.specs.declared.entry.Key.{Key}
 use Rattle.planner.specs.Inner.Lists.{slotTable}
-use Rattle.planner.specs.Inner.Memory.{Laid, takenAt, stepsAt, factsAt, tablesAt, keptAt, keptTable, Kept, HasId, StepFact, Fact, keyAt, SlotEntry, StepEntry, FactEntry, Memory, Place, Before, InSlot, Only, Stored, Interning, Storable, KeyPut, Recalled, Remembered, StepRead, StepPut, Noted, Slot, Again, LeftNoted}
+use Rattle.planner.specs.Inner.Memory.{Laid, idAt, takenAt, stepsAt, factsAt, tablesAt, keptAt, keptTable, Kept, HasId, StepFact, Fact, keyAt, SlotEntry, StepEntry, FactEntry, Memory, slotId, entryAt, stepAt, Place, Before, InSlot, Fits, Only, Unasked, Stored, Interning, Identified, Sought, Storable, KeyPut, FactRead, FactKnown, Recalls, Notes, Recalled, Remembered, StepRead, StepKnown, StepPut, Noted, Slot, Again, LeftNoted, StepOnce}
 
 -- a mark that says nothing
-pub fact-none : (th : Theory) (K : ℕ) (k : Key) (s : State) → Fact th K 0 k s
+pub fact-none : (th : Theory) (K : ℕ) (k : Key) (s : ℕ → State) → Fact th K 0 k s
 fact-none th K k s = record { no = λ e. absurd (omega (arith, e)); yes = λ e. absurd (omega (arith, e)); none = λ e. absurd (omega (arith, e)); unexplained = λ e. absurd (omega (arith, e)); explained = λ e. absurd (omega (arith, e)) }
 
 -- a flag that is not set
@@ -92,12 +92,12 @@ module _ (was : List ℕ) (a m w n l b : ℕ) (room : a + 6 ≤ length was) wher
   }
 
 -- a fact of the same mark, key and state
-pub fact-same : (th : Theory) (K : ℕ) {m m′ : ℕ} {k k′ : Key} {s s′ : State} → m ≡ m′ → k ≡ k′ → s ≡ s′ → Fact th K m k s → Fact th K m′ k′ s′
-fact-same th K {m} {m′} {k} {k′} {s} {s′} e f g x = subst (λ (m : ℕ). Fact th K m k′ s′) e (subst (λ (k : Key). Fact th K m k s′) f (subst (λ (s : State). Fact th K m k s) g x))
+pub fact-same : (th : Theory) (K : ℕ) {m m′ : ℕ} {k k′ : Key} {s s′ : ℕ → State} → m ≡ m′ → k ≡ k′ → s ≡ s′ → Fact th K m k s → Fact th K m′ k′ s′
+fact-same th K {m} {m′} {k} {k′} {s} {s′} e f g x = subst (λ (m : ℕ). Fact th K m k′ s′) e (subst (λ (k : Key). Fact th K m k s′) f (subst (λ (s : ℕ → State). Fact th K m k s) g x))
 
--- the state of the first row of a table
-pub first-same : (c : ℕ) {t u : List Node} → t ≡ u → meaning c t 0 ≡ meaning c u 0
-first-same c e = ap (λ (t : List Node). meaning c t 0) e
+-- what the rows of a table mean
+pub rows-mean : (c : ℕ) {t u : List Node} → t ≡ u → meaning c t ≡ meaning c u
+rows-mean c e = ap (λ (t : List Node). meaning c t) e
 
 -- of two multiples of a stride the greater is a stride further
 pub stride-on : (s : ℕ) {i j : ℕ} → i < j → s * i + s ≤ s * j
@@ -107,12 +107,12 @@ stride-on s {i} {j} l = let next : i + 1 ≤ j = omega (arith, l) in omega (arit
 pub part-most : (n d : ℕ) → 0 < d → n / d ≤ n
 part-most n d l = let one : 1 ≤ d = omega (arith, l) in omega (arith, div-add-mod n d, mul-le-mul-right (n / d) one)
 
--- a number lies behind one multiple of a stride
-pub stride-one : (s : ℕ) {a b r r′ : ℕ} → s * a + r ≡ s * b + r′ → r < s → r′ < s → a ≡ b
-stride-one s {a} {b} e l g = by-cases (decLe (a + 1) b) (λ k. absurd (omega (arith, e, l, g, stride-on s {i = a} {j = b} (omega (arith, k))))) (λ k. by-cases (decLe (b + 1) a) (λ m. absurd (omega (arith, e, l, g, stride-on s {i = b} {j = a} (omega (arith, m))))) (λ m. omega (arith, k, m)))
+-- the place that a number leads to
+pub placed : (count : ℕ) → 0 < count → (first size x : ℕ) → Place count first size (first + size * (x % count))
+placed count some first size x = record { number = x % count; few = mod-lt x some; is = refl }
 
 -- ids, steps and facts that are forgotten
-pub emptied : (h : Context) {was now : List ℕ} → Cleared was now (h .memory) 2482 → (q : ℕ) → h .memory ≤ q → q < tablesAt h → getD now q 0 ≡ 0
+pub emptied : (h : Context) {was now : List ℕ} → Cleared was now (h .memory) 4404 → (q : ℕ) → h .memory ≤ q → q < tablesAt h → getD now q 0 ≡ 0
 emptied h {was} {now} x q low high = let y : q ≡ h .memory + (q - (h .memory)) = omega (arith, low) in ap (λ (q : ℕ). getD now q 0) y ∙ x .clear (q - (h .memory)) (omega (arith, low, high))
 
 -- tables that are kept stay as they are
@@ -129,9 +129,16 @@ module _ (h : Context) where
   abbrev w : ℕ
   w = h .fluents + h .characters
 
-  -- slots before the memory are fewer than 48
-  pub slot-within : Laid h → (i : ℕ) → h .stride * i + h .stride ≤ h .memory → h .memory + i < h .memory + 48
-  slot-within laid i l = by-cases (decLe 48 i) (λ k. absurd (omega (arith, l, laid .few, laid .wide, mul-le-mul-left (h .stride) k))) (λ k. omega (arith, k))
+  -- where the id of a slot before the memory stands
+  slot-place : Laid h → (i : ℕ) → h .stride * i < h .memory → idAt h (h .stride * i + 1) ≡ h .memory + (i + 1)
+  slot-place laid i l =
+      let few : i < 30 = by-cases (decLe 30 i) (λ k. absurd (omega (arith, l, laid .few, mul-le-mul-left (h .stride) k))) (λ k. omega (arith, k)) in
+      let all : h .stride * i ≡ i + 32 * (w * i) = ap (λ (s : ℕ). s * i) (sym (laid .wide)) ∙ omega arith in
+      omega (arith, few, all)
+
+  -- another has its id elsewhere
+  slot-apart : Laid h → {i j : ℕ} → h .stride * i < h .memory → h .stride * j < h .memory → idAt h (h .stride * i + 1) ≡ idAt h (h .stride * j + 1) → i ≡ j
+  slot-apart laid {i} {j} l g e = omega (arith, slot-place laid i l, slot-place laid j g, e)
 
   -- the table of an id begins no earlier than the tables
   pub kept-from : (n : ℕ) → 0 < n → tablesAt h ≤ keptAt h n
@@ -199,10 +206,10 @@ module _ (h : Context) where
     }
 
     -- entries whose bytes stay
-    slot-entry : {limit : ℕ} → Laid h → ((q : ℕ) → q < limit → getD now q 0 ≡ getD was q 0) → (i : ℕ) → h .stride * i + h .stride ≤ limit → getD now (h .memory + i) 0 ≡ getD was (h .memory + i) 0 → SlotEntry h was i → SlotEntry h now i
+    slot-entry : {limit : ℕ} → Laid h → ((q : ℕ) → q < limit → getD now q 0 ≡ getD was q 0) → (i : ℕ) → h .stride * i + h .stride ≤ limit → getD now (idAt h (h .stride * i + 1)) 0 ≡ getD was (idAt h (h .stride * i + 1)) 0 → SlotEntry h was i → SlotEntry h now i
     slot-entry laid low i l e f z =
         let x = f (omega (arith, e, z)) in
-        let most : getD was (keptAt h (getD was (h .memory + i) 0)) 0 * w ≤ 32 * w = mul-le-mul-right w (x .kept .few) in
+        let most : getD was (keptAt h (getD was (idAt h (h .stride * i + 1)) 0)) 0 * w ≤ 32 * w = mul-le-mul-right w (x .kept .few) in
         let size : 1 + getD was (h .stride * i) 0 * w ≤ h .stride = omega (arith, most, laid .wide, ap (λ (n : ℕ). n * w) (x .count)) in
         subst (HasId h now (slotTable h now (h .stride * i))) (sym e) (named-grown (sym (low (h .stride * i) (omega (arith, l)))) (table-moved was now (h .stride * i) (h .stride * i) (λ j m. low (h .stride * i + j) (omega (arith, l, m, size)))) x)
 
@@ -219,18 +226,18 @@ module _ (h : Context) where
     fact-entry {th} {K} a e f z =
         let e6 = e (a + 6) (omega arith) (omega arith) in
         let (k, x) = f (omega (arith, e6, z)) in
-        subst (λ (n : ℕ). Kept h now n × Fact th K (getD now a 0) (keyAt now a) (stateOf (keptTable h now n) now 0)) (sym e6) (
+        subst (λ (n : ℕ). Kept h now n × Fact th K (getD now a 0) (keyAt now a) (stateOf (keptTable h now n) now)) (sym e6) (
           kept-grown k,
           fact-same th K (sym (e a (omega arith) (omega arith)))
               (key-same (sym (e (a + 1) (omega arith) (omega arith))) (sym (e (a + 2) (omega arith) (omega arith))) (sym (e (a + 3) (omega arith) (omega arith))) (omega (arith, e (a + 4) (omega arith) (omega arith), e (a + 5) (omega arith) (omega arith))))
-              (first-same (h .characters) (sym (kept-table k))) x,
+              (rows-mean (h .characters) (sym (kept-table k))) x,
         )
 
     -- the memory where tables that are kept and all but some entries stay
     pub memory-but : {th : Theory} {K limit : ℕ} → ((q : ℕ) → q < limit → getD now q 0 ≡ getD was q 0)
-        → ((i : ℕ) → h .stride * i + h .stride ≤ limit → (getD now (h .memory + i) 0 ≡ getD was (h .memory + i) 0) ⊎ SlotEntry h now i)
+        → ((i : ℕ) → h .stride * i + h .stride ≤ limit → (getD now (idAt h (h .stride * i + 1)) 0 ≡ getD was (idAt h (h .stride * i + 1)) 0) ⊎ SlotEntry h now i)
         → ((i : ℕ) → i < 128 → ((q : ℕ) → stepsAt h + 4 * i ≤ q → q < stepsAt h + 4 * i + 4 → getD now q 0 ≡ getD was q 0) ⊎ StepEntry th h now (stepsAt h + 4 * i))
-        → ((i : ℕ) → i < 256 → ((q : ℕ) → factsAt h + 7 * i ≤ q → q < factsAt h + 7 * i + 7 → getD now q 0 ≡ getD was q 0) ⊎ FactEntry th K h now (factsAt h + 7 * i)) → Memory th K h limit was → Memory th K h limit now
+        → ((i : ℕ) → i < 512 → ((q : ℕ) → factsAt h + 7 * i ≤ q → q < factsAt h + 7 * i + 7 → getD now q 0 ≡ getD was q 0) ⊎ FactEntry th K h now (factsAt h + 7 * i)) → Memory th K h limit was → Memory th K h limit now
     memory-but low a b c m = record {
       laid = m .laid;
       within = g .within (m .within);
@@ -240,18 +247,25 @@ module _ (h : Context) where
     }
 
     -- entries all stay
-    pub memory-quiet : {th : Theory} {K limit : ℕ} → Laid h → limit ≤ h .memory → ((q : ℕ) → q < limit → getD now q 0 ≡ getD was q 0) → ((q : ℕ) → h .memory ≤ q → q < takenAt h → getD now q 0 ≡ getD was q 0) → ((q : ℕ) → stepsAt h ≤ q → q < tablesAt h → getD now q 0 ≡ getD was q 0) → Memory th K h limit was → Memory th K h limit now
-    memory-quiet laid few low ids mid = memory-but low (λ i l. inl (ids (h .memory + i) (omega arith) (slot-within laid i (omega (arith, few, l))))) (λ i l. inl (λ q a b. mid q (omega (arith, a)) (omega (arith, b, l)))) (λ i l. inl (λ q a b. mid q (omega (arith, a)) (omega (arith, b, l))))
+    pub memory-quiet : {th : Theory} {K limit : ℕ} → ((q : ℕ) → q < limit → getD now q 0 ≡ getD was q 0) → ((q : ℕ) → h .memory ≤ q → q < takenAt h → getD now q 0 ≡ getD was q 0) → ((q : ℕ) → stepsAt h ≤ q → q < tablesAt h → getD now q 0 ≡ getD was q 0) → Memory th K h limit was → Memory th K h limit now
+    memory-quiet low ids mid = memory-but low (λ i l. inl (ids (idAt h (h .stride * i + 1)) (omega arith) (omega arith))) (λ i l. inl (λ q a b. mid q (omega (arith, a)) (omega (arith, b, l)))) (λ i l. inl (λ q a b. mid q (omega (arith, a)) (omega (arith, b, l))))
 
   -- nothing is known
-  pub memory-clear : {th : Theory} {K limit : ℕ} {now : List ℕ} → Laid h → limit ≤ h .memory → ((q : ℕ) → h .memory ≤ q → q < tablesAt h → getD now q 0 ≡ 0) → Memory th K h limit now
-  memory-clear laid few f = record {
+  pub memory-clear : {th : Theory} {K limit : ℕ} {now : List ℕ} → Laid h → ((q : ℕ) → h .memory ≤ q → q < tablesAt h → getD now q 0 ≡ 0) → Memory th K h limit now
+  memory-clear laid f = record {
     laid = laid;
     within = omega (arith, ap (λ (k : ℕ). h .block * k) (f (takenAt h) (omega arith) (omega arith)), laid .room);
-    slots = λ i l z. absurd (omega (arith, z, f (h .memory + i) (omega arith) (omega (arith, slot-within laid i (omega (arith, few, l))))));
+    slots = λ i l z. absurd (omega (arith, z, f (idAt h (h .stride * i + 1)) (omega arith) (omega arith)));
     steps = λ i l z. absurd (omega (arith, z, f (stepsAt h + 4 * i) (omega arith) (omega (arith, l))));
     facts = λ i l z. absurd (omega (arith, z, f (factsAt h + 7 * i + 6) (omega arith) (omega (arith, l))));
   }
+
+  -- only what nothing is asked of changes
+  pub memory-unasked : {th : Theory} {K limit : ℕ} {was now : List ℕ} → Unasked h was now → limit ≤ h .memory → Memory th K h limit was → Memory th K h limit now
+  memory-unasked u few m = memory-quiet (grown-by (u .low (takenAt h) (omega arith)) (λ q l. u .high q (omega (arith, l)))) (λ q l. u .low q (omega (arith, l, few))) (λ q _ l. u .low q (omega (arith, l))) (λ q l _. u .high q l) m
+
+  pub unasked-only : {was now : List ℕ} → Laid h → Unasked h was now → Only h was now
+  unasked-only laid u = record { low = λ q l. u .low q (omega (arith, l)); high = λ q l. u .high q (omega (arith, l, laid .room)) }
 
   -- fewer slots
   pub memory-fewer : {th : Theory} {K limit limit′ : ℕ} {now : List ℕ} → limit′ ≤ limit → Memory th K h limit now → Memory th K h limit′ now
@@ -277,8 +291,8 @@ module _ (h : Context) where
     pub before-now : {was now : List ℕ} → length now ≡ length was → Before h was t → Before h now t
     before-now long b = record { laid = b .laid; fluents = b .fluents; characters = b .characters; wide = b .wide; narrow = b .narrow; few = b .few; before = b .before; room = omega (arith, long, b .room) }
 
-    pub stored-known : {was : List ℕ} {r : ℕ} → r < 256 → HasId h was t r → Stored h t was was r
-    stored-known small x = record { small = small; named = λ z. x; only = record { low = λ q l. refl; high = λ q l. refl }; memory = λ p K limit few m. m }
+    pub stored-found : {was : List ℕ} {r : ℕ} → r < 256 → (0 < r → HasId h was t r) → Stored h t was was r
+    stored-found small x = record { small = small; named = x; only = record { low = λ q l. refl; high = λ q l. refl }; memory = λ p K limit few m. m }
 
     pub stored-none : {was : List ℕ} → Stored h t was was 0
     stored-none = record { small = omega arith; named = λ z. absurd (omega (arith, z)); only = record { low = λ q l. refl; high = λ q l. refl }; memory = λ p K limit few m. m }
@@ -329,20 +343,22 @@ module _ (h : Context) where
           small = omega (arith, fits, is);
           named = λ z. kept-as (before-now (length-set mid (takenAt h) v ∙ long) b) (taken + 1) (omega arith) (omega (arith, ap (λ (k : ℕ). h .block * k) new-taken, new-end)) new-count new-byte;
           only = record { low = λ q l. below q (λ z. omega (arith, z, l)) (omega (arith, l)); high = λ q l. above q (omega (arith, l, new-end, new-room)) };
-          memory = λ p K limit few m. memory-quiet (record { taken = omega (arith, new-taken, is, e); within = λ l. omega (arith, ap (λ (k : ℕ). h .block * k) new-taken, new-room); tables = λ q low high. below q (λ z. omega (arith, z, low)) (omega (arith, high, ap (λ (k : ℕ). h .block * k) e)) }) (m .laid) few (λ q l. below q (λ z. omega (arith, z, l, few)) (omega (arith, l, few))) (λ q low high. below q (λ z. omega (arith, z, high)) (omega (arith, high))) (λ q low high. below q (λ z. omega (arith, z, low)) (omega (arith, high))) m;
+          memory = λ p K limit few m. memory-quiet (record { taken = omega (arith, new-taken, is, e); within = λ l. omega (arith, ap (λ (k : ℕ). h .block * k) new-taken, new-room); tables = λ q low high. below q (λ z. omega (arith, z, low)) (omega (arith, high, ap (λ (k : ℕ). h .block * k) e)) }) (λ q l. below q (λ z. omega (arith, z, l, few)) (omega (arith, l, few))) (λ q low high. below q (λ z. omega (arith, z, high)) (omega (arith, high))) (λ q low high. below q (λ z. omega (arith, z, low)) (omega (arith, high))) m;
         }
 
     -- all else is forgotten first
-    pub stored-anew : {was mid cleared now : List ℕ} {r : ℕ} → Laid h → Only h was mid → Cleared mid cleared (h .memory) 2482 → Stored h t cleared now r → Stored h t was now r
-    stored-anew {was} {mid} {cleared} {now} laid o c x = record {
-      small = x .small;
-      named = x .named;
-      only = record { low = λ q l. x .only .low q l ∙ c .low q l ∙ o .low q l; high = λ q l. x .only .high q l ∙ c .high q (omega (arith, l, laid .room)) ∙ o .high q l };
-      memory = λ p K limit few m. x .memory p K limit few (memory-clear (m .laid) few (emptied h c));
-    }
+    pub stored-anew : {was mid cleared now : List ℕ} {r : ℕ} → Laid h → Only h was mid → Cleared mid cleared (h .memory) 4404 → Stored h t (set cleared (h .memory + 49) 1) now r → Stored h t was now r
+    stored-anew {was} {mid} {cleared} {now} laid o c x =
+        let other : (q : ℕ) → q ≢ h .memory + 49 → getD (set cleared (h .memory + 49) 1) q 0 ≡ getD cleared q 0 = λ q n. getD-set-other cleared (h .memory + 49) q 1 0 n in
+        record {
+          small = x .small;
+          named = x .named;
+          only = record { low = λ q l. x .only .low q l ∙ other q (λ z. omega (arith, z, l)) ∙ c .low q l ∙ o .low q l; high = λ q l. x .only .high q l ∙ other q (λ z. omega (arith, z, l, laid .room)) ∙ c .high q (omega (arith, l, laid .room)) ∙ o .high q l };
+          memory = λ p K limit few m. x .memory p K limit few (memory-unasked {was = cleared} (record { low = λ q l. other q (λ z. omega (arith, z, l)); high = λ q l. other q (λ z. omega (arith, z, l)) }) few (memory-clear (m .laid) (emptied h c)));
+        }
 
     -- an id found by a hash
-    pub stored-hashed : {was mid : List ℕ} {r q : ℕ} (v : ℕ) → Before h mid t → Stored h t was mid r → h .memory + 50 ≤ q → q < stepsAt h → Stored h t was (set mid q v) r
+    pub stored-hashed : {was mid : List ℕ} {r q : ℕ} (v : ℕ) → Before h mid t → Stored h t was mid r → h .memory + 52 ≤ q → q < stepsAt h → Stored h t was (set mid q v) r
     stored-hashed {was} {mid} {r} {q} v b x low high =
         let other : (a : ℕ) → a ≢ q → getD (set mid q v) a 0 ≡ getD mid a 0 = λ a n. getD-set-other mid q a v 0 n in
         let g : Grown h mid (set mid q v) = grown-by (other (takenAt h) (λ z. omega (arith, z, low))) (λ a l. other a (λ z. omega (arith, z, l, high))) in
@@ -350,48 +366,36 @@ module _ (h : Context) where
           small = x .small;
           named = λ z. named-grown g refl (before-same (set mid q v) b (λ a l. other a (λ z. omega (arith, z, l, low)))) (x .named z);
           only = record { low = λ a l. other a (λ z. omega (arith, z, l, low)) ∙ x .only .low a l; high = λ a l. other a (λ z. omega (arith, z, l, high)) ∙ x .only .high a l };
-          memory = λ p K limit few m. memory-quiet g (m .laid) few (λ a l. other a (λ z. omega (arith, z, l, few, low))) (λ a _ l. other a (λ z. omega (arith, z, l, low))) (λ a l _. other a (λ z. omega (arith, z, l, high))) (x .memory p K limit few m);
+          memory = λ p K limit few m. memory-quiet g (λ a l. other a (λ z. omega (arith, z, l, few, low))) (λ a _ l. other a (λ z. omega (arith, z, l, low))) (λ a l _. other a (λ z. omega (arith, z, l, high))) (x .memory p K limit few m);
         }
 
-    -- the number of a slot
-    slot-number : {work : List ℕ} {limit : ℕ} → Laid h → (x : InSlot h work t limit) → t .rows / h .stride ≡ x .number
-    slot-number laid x =
-        let all = div-add-mod (t .rows) (h .stride) in
-        let rest : t .rows % h .stride < h .stride = mod-lt (t .rows) (omega (arith, laid .wide)) in
-        stride-one (h .stride) {a = t .rows / h .stride} {b = x .number} {r = t .rows % h .stride} {r′ = 1} (omega (arith, all, x .rows)) rest (laid .some)
-
-    -- it is below 48
-    pub row-index : {work : List ℕ} → Before h work t → t .rows / h .stride ≤ 47
-    row-index b =
-        let all = div-add-mod (t .rows) (h .stride) in
-        by-cases (decLe 48 (t .rows / h .stride)) (λ k. absurd (omega (arith, all, b .before, b .laid .few, mul-le-mul-left (h .stride) k))) (λ k. omega (arith, k))
+    -- where the id of a table in a slot stands
+    slot-id-at : {work : List ℕ} {limit : ℕ} → (x : InSlot h work t limit) → idAt h (t .rows) ≡ idAt h (h .stride * x .number + 1)
+    slot-id-at x = ap (idAt h) (x .rows)
 
     -- a table that is known by its slot
-    pub slot-named : {was : List ℕ} {p : Theory} {K limit r : ℕ} → Before h was t → getD was (h .memory + t .rows / h .stride) 0 ≡ r → InSlot h was t limit → Memory p K h limit was → 0 < r → HasId h was t r
+    pub slot-named : {was : List ℕ} {p : Theory} {K limit r : ℕ} → Before h was t → slotId h was t ≡ r → InSlot h was t limit → Memory p K h limit was → 0 < r → HasId h was t r
     slot-named {was} {r = r} b e x m z =
-        let e′ : getD was (h .memory + x .number) 0 ≡ r = ap (λ (i : ℕ). getD was (h .memory + i) 0) (sym (slot-number (b .laid) x)) ∙ e in
+        let e′ : getD was (idAt h (h .stride * x .number + 1)) 0 ≡ r = ap (λ (q : ℕ). getD was q 0) (sym (slot-id-at x)) ∙ e in
         let y = m .slots (x .number) (x .before) (omega (arith, e′, z)) in
         subst (HasId h was t) e′ (record { kept = y .kept; count = y .count ∙ x .counted; same = y .same ∙ slot-table b x })
 
-    pub naming-known : {was : List ℕ} {r : ℕ} → Before h was t → r < 256 → getD was (h .memory + t .rows / h .stride) 0 ≡ r → Interning h t was was r
-    naming-known b small e = record { small = small; only = record { low = λ q l. refl; high = λ q l. refl }; told = λ p K limit few x m. (m, slot-named b e x m) }
+    pub naming-known : {was : List ℕ} {r : ℕ} → Before h was t → r < 256 → 0 < r → slotId h was t ≡ r → Interning h t was was r
+    naming-known b small some e = record { small = small; stands = e; kept = λ _. some; only = record { low = λ q l. refl; high = λ q l. refl }; told = λ p K limit few x m. (m, slot-named b e x m) }
 
     -- and is from now on
     module _ {was mid : List ℕ} {r : ℕ} (long : length mid ≡ length was) (b : Before h was t) (x : Stored h t was mid r) where
       abbrev at : ℕ
-      at = h .memory + t .rows / h .stride
+      at = idAt h (t .rows)
 
       abbrev now : List ℕ
       now = set mid at r
-
-      index : t .rows / h .stride ≤ 47
-      index = row-index b
 
       other : (q : ℕ) → q ≢ at → getD now q 0 ≡ getD mid q 0
       other q n = getD-set-other mid at q r 0 n
 
       grown : Grown h mid now
-      grown = grown-by (other (takenAt h) (λ z. omega (arith, z, index))) (λ q l. other q (λ z. omega (arith, z, l, index)))
+      grown = grown-by (other (takenAt h) (λ z. omega (arith, z))) (λ q l. other q (λ z. omega (arith, z, l)))
 
       kept-now : tableOf t now ≡ tableOf t mid
       kept-now = before-same now (before-now long b) (λ q l. other q (λ z. omega (arith, z, l)))
@@ -399,48 +403,101 @@ module _ (h : Context) where
       named : 0 < r → HasId h now t r
       named z = named-grown grown refl kept-now (x .named z)
 
-      slots : {limit : ℕ} → InSlot h was t limit → (i : ℕ) → (getD now (h .memory + i) 0 ≡ getD mid (h .memory + i) 0) ⊎ SlotEntry h now i
-      slots s i = by-cases (ℕ-discrete i (s .number))
+      slots : {limit : ℕ} → InSlot h was t limit → (i : ℕ) → h .stride * i < h .memory → (getD now (idAt h (h .stride * i + 1)) 0 ≡ getD mid (idAt h (h .stride * i + 1)) 0) ⊎ SlotEntry h now i
+      slots s i l = by-cases (ℕ-discrete i (s .number))
           (λ e. inr (λ z.
-          let here : getD now (h .memory + i) 0 ≡ r = ap (λ (i : ℕ). getD now (h .memory + i) 0) (e ∙ sym (slot-number (b .laid) s)) ∙ getD-set-same mid at r 0 (omega (arith, long, b .room, index)) in
+          let here : getD now (idAt h (h .stride * i + 1)) 0 ≡ r = ap (λ (i : ℕ). getD now (idAt h (h .stride * i + 1)) 0) e ∙ ap (λ (q : ℕ). getD now q 0) (sym (slot-id-at s)) ∙ getD-set-same mid at r 0 (omega (arith, long, b .room)) in
           let y = named (omega (arith, here, z)) in
           let back : (q : ℕ) → q < h .memory → getD now q 0 ≡ getD was q 0 = λ q l. other q (λ z. omega (arith, z, l)) ∙ x .only .low q l in
           let s′ : InSlot h now t (h .stride * s .number + h .stride) = record { number = s .number; rows = s .rows; counted = back (h .stride * s .number) (omega (arith, s .rows, b .before)) ∙ s .counted; before = omega arith } in
           subst (HasId h now (slotTable h now (h .stride * i))) (sym here)
           (subst (λ (i : ℕ). HasId h now (slotTable h now (h .stride * i)) r) (sym e)
           (record { kept = y .kept; count = y .count ∙ sym (s′ .counted); same = y .same ∙ sym (slot-table (before-now (length-set mid at r ∙ long) b) s′) }))))
-          (λ n. inl (other (h .memory + i) (λ z. n (omega (arith, z, slot-number (b .laid) s)))))
+          (λ n. inl (other (idAt h (h .stride * i + 1)) (λ z. n (slot-apart (b .laid) l (omega (arith, s .rows, b .before)) (z ∙ slot-id-at s)))))
 
-      pub naming-new : Interning h t was now r
-      naming-new = record {
+      slot-only : Only h was now
+      slot-only = record { low = λ q l. other q (λ z. omega (arith, z, l)) ∙ x .only .low q l; high = λ q l. other q (λ z. omega (arith, z, l)) ∙ x .only .high q l }
+
+      slot-stands : slotId h now t ≡ r
+      slot-stands = getD-set-same mid at r 0 (omega (arith, long, b .room))
+
+      slot-memory : {p : Theory} {K limit : ℕ} → limit ≤ h .memory → InSlot h was t limit → Memory p K h limit was → Memory p K h limit now
+      slot-memory {p} {K} {limit} few s m = memory-but grown (λ q l. other q (λ z. omega (arith, z, l, few))) (λ i l. slots s i (omega (arith, l, few, b .laid .some))) (λ i l. inl (λ q a b. other q (λ z. omega (arith, z, a)))) (λ i l. inl (λ q a b. other q (λ z. omega (arith, z, a)))) (x .memory p K limit few m)
+
+      -- an id that is looked for
+      pub naming-found : slotId h was t ≡ 0 → Sought h t was now r
+      naming-found unknown = record {
         small = x .small;
-        only = record { low = λ q l. other q (λ z. omega (arith, z, l)) ∙ x .only .low q l; high = λ q l. other q (λ z. omega (arith, z, l, index)) ∙ x .only .high q l };
-        told = λ p K limit few s m. (memory-but grown (λ q l. other q (λ z. omega (arith, z, l, few))) (λ i l. slots s i) (λ i l. inl (λ q a b. other q (λ z. omega (arith, z, a, index)))) (λ i l. inl (λ q a b. other q (λ z. omega (arith, z, a, index)))) (x .memory p K limit few m), λ z. named z);
+        stands = slot-stands;
+        known = λ z. absurd (omega (arith, z, unknown));
+        only = slot-only;
+        told = λ p K limit few s m. (slot-memory few s m, named);
       }
 
+      pub naming-new : (Fits h t → 0 < r) → Interning h t was now r
+      naming-new fits = record {
+        kept = fits;
+        small = x .small;
+        stands = slot-stands;
+        only = slot-only;
+        told = λ p K limit few s m. (slot-memory few s m, named);
+      }
+
+    -- an id that is kept is one that is looked for
+    pub sought : {was now : List ℕ} {r : ℕ} → Interning h t was now r → (0 < slotId h was t → now ≡ was) → Sought h t was now r
+    sought x known = record { small = x .small; stands = x .stands; known = known; only = x .only; told = x .told }
+
     -- what is known by an id is known of the table
+    pub named-rows : {work : List ℕ} {n : ℕ} → Before h work t → HasId h work t n → stateOf (keptTable h work n) work ≡ stateOf t work
+    named-rows {work} {n} b x = ap (λ (c : ℕ). meaning c (tableOf (keptTable h work n) work)) (b .characters) ∙ rows-mean (t .characters) (x .same)
+
     pub named-state : {work : List ℕ} {n : ℕ} → Before h work t → HasId h work t n → (root : ℕ) → stateOf (keptTable h work n) work root ≡ stateOf t work root
-    named-state {work} {n} b x root = ap (λ (c : ℕ). meaning c (tableOf (keptTable h work n) work) root) (b .characters) ∙ ap (λ (U : List Node). meaning (t .characters) U root) (x .same)
+    named-state {work} {n} b x root = ap (λ (s : ℕ → State). s root) (named-rows b x)
 
     module _ {was : List ℕ} (b : Before h was t) where
-      pub recalled-none : {mid : List ℕ} {k : Key} {r : ℕ} → Interning h t was mid r → Recalled h t k was mid 0
-      recalled-none x = record { only = x .only; told = λ p K limit few s m. (x .told p K limit few s m .0, fact-none p K _ _) }
+      -- what stands at the place of the slot's id
+      module _ {mid : List ℕ} {k : Key} {r a m : ℕ} (x : Sought h t was mid r) (e : a ≡ entryAt h r k) where
+        pub fact-here : FactKnown h mid t k m → FactRead mid a r k m
+        fact-here f = subst (λ (a : ℕ). FactRead mid a r k m) (sym e) (subst (λ (n : ℕ). FactRead mid (entryAt h n k) n k m) (x .stands) f)
 
-      pub recalled : {mid : List ℕ} {k : Key} {r a : ℕ} → length mid ≡ length was → Interning h t was mid r → 0 < r → Place 256 (factsAt h) 7 a → getD mid (a + 6) 0 ≡ r → keyAt mid a ≡ k → Recalled h t k was mid (getD mid a 0)
-      recalled {mid} {k} {r} {a} long x some place e key = record {
+        fact-there : FactRead mid a r k m → FactKnown h mid t k m
+        fact-there f = subst (λ (n : ℕ). FactRead mid (entryAt h n k) n k m) (sym (x .stands)) (subst (λ (a : ℕ). FactRead mid a r k m) e f)
+
+      pub recalled-none : {mid : List ℕ} {k : Key} {r : ℕ} → Sought h t was mid r → ((m : ℕ) → ¬ FactKnown h mid t k m) → Recalled h t k was mid 0 × Recalls h t k was mid 0
+      recalled-none x none = (record { only = x .only; told = λ p K limit few s m. (x .told p K limit few s m .0, fact-none p K _ _) }, record { found = λ m f. absurd (none m f); none = λ _. refl; same = x .known })
+
+      -- nothing is asked
+      pub recalled-nothing : {k : Key} → Recalled h t k was was 0
+      recalled-nothing = record { only = record { low = λ q l. refl; high = λ q l. refl }; told = λ p K limit few s m. (m, fact-none p K _ _) }
+
+      recalled-true : {mid : List ℕ} {k : Key} {r a : ℕ} → length mid ≡ length was → Sought h t was mid r → 0 < r → Place 512 (factsAt h) 7 a → getD mid (a + 6) 0 ≡ r → keyAt mid a ≡ k → Recalled h t k was mid (getD mid a 0)
+      recalled-true {mid} {k} {r} {a} long x some place e key = record {
         only = x .only;
         told = λ p K limit few s m.
             let (m′, named) = x .told p K limit few s m in
             let e′ : getD mid (factsAt h + 7 * place .number + 6) 0 ≡ r = ap (λ (a : ℕ). getD mid (a + 6) 0) (sym (place .is)) ∙ e in
             let (kept, fact) = m′ .facts (place .number) (place .few) (omega (arith, e′, some)) in
-            let here = subst (λ (a : ℕ). Fact p K (getD mid a 0) (keyAt mid a) (stateOf (keptTable h mid (getD mid (a + 6) 0)) mid 0)) (sym (place .is)) fact in
-            (m′, fact-same p K refl key (first-same (h .characters) (ap (λ (n : ℕ). tableOf (keptTable h mid n) mid) e) ∙ named-state (before-now long b) (named some) 0 ∙ first-same (t .characters) (before-same mid b (x .only .low))) here);
+            let here = subst (λ (a : ℕ). Fact p K (getD mid a 0) (keyAt mid a) (stateOf (keptTable h mid (getD mid (a + 6) 0)) mid)) (sym (place .is)) fact in
+            (m′, fact-same p K refl key (rows-mean (h .characters) (ap (λ (n : ℕ). tableOf (keptTable h mid n) mid) e) ∙ named-rows (before-now long b) (named some) ∙ rows-mean (t .characters) (before-same mid b (x .only .low))) here);
       }
 
-      pub remembered-none : {mid : List ℕ} {m : ℕ} {k : Key} {r : ℕ} → Interning h t was mid r → Remembered h t m k was mid
-      remembered-none x = record { only = x .only; memory = λ p K limit few s y f. x .told p K limit few s y .0 }
+      pub recalled : {mid : List ℕ} {k : Key} {r a : ℕ} → length mid ≡ length was → Sought h t was mid r → 0 < r → a ≡ entryAt h r k → Place 512 (factsAt h) 7 a → getD mid (a + 6) 0 ≡ r → keyAt mid a ≡ k → Recalled h t k was mid (getD mid a 0) × Recalls h t k was mid (getD mid a 0)
+      recalled {mid} {k} {r} {a} long x some at place e key = (
+        recalled-true long x some place e key,
+        record { found = λ m f. fact-here x at f .marked; none = λ f. absurd (f (getD mid a 0) (fact-there x at (record { some = some; marked = refl; key = key; read = e }))); same = x .known },
+      )
 
-      module _ {mid put : List ℕ} {m r a : ℕ} {k : Key} (long : length mid ≡ length was) (long′ : length put ≡ length mid) (x : Interning h t was mid r) (some : 0 < r) (place : Place 256 (factsAt h) 7 a) (key : KeyPut mid put a m k) where
+      pub remembered-none : {mid : List ℕ} {m : ℕ} {k : Key} {r : ℕ} → Identified h t was mid r → ¬ Storable r k → Remembered h t m k was mid × Notes h t m k was mid
+      remembered-none {mid} {k = k} x unfit = (
+        record { only = x .interning .only; memory = λ p K limit few s y f. x .interning .told p K limit few s y .0 },
+        record { kept = λ f. omega (arith, x .interning .kept f, x .interning .stands); stands = λ s. absurd (unfit (subst (λ (n : ℕ). Storable n k) (x .interning .stands) s)); same = λ z. ap (λ (work : List ℕ). slotId h work t) (x .known z) },
+      )
+
+      -- nothing is put down
+      pub remembered-nothing : {m : ℕ} {k : Key} → Remembered h t m k was was
+      remembered-nothing = record { only = record { low = λ q l. refl; high = λ q l. refl }; memory = λ p K limit few s y f. y }
+
+      module _ {mid put : List ℕ} {m r a : ℕ} {k : Key} (long : length mid ≡ length was) (long′ : length put ≡ length mid) (x : Identified h t was mid r) (some : 0 < r) (at : a ≡ entryAt h r k) (place : Place 512 (factsAt h) 7 a) (key : KeyPut mid put a m k) where
         abbrev noted : List ℕ
         noted = set put (a + 6) r
 
@@ -459,33 +516,47 @@ module _ (h : Context) where
         put-grown : Grown h mid noted
         put-grown = grown-by (low (takenAt h) (omega (arith, bounds))) (λ q l. high q (omega (arith, l, bounds)))
 
-        new : (p : Theory) (K : ℕ) → HasId h mid t r → Fact p K m k (stateOf t was 0) → FactEntry p K h noted a
+        entry : FactRead noted a r k m
+        entry = record {
+          some = some;
+          marked = getD-set-other put (a + 6) a r 0 (λ z. omega (arith, z)) ∙ key .marked;
+          key = key-same (kept 1 (omega arith)) (kept 2 (omega arith)) (kept 3 (omega arith)) (omega (arith, kept 4 (omega arith), kept 5 (omega arith))) ∙ key .key;
+          read = getD-set-same put (a + 6) r 0 (omega (arith, long, long′, b .room, bounds));
+        }
+
+        -- the slot's id stays
+        same-id : slotId h noted t ≡ slotId h mid t
+        same-id = low (idAt h (t .rows)) (omega (arith, bounds))
+
+        new : (p : Theory) (K : ℕ) → HasId h mid t r → Fact p K m k (stateOf t was) → FactEntry p K h noted a
         new p K named fact z =
-            let last : getD noted (a + 6) 0 ≡ r = getD-set-same put (a + 6) r 0 (omega (arith, long, long′, b .room, bounds)) in
-            let state : stateOf t was 0 ≡ stateOf (keptTable h noted r) noted 0 = first-same (t .characters) (sym (before-same mid b (x .only .low))) ∙ sym (named-state (before-now long b) named 0) ∙ first-same (h .characters) (sym (kept-table put-grown (named .kept))) in
-            subst (λ (n : ℕ). Kept h noted n × Fact p K (getD noted a 0) (keyAt noted a) (stateOf (keptTable h noted n) noted 0)) (sym last) (
-              kept-grown put-grown (named .kept),
-              fact-same p K (sym (low-mark ∙ key .marked)) (sym (key-same (kept 1 (omega arith)) (kept 2 (omega arith)) (kept 3 (omega arith)) (omega (arith, kept 4 (omega arith), kept 5 (omega arith))) ∙ key .key)) state fact,
-            )
-          where
-            low-mark : getD noted a 0 ≡ getD put a 0
-            low-mark = getD-set-other put (a + 6) a r 0 (λ z. omega (arith, z))
+            let state : stateOf t was ≡ stateOf (keptTable h noted r) noted = rows-mean (t .characters) (sym (before-same mid b (x .interning .only .low))) ∙ sym (named-rows (before-now long b) named) ∙ rows-mean (h .characters) (sym (kept-table put-grown (named .kept))) in
+            subst (λ (n : ℕ). Kept h noted n × Fact p K (getD noted a 0) (keyAt noted a) (stateOf (keptTable h noted n) noted)) (sym (entry .read)) (kept-grown put-grown (named .kept), fact-same p K (sym (entry .marked)) (sym (entry .key)) state fact)
+
+        pub notes : Notes h t m k was noted
+        notes = record {
+          kept = λ f. omega (arith, x .interning .kept f, x .interning .stands, same-id);
+          stands = λ _. subst (λ (n : ℕ). FactRead noted (entryAt h n k) n k m) (sym (same-id ∙ x .interning .stands)) (subst (λ (a : ℕ). FactRead noted a r k m) at entry);
+          same = λ z. same-id ∙ ap (λ (work : List ℕ). slotId h work t) (x .known z);
+        }
 
         pub remembered : Remembered h t m k was noted
         remembered = record {
-          only = record { low = λ q l. low q (omega (arith, l, bounds)) ∙ x .only .low q l; high = λ q l. high q (omega (arith, l, bounds)) ∙ x .only .high q l };
+          only = record { low = λ q l. low q (omega (arith, l, bounds)) ∙ x .interning .only .low q l; high = λ q l. high q (omega (arith, l, bounds)) ∙ x .interning .only .high q l };
           memory = λ p K limit few s y fact.
-              let (m′, named) = x .told p K limit few s y in
-              memory-but put-grown (λ q l. low q (omega (arith, l, few, bounds))) (λ i l. inl (low (h .memory + i) (omega (arith, slot-within (y .laid) i (omega (arith, l, few)), bounds)))) (λ i l. inl (λ q g u. low q (omega (arith, u, l, bounds))))
+              let (m′, named) = x .interning .told p K limit few s y in
+              memory-but put-grown (λ q l. low q (omega (arith, l, few, bounds))) (λ i l. inl (low (idAt h (h .stride * i + 1)) (omega (arith, bounds)))) (λ i l. inl (λ q g u. low q (omega (arith, u, l, bounds))))
               (λ i l. by-cases (ℕ-discrete i (place .number))
               (λ z. inr (subst (λ (i : ℕ). FactEntry p K h noted (factsAt h + 7 * i)) (sym z) (subst (FactEntry p K h noted) (place .is) (new p K (named some) fact))))
               (λ z. inl (λ q g u. by-cases (decLe i (place .number)) (λ v. low q (omega (arith, u, v, z, place .is))) (λ v. high q (omega (arith, g, v, place .is))))))
               m′;
         }
 
--- the place that a number leads to
-pub placed : (count : ℕ) → 0 < count → (first size x : ℕ) → Place count first size (first + size * (x % count))
-placed count some first size x = record { number = x % count; few = mod-lt x some; is = refl }
+-- two bytes that nothing is asked of
+pub unasked-two : (h : Context) (was : List ℕ) {a b : ℕ} (v u : ℕ) → h .memory + 49 ≤ a → a < stepsAt h → h .memory + 49 ≤ b → b < stepsAt h → Unasked h was (set (set was a v) b u)
+unasked-two h was {a} {b} v u la ha lb hb =
+    let other : (q : ℕ) → q ≢ a → q ≢ b → getD (set (set was a v) b u) q 0 ≡ getD was q 0 = λ q n m. getD-set-other (set was a v) b q u 0 m ∙ getD-set-other was a q v 0 n in
+    record { low = λ q l. other q (λ z. omega (arith, z, l, la)) (λ z. omega (arith, z, l, lb)); high = λ q l. other q (λ z. omega (arith, z, l, ha)) (λ z. omega (arith, z, l, hb)) }
 
 -- four bytes put down
 module _ (was : List ℕ) (a n r x y : ℕ) (room : a + 4 ≤ length was) where
@@ -534,8 +605,26 @@ module _ (h : Context) where
   abbrev width : ℕ
   width = h .fluents + h .characters
 
+  -- what stands at the place of the slot's id
+  module _ {work : List ℕ} {t : Table} {id root a at : ℕ} (e : slotId h work t ≡ id) (here : at ≡ stepAt h id root a) where
+    pub step-there : {next : ℕ} → StepRead work at id root a → getD work (at + 3) 0 ≡ next → StepKnown h work t root a next
+    step-there x l = record {
+      entry = subst (λ (n : ℕ). StepRead work (stepAt h n root a) n root a) (sym e) (subst (λ (q : ℕ). StepRead work q id root a) here x);
+      leaves = ap (λ (q : ℕ). getD work (q + 3) 0) (ap (λ (n : ℕ). stepAt h n root a) e ∙ sym here) ∙ l;
+    }
+
+    pub step-here : {next : ℕ} → StepKnown h work t root a next → StepRead work at id root a × (getD work (at + 3) 0 ≡ next)
+    step-here x = (
+      subst (λ (q : ℕ). StepRead work q id root a) (sym here) (subst (λ (n : ℕ). StepRead work (stepAt h n root a) n root a) e (x .entry)),
+      ap (λ (q : ℕ). getD work (q + 3) 0) (here ∙ ap (λ (n : ℕ). stepAt h n root a) (sym e)) ∙ x .leaves,
+    )
+
+  -- nothing is put down of a table without an id
+  pub noted-none : {t : Table} {was : List ℕ} {root a next : ℕ} → slotId h was t ≡ 0 → Noted h t root a next was was
+  noted-none e = record { stands = λ z. absurd (omega (arith, e, z)); ids = λ q l. refl; only = record { low = λ q l. refl; high = λ q l. refl }; memory = λ p K limit few s m f. m }
+
   -- a step put down
-  module _ {t : Table} {was now : List ℕ} {id root a next at : ℕ} (b : Before h was t) (e : getD was (h .memory + t .rows / h .stride) 0 ≡ id) (some : 0 < id) (place : Place 128 (stepsAt h) 4 at) (put : StepPut was now at id root a next) where
+  module _ {t : Table} {was now : List ℕ} {id root a next at : ℕ} (b : Before h was t) (e : slotId h was t ≡ id) (some : 0 < id) (here : at ≡ stepAt h id root a) (place : Place 128 (stepsAt h) 4 at) (put : StepPut was now at id root a next) where
     step-bounds : (stepsAt h ≤ at) × (at + 4 ≤ factsAt h)
     step-bounds = (omega (arith, place .is), omega (arith, place .is, place .few))
 
@@ -551,9 +640,13 @@ module _ (h : Context) where
 
     pub noted-step : Noted h t root a next was now
     noted-step = record {
+      stands = λ _.
+          let same : slotId h now t ≡ id = put .low (idAt h (t .rows)) (omega (arith, step-bounds)) ∙ e in
+          step-there same here (record { some = some; read = put .read; row = put .row; acted = put .acted }) (put .leaves);
+      ids = λ q l. put .low q (omega (arith, l, step-bounds));
       only = record { low = λ q l. put .low q (omega (arith, l, step-bounds)); high = λ q l. put .high q (omega (arith, l, step-bounds)) };
       memory = λ p K limit few s m f.
-          memory-but h step-kept (λ q l. put .low q (omega (arith, l, few, step-bounds))) (λ i l. inl (put .low (h .memory + i) (omega (arith, slot-within h (m .laid) i (omega (arith, l, few)), step-bounds))))
+          memory-but h step-kept (λ q l. put .low q (omega (arith, l, few, step-bounds))) (λ i l. inl (put .low (idAt h (h .stride * i + 1)) (omega (arith, step-bounds))))
           (λ i l. by-cases (ℕ-discrete i (place .number))
           (λ z. inr (subst (λ (i : ℕ). StepEntry p h now (stepsAt h + 4 * i)) (sym z) (subst (StepEntry p h now) (place .is) (new-step (f id (slot-named h b e s m some))))))
           (λ z. inl (λ q g u. by-cases (decLe i (place .number)) (λ v. put .low q (omega (arith, u, v, z, place .is))) (λ v. put .high q (omega (arith, g, v, place .is))))))
@@ -572,52 +665,55 @@ module _ (h : Context) where
 
   -- where a slot's id stands
   module _ {work : List ℕ} {slot : ℕ} (s : Slot h work slot) where
-    slot-index : slot / h .stride ≡ s .number
-    slot-index =
-        let all = div-add-mod slot (h .stride) in
-        let rest : slot % h .stride < h .stride = mod-lt slot (omega (arith, s .laid .wide)) in
-        stride-one (h .stride) {a = slot / h .stride} {b = s .number} {r = slot % h .stride} {r′ = 0} (omega (arith, all, s .is)) rest (omega (arith, s .laid .wide))
+    slot-index : idAt h (slot + 1) ≡ idAt h (h .stride * s .number + 1)
+    slot-index = ap (λ (a : ℕ). idAt h (a + 1)) (s .is)
 
-    pub slot-few : slot / h .stride ≤ 47
-    slot-few = omega (arith, slot-index, slot-within h (s .laid) (s .number) (omega (arith, s .is, s .before)))
+    -- that of a slot before it stands elsewhere
+    slot-other : (i : ℕ) → h .stride * i + h .stride ≤ slot → idAt h (h .stride * i + 1) ≢ idAt h (slot + 1)
+    slot-other i l z =
+        let same : i ≡ s .number = slot-apart h (s .laid) (omega (arith, l, s .before, s .laid .some)) (omega (arith, s .is, s .before, s .laid .some)) (z ∙ slot-index) in
+        omega (arith, l, s .is, s .laid .some, ap (λ (i : ℕ). h .stride * i) same)
 
-    -- a slot before it has another number
-    slot-other : (i : ℕ) → h .stride * i + h .stride ≤ slot → i ≡ slot / h .stride → ⊥
-    slot-other i l z = omega (arith, l, s .is, s .laid .some, ap (λ (i : ℕ). h .stride * i) (z ∙ slot-index))
+    -- and so does that of a table there
+    pub row-apart : {t : Table} → InSlot h work t slot → idAt h (t .rows) ≢ idAt h (slot + 1)
+    row-apart i z = slot-other (i .number) (i .before) (sym (slot-id-at h i) ∙ z)
 
   -- the id of a slot is forgotten
   module _ {was : List ℕ} {slot : ℕ} (s : Slot h was slot) where
     abbrev pub nameless : List ℕ
-    nameless = set was (h .memory + slot / h .stride) 0
+    nameless = set was (idAt h (slot + 1)) 0
 
-    nameless-other : (q : ℕ) → q ≢ h .memory + slot / h .stride → getD nameless q 0 ≡ getD was q 0
-    nameless-other q n = getD-set-other was (h .memory + slot / h .stride) q 0 0 n
+    nameless-other : (q : ℕ) → q ≢ idAt h (slot + 1) → getD nameless q 0 ≡ getD was q 0
+    nameless-other q n = getD-set-other was (idAt h (slot + 1)) q 0 0 n
 
     pub nameless-only : Only h was nameless
-    nameless-only = record { low = λ q l. nameless-other q (λ z. omega (arith, z, l)); high = λ q l. nameless-other q (λ z. omega (arith, z, l, slot-few s)) }
+    nameless-only = record { low = λ q l. nameless-other q (λ z. omega (arith, z, l)); high = λ q l. nameless-other q (λ z. omega (arith, z, l)) }
 
     pub memory-nameless : {p : Theory} {K : ℕ} → Memory p K h slot was → Memory p K h (slot + h .stride) nameless
     memory-nameless m = memory-more (s .number) (s .is)
-        (memory-but h (grown-by (nameless-other (takenAt h) (λ z. omega (arith, z, slot-few s))) (λ q l. nameless-other q (λ z. omega (arith, z, l, slot-few s)))) (λ q l. nameless-other q (λ z. omega (arith, z, l, s .before)))
-        (λ i l. inl (nameless-other (h .memory + i) (λ z. slot-other s i l (omega (arith, z))))) (λ i l. inl (λ q g u. nameless-other q (λ z. omega (arith, z, g, slot-few s)))) (λ i l. inl (λ q g u. nameless-other q (λ z. omega (arith, z, g, slot-few s)))) m)
-        (λ z. let e : getD nameless (h .memory + s .number) 0 ≡ 0 = ap (λ (i : ℕ). getD nameless (h .memory + i) 0) (sym (slot-index s)) ∙ getD-set-same was (h .memory + slot / h .stride) 0 0 (omega (arith, slot-few s, s .room)) in absurd (omega (arith, e, z)))
+        (memory-but h (grown-by (nameless-other (takenAt h) (λ z. omega (arith, z))) (λ q l. nameless-other q (λ z. omega (arith, z, l)))) (λ q l. nameless-other q (λ z. omega (arith, z, l, s .before)))
+        (λ i l. inl (nameless-other (idAt h (h .stride * i + 1)) (slot-other s i l))) (λ i l. inl (λ q g u. nameless-other q (λ z. omega (arith, z, g)))) (λ i l. inl (λ q g u. nameless-other q (λ z. omega (arith, z, g)))) m)
+        (λ z. let e : getD nameless (idAt h (h .stride * s .number + 1)) 0 ≡ 0 = ap (λ (q : ℕ). getD nameless q 0) (sym (slot-index s)) ∙ getD-set-same was (idAt h (slot + 1)) 0 0 (omega (arith, s .before, s .laid .room, s .room)) in absurd (omega (arith, e, z)))
 
   -- the table of an id is copied into a slot
   module _ {was mid : List ℕ} {slot next : ℕ} (s : Slot h was slot) (taken : getD was (takenAt h) 0 < 256) (k : Kept h was next) (copied : PartCopied was mid (keptAt h next) slot (1 + getD was (keptAt h next) 0 * width)) (long : length mid ≡ length was) where
     abbrev again : List ℕ
-    again = set mid (h .memory + slot / h .stride) next
+    again = set mid (idAt h (slot + 1)) next
 
     again-size : 1 + getD was (keptAt h next) 0 * width ≤ h .stride
     again-size = let most : getD was (keptAt h next) 0 * width ≤ 32 * width = mul-le-mul-right width (k .few) in omega (arith, most, s .laid .wide)
 
-    again-other : (q : ℕ) → q ≢ h .memory + slot / h .stride → getD again q 0 ≡ getD mid q 0
-    again-other q n = getD-set-other mid (h .memory + slot / h .stride) q next 0 n
+    again-other : (q : ℕ) → q ≢ idAt h (slot + 1) → getD again q 0 ≡ getD mid q 0
+    again-other q n = getD-set-other mid (idAt h (slot + 1)) q next 0 n
+
+    again-here : getD again (idAt h (slot + 1)) 0 ≡ next
+    again-here = getD-set-same mid (idAt h (slot + 1)) next 0 (omega (arith, s .laid .room, s .room, long))
 
     again-low : (q : ℕ) → q < slot → getD again q 0 ≡ getD was q 0
     again-low q l = again-other q (λ z. omega (arith, z, l, s .before)) ∙ copied .low q l
 
     again-high : (q : ℕ) → takenAt h ≤ q → getD again q 0 ≡ getD was q 0
-    again-high q l = again-other q (λ z. omega (arith, z, l, slot-few s)) ∙ copied .high q (omega (arith, l, s .before, again-size))
+    again-high q l = again-other q (λ z. omega (arith, z, l)) ∙ copied .high q (omega (arith, l, s .before, again-size))
 
     again-grown : Grown h was again
     again-grown = grown-by (again-high (takenAt h) (omega arith)) (λ q l. again-high q (omega (arith, l)))
@@ -632,7 +728,7 @@ module _ (h : Context) where
     again-count = let x : slot ≡ slot + 0 = omega arith in let y : keptAt h next + 0 ≡ keptAt h next = omega arith in ap (λ (q : ℕ). getD again q 0) x ∙ again-byte 0 (omega arith) ∙ ap (λ (q : ℕ). getD was q 0) y
 
     again-memory : {p : Theory} {K : ℕ} → Memory p K h slot was → Memory p K h slot again
-    again-memory m = memory-but h again-grown again-low (λ i l. inl (again-other (h .memory + i) (λ z. slot-other s i l (omega (arith, z))) ∙ copied .high (h .memory + i) (omega (arith, s .before, again-size)))) (λ i l. inl (λ q g u. again-high q (omega (arith, g)))) (λ i l. inl (λ q g u. again-high q (omega (arith, g)))) m
+    again-memory m = memory-but h again-grown again-low (λ i l. inl (again-other (idAt h (h .stride * i + 1)) (slot-other s i l) ∙ copied .high (idAt h (h .stride * i + 1)) (omega (arith, s .before, again-size)))) (λ i l. inl (λ q g u. again-high q (omega (arith, g)))) (λ i l. inl (λ q g u. again-high q (omega (arith, g)))) m
 
     again-named : HasId h again (slotTable h again slot) next
     again-named = record { kept = kept-grown h again-grown k; count = let c = kept-count h again-grown k in c ∙ sym again-count; same = kept-table h again-grown k ∙ sym again-table }
@@ -640,19 +736,21 @@ module _ (h : Context) where
     pub copied-again : Again h next slot was again 0
     copied-again = record {
       refused = λ z. absurd (z refl);
+      named = λ _. again-here;
+      others = λ q l n. again-other q n ∙ copied .high q (omega (arith, l, s .before, again-size));
       played = λ z. (k .some, again-table, omega (arith, again-count, k .few));
       low = again-low;
       high = λ q l. again-high q (omega (arith, l));
       memory = λ p K m. (
         again-memory m,
         λ z. memory-more (s .number) (s .is) (again-memory m) (λ y.
-            let here : getD again (h .memory + s .number) 0 ≡ next = ap (λ (i : ℕ). getD again (h .memory + i) 0) (sym (slot-index s)) ∙ getD-set-same mid (h .memory + slot / h .stride) next 0 (omega (arith, slot-few s, s .room, long)) in
+            let here : getD again (idAt h (h .stride * s .number + 1)) 0 ≡ next = ap (λ (q : ℕ). getD again q 0) (sym (slot-index s)) ∙ again-here in
             subst (HasId h again (slotTable h again (h .stride * s .number))) (sym here) (subst (λ (a : ℕ). HasId h again (slotTable h again a) next) (s .is) again-named)),
       );
     }
 
   pub refused-again : {was : List ℕ} {slot next : ℕ} → next ≡ 0 → Again h next slot was was 10
-  refused-again e = record { refused = λ z. e; played = λ z. absurd (omega (arith, z)); low = λ q l. refl; high = λ q l. refl; memory = λ p K m. (m, λ z. absurd (omega (arith, z))) }
+  refused-again e = record { refused = λ z. e; named = λ z. absurd (omega (arith, z)); others = λ q l n. refl; played = λ z. absurd (omega (arith, z)); low = λ q l. refl; high = λ q l. refl; memory = λ p K m. (m, λ z. absurd (omega (arith, z))) }
 
   -- what a step has left is named and put down
   module _ {was : List ℕ} {slot : ℕ} (s : Slot h was slot) (few : getD was slot 0 ≤ 32) where
@@ -663,7 +761,7 @@ module _ (h : Context) where
     nameless-count = nameless-other s slot (λ z. omega (arith, z, s .before))
 
     nameless-long : length (nameless s) ≡ length was
-    nameless-long = length-set was (h .memory + slot / h .stride) 0
+    nameless-long = length-set was (idAt h (slot + 1)) 0
 
     pub left-before : Before h (nameless s) left
     left-before = record { laid = s .laid; fluents = refl; characters = refl; wide = refl; narrow = s .laid .narrow; few = omega (arith, nameless-count, few); before = let most : getD (nameless s) slot 0 * width ≤ 32 * width = mul-le-mul-right width (omega (arith, nameless-count, few)) in omega (arith, most, s .laid .wide, s .before); room = omega (arith, nameless-long, s .room) }
@@ -681,11 +779,21 @@ module _ (h : Context) where
       left-memory : {p : Theory} {K : ℕ} → Memory p K h slot was → Memory p K h (slot + h .stride) mid × (0 < next → HasId h mid left next)
       left-memory {p} {K} m = x .told p K (slot + h .stride) (omega (arith, s .before)) left-in (memory-nameless s m)
 
-      pub left-unnoted : {root a : ℕ} → LeftNoted h t root a slot was mid
-      left-unnoted = record { only = left-only; memory = λ p K i m f. left-memory m .0 }
+      -- it has an id where it fits
+      left-kept : (now : List ℕ) → ((q : ℕ) → q < h .memory → getD now q 0 ≡ getD was q 0) → Fits h (slotTable h now slot) → 0 < next
+      left-kept now low f = x .kept (subst (λ (n : ℕ). n * width / h .block < 255) (low slot (omega (arith, s .before, s .laid .some)) ∙ sym nameless-count) f)
+
+      pub left-unnoted : {root a : ℕ} → next ≡ 0 → LeftNoted h t root a slot was mid
+      left-unnoted e = record { kept = λ f. omega (arith, left-kept mid left-low f, x .stands); stands = λ _ z. absurd (omega (arith, z, e, x .stands)); only = left-only; memory = λ p K i m f. left-memory m .0 }
+
+      left-id : {now : List ℕ} {root a : ℕ} → Noted h t root a next mid now → slotId h now left ≡ next
+      left-id y = y .ids (idAt h (slot + 1)) (omega arith) ∙ x .stands
 
       pub left-noted : {now : List ℕ} {root a : ℕ} → 0 < next → Noted h t root a next mid now → LeftNoted h t root a slot was now
-      left-noted {root = root} {a = a} some y = record {
+      left-noted {now} {root} {a} some y = record {
+        stands = λ z _.
+            subst (StepKnown h now t root a) (sym (left-id y)) (y .stands z);
+        kept = λ f. omega (arith, left-id y, left-kept now (λ q l. y .only .low q l ∙ left-low q l) f);
         only = record { low = λ q l. y .only .low q l ∙ left-low q l; high = λ q l. y .only .high q l ∙ left-only .high q l };
         memory = λ p K i m (u, plays, starts).
             let (m′, named) = left-memory m in

@@ -4,6 +4,7 @@ pub mod Layout
 pub mod Memory
 pub mod Explain
 pub mod Bound
+pub mod Range
 pub mod Reach
 pub mod Look
 pub mod Levels

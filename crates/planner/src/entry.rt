@@ -1,18 +1,23 @@
 // The entries of the transposition table: what is known of the lists from a state, and of deeds in it, found by the id
 // of its table and a key; one entry for each hash, each true.
+use crate::intern::has_overflowed;
 use crate::intern::id_of;
+use crate::intern::known_id;
 use crate::limits::Context;
 use crate::limits::Nesting;
 use crate::regions::LISTS;
+use crate::regions::WORTH;
+use crate::steps::steps_made;
 use pack::number::wide;
 ghost use mathlib.Core.Path.{_≡_};
-ghost use mathlib.Core.Bool.{true};
+ghost use mathlib.Core.Bool.{true, false};
 ghost use Prim.Native.Nat.{_+_, _*_, _<_, _≤_};
 ghost use lib.ListN.{length};
 ghost use Rattle.transition.specs.Contracts.Stage.{scratchAt};
 ghost use Rattle.planner.specs.Inner.Lists.{slotTable};
-ghost use Rattle.planner.specs.Inner.Memory.{Before, Place, Storable, KeyPut, Recalled, Remembered};
-ghost use Rattle.planner.specs.Inner.Memory.{factsAt, goalKey, deedKey, keyAt};
+ghost use Rattle.planner.specs.Inner.Memory.{Before, Place, Storable, KeyPut};
+ghost use Rattle.planner.specs.Inner.Memory.{Recalled, Recalls, Remembered, Notes};
+ghost use Rattle.planner.specs.Inner.Memory.{factsAt, entryAt, goalKey, deedKey, keyAt};
 
 // What a list is looked for: whose it is, at which nesting its actions are to be explained, and above which utility it
 // is to end.
@@ -52,31 +57,32 @@ pub fn goal_key(g: Goal, left: usize) -> Key
     }
 }
 
-// The key of the verdict on a deed.
-pub fn deed_key(d: Deed) -> Key
-    ensures { λ r. ⌜ r ≡ deedKey d ⌝ }
+// The key of the verdict on a deed, by what a row means as the belief.
+pub fn deed_key(d: Deed, row: usize) -> Key
+    ensures { λ r. ⌜ r ≡ deedKey d row ⌝ }
 {
     Key {
         who: d.who,
         nesting: d.nesting.0,
         number: d.action,
-        base: 0,
+        base: row,
     }
 }
 
 // The place of the entry for an id and a key.
 pub fn entry_at(p: Context, id: usize, k: Key) -> usize
     requires { ⌜ (p .memory ≤ scratchAt) × (id < 256) ⌝ }
-    ensures { λ r. ⌜ Place 256 (factsAt p) 7 r ⌝ }
+    ensures { λ r. ⌜ (r ≡ entryAt p id k) × Place 512 (factsAt p) 7 r ⌝ }
 {
     let h = id * 11 + k.who % 8 * 37 + k.number % 32 * 5 + k.nesting % 4;
-    p.memory + LISTS + 7 * (h % 256)
+    p.memory + LISTS + 7 * (h % 512)
 }
 
 // Whether an entry has a key.
 pub fn keyed(work: &[u8], at: usize, k: Key) -> bool
     requires { ⌜ at + 6 ≤ length (now work) ⌝ }
-    ensures { λ r. ⌜ (r ≡ true → keyAt (now (work .entry)) at ≡ k) ⌝ }
+    ensures { λ r. ⌜ (r ≡ true → keyAt (now (work .entry)) at ≡ k)
+        × (r ≡ false → ¬ (keyAt (now (work .entry)) at ≡ k)) ⌝ }
 {
     if wide(work[at + 1]) != k.who {
         return false;
@@ -92,7 +98,7 @@ pub fn keyed(work: &[u8], at: usize, k: Key) -> bool
 
 // Whether an id is one, and a key's numbers fit their bytes.
 pub fn storable(id: usize, k: Key) -> bool
-    ensures { λ r. ⌜ (r ≡ true → Storable id k) ⌝ }
+    ensures { λ r. ⌜ (r ≡ true → Storable id k) × (r ≡ false → ¬ Storable id k) ⌝ }
 {
     if id == 0 {
         return false;
@@ -112,9 +118,10 @@ pub fn storable(id: usize, k: Key) -> bool
 // The mark of what is known of the table in a slot by this key; 0 where nothing is.
 pub fn recall(work: &mut [u8], p: Context, slot: usize, k: Key) -> u8
     requires { ⌜ Before p (now work) (slotTable p (now work) slot) ⌝ }
-    ensures { λ r. ⌜ Recalled p (slotTable p (now (work .entry)) slot) k (now (work .entry)) (now (work .exit)) r ⌝ }
+    ensures { λ r. ⌜ Recalled p (slotTable p (now (work .entry)) slot) k (now (work .entry)) (now (work .exit)) r
+        × Recalls p (slotTable p (now (work .entry)) slot) k (now (work .entry)) (now (work .exit)) r ⌝ }
 {
-    let id = id_of(work, p, slot);
+    let id = known_id(work, p, slot);
     if id == 0 {
         return 0;
     }
@@ -145,8 +152,8 @@ pub fn put_key(work: &mut [u8], at: usize, mark: u8, k: Key)
 // Puts down what is known of the table in a slot by this key, in the place of what stood there.
 pub fn remember(work: &mut [u8], p: Context, slot: usize, mark: u8, k: Key)
     requires { ⌜ Before p (now work) (slotTable p (now work) slot) ⌝ }
-    ensures { λ _. ⌜ Remembered p (slotTable p (now (work .entry)) slot) mark k (now (work .entry))
-        (now (work .exit)) ⌝ }
+    ensures { λ _. ⌜ Remembered p (slotTable p (now (work .entry)) slot) mark k (now (work .entry)) (now (work .exit))
+        × Notes p (slotTable p (now (work .entry)) slot) mark k (now (work .entry)) (now (work .exit)) ⌝ }
 {
     let id = id_of(work, p, slot);
     if storable(id, k) {
@@ -154,4 +161,42 @@ pub fn remember(work: &mut [u8], p: Context, slot: usize, mark: u8, k: Key)
         put_key(work, at, mark, k);
         work[at + 6] = id as u8;
     }
+}
+
+// As `recall`, of a character's lists: nothing is kept of them once there was no room.
+pub fn recall_list(work: &mut [u8], p: Context, slot: usize, k: Key) -> u8
+    requires { ⌜ Before p (now work) (slotTable p (now work) slot) ⌝ }
+    ensures { λ r. ⌜ Recalled p (slotTable p (now (work .entry)) slot) k (now (work .entry)) (now (work .exit)) r ⌝ }
+{
+    if has_overflowed(work, p) {
+        return 0;
+    }
+    recall(work, p, slot, k)
+}
+
+// As `remember`, of a character's lists.
+pub fn remember_list(work: &mut [u8], p: Context, slot: usize, mark: u8, k: Key)
+    requires { ⌜ Before p (now work) (slotTable p (now work) slot) ⌝ }
+    ensures { λ _. ⌜ Remembered p (slotTable p (now (work .entry)) slot) mark k (now (work .entry))
+        (now (work .exit)) ⌝ }
+{
+    if has_overflowed(work, p) {
+        return;
+    }
+    remember(work, p, slot, mark, k)
+}
+
+// As `remember`, of what was found out since so many steps had been made: once there was no room, what took few steps
+// is found out anew.
+pub fn remember_worth(work: &mut [u8], p: Context, slot: usize, mark: u8, k: Key, since: usize)
+    requires { ⌜ Before p (now work) (slotTable p (now work) slot) × (since < 65536) ⌝ }
+    ensures { λ _. ⌜ Remembered p (slotTable p (now (work .entry)) slot) mark k (now (work .entry))
+        (now (work .exit)) ⌝ }
+{
+    if has_overflowed(work, p) {
+        if steps_made(work, p) < since + WORTH {
+            return;
+        }
+    }
+    remember(work, p, slot, mark, k)
 }

@@ -1,16 +1,19 @@
 // Explanations: whether a character has a reason of their own for an action. A state is row 0 of the table in a slot of
 // the work buffer; the slots behind it are free.
 //
-// In the slots stand the state asked about, one for each action of the author's list, and one for each action of each
-// explanation within it, at most 8 + 6 x 3 more. A belief is a row of the table that it is believed in and needs no
-// slot.
+// In the slots stand the state asked about, one for each action of the author's list, and one for the belief and each
+// action of each explanation within it, at most 8 + 7 x 3 more. A belief is a row of the table that it is believed in;
+// once there was no room for all that is known, it is laid out as a table of its own.
+use crate::belief::place_belief;
 use crate::bound::pointless;
 use crate::entry::Deed;
 use crate::entry::Goal;
 use crate::entry::deed_key;
 use crate::entry::goal_key;
 use crate::entry::recall;
-use crate::entry::remember;
+use crate::entry::recall_list;
+use crate::entry::remember_list;
+use crate::entry::remember_worth;
 use crate::intern::table_in;
 use crate::limits::Context;
 use crate::limits::Nesting;
@@ -18,8 +21,8 @@ use crate::prune::Hope;
 use crate::prune::next_promising;
 use crate::reach::within_reach;
 use crate::steps::known_step;
+use crate::steps::steps_made;
 use pack::judge::utility;
-use pack::number::wide;
 use pack::places::ACTION;
 use pack::places::CHARACTER_UTILITIES;
 use pack::places::CONSENTERS;
@@ -30,9 +33,11 @@ ghost use mathlib.Core.Bool.{true, false};
 ghost use Prim.Native.Nat.{suc, _+_, _*_, _<_, _≤_};
 ghost use Rattle.planner.specs.Ending.{Explained};
 ghost use Rattle.planner.specs.Inner.Lists.{slotTable, Other, Above, AboveBy, AboveBySome, Agreed};
-ghost use Rattle.planner.specs.Inner.Explain.{Prepared, Free, Answers};
+ghost use lib.ListN.{getD};
+ghost use Rattle.planner.specs.Inner.Explain.{Prepared, Free, Answers, AnswersOf};
+ghost use Rattle.planner.specs.Inner.Lists.{ExplainedBy};
 
-// Whether a deed is explained: not where there can be no reason for it, else as is known or as is found out.
+// Whether a deed is explained: not where there can be no reason for it, else by what is believed.
 pub fn explained(
     pack: &[u8],
     places: &[u16],
@@ -43,7 +48,7 @@ pub fn explained(
 ) -> bool
     requires { ⌜ Prepared (now pack) (now places) p (now work) (slotTable p (now work) slot) (slot + p .stride)
         × (d .who < p .characters) × (d .action < p .actions) × (0 < p .foresight .0) × (p .foresight .0 ≤ 6)
-        × Free p slot (1 + p .foresight .0 * d .nesting .0) ⌝ }
+        × Free p slot (1 + (1 + p .foresight .0) * d .nesting .0) ⌝ }
     ensures { λ r. ⌜ Answers (now (pack .entry)) (now (places .entry)) p slot (now (work .entry))
         (now (work .exit)) r (λ th s. Explained th (p .foresight .0) (d .nesting .0) (d .who) (d .action) s) ⌝ }
 {
@@ -53,7 +58,28 @@ pub fn explained(
     if pointless(pack, places, p, work, slot, d) {
         return false;
     }
-    let key = deed_key(d);
+    let b = place_belief(work, p, slot, d.who);
+    judged(pack, places, p, work, b.slot, d, b.row)
+}
+
+// Whether a deed is explained by what row q of the table in a slot means as the belief: as is known or as is found out.
+pub fn judged(
+    pack: &[u8],
+    places: &[u16],
+    p: Context,
+    work: &mut [u8],
+    slot: usize,
+    d: Deed,
+    q: usize,
+) -> bool
+    requires { ⌜ Prepared (now pack) (now places) p (now work) (slotTable p (now work) slot) (slot + p .stride)
+        × (d .who < p .characters) × (d .action < p .actions) × (0 < p .foresight .0) × (p .foresight .0 ≤ 6)
+        × Free p slot ((1 + p .foresight .0) * d .nesting .0) × (0 < d .nesting .0)
+        × (q < getD (now work) slot 0) ⌝ }
+    ensures { λ r. ⌜ AnswersOf q (now (pack .entry)) (now (places .entry)) p slot (now (work .entry))
+        (now (work .exit)) r (λ th b. ExplainedBy th (p .foresight .0) (d .nesting .0) (d .who) (d .action) b) ⌝ }
+{
+    let key = deed_key(d, q);
     let known = recall(work, p, slot, key);
     if known == 4 {
         return false;
@@ -61,12 +87,13 @@ pub fn explained(
     if known == 5 {
         return true;
     }
-    let found = explains(pack, places, p, work, slot, d);
-    remember(work, p, slot, mark_of(found) + 3, key);
+    let since = steps_made(work, p);
+    let found = explains(pack, places, p, work, slot, d, q);
+    remember_worth(work, p, slot, mark_of(found) + 3, key, since);
     found
 }
 
-// As `explained`, by what the character believes and the lists that begin with the action there.
+// As `judged`, by the lists that begin with the action in that belief.
 pub fn explains(
     pack: &[u8],
     places: &[u16],
@@ -74,14 +101,15 @@ pub fn explains(
     work: &mut [u8],
     slot: usize,
     d: Deed,
+    q: usize,
 ) -> bool
     requires { ⌜ Prepared (now pack) (now places) p (now work) (slotTable p (now work) slot) (slot + p .stride)
         × (d .who < p .characters) × (d .action < p .actions) × (0 < p .foresight .0) × (p .foresight .0 ≤ 6)
-        × Free p slot (1 + p .foresight .0 * d .nesting .0) × (0 < d .nesting .0) ⌝ }
-    ensures { λ r. ⌜ Answers (now (pack .entry)) (now (places .entry)) p slot (now (work .entry))
-        (now (work .exit)) r (λ th s. Explained th (p .foresight .0) (d .nesting .0) (d .who) (d .action) s) ⌝ }
+        × Free p slot ((1 + p .foresight .0) * d .nesting .0) × (0 < d .nesting .0)
+        × (q < getD (now work) slot 0) ⌝ }
+    ensures { λ r. ⌜ AnswersOf q (now (pack .entry)) (now (places .entry)) p slot (now (work .entry))
+        (now (work .exit)) r (λ th b. ExplainedBy th (p .foresight .0) (d .nesting .0) (d .who) (d .action) b) ⌝ }
 {
-    let q = wide(work[slot + 1 + p.fluents + d.who]);
     let number = known_step(pack, places, p, d.action, work, slot, q);
     if number != 0 {
         return false;
@@ -116,7 +144,7 @@ pub fn extends(
 ) -> bool
     requires { ⌜ Prepared (now pack) (now places) p (now work) (slotTable p (now work) slot) (slot + p .stride)
         × (g .who < p .characters) × (0 < p .foresight .0) × (p .foresight .0 ≤ 6)
-        × Free p slot (1 + left + p .foresight .0 * g .nesting .0) ⌝ }
+        × Free p slot (1 + left + (1 + p .foresight .0) * g .nesting .0) ⌝ }
     ensures { λ r. ⌜ Answers (now (pack .entry)) (now (places .entry)) p slot (now (work .entry))
         (now (work .exit)) r
         (λ th s. Above th (p .foresight .0) (g .nesting .0) (g .who) (g .base) (suc left) s) ⌝ }
@@ -145,7 +173,7 @@ pub fn extends(
         return false;
     }
     let key = goal_key(g, left);
-    let known = recall(work, p, slot, key);
+    let known = recall_list(work, p, slot, key);
     if known == 1 {
         return false;
     }
@@ -153,7 +181,7 @@ pub fn extends(
         return true;
     }
     let found = extends_by(pack, places, p, work, slot, g, left - 1);
-    remember(work, p, slot, mark_of(found), key);
+    remember_list(work, p, slot, mark_of(found), key);
     found
 }
 
@@ -176,7 +204,7 @@ pub fn extends_by(
 ) -> bool
     requires { ⌜ Prepared (now pack) (now places) p (now work) (slotTable p (now work) slot) (slot + p .stride)
         × (g .who < p .characters) × (0 < p .foresight .0) × (p .foresight .0 ≤ 6)
-        × Free p slot (2 + left + p .foresight .0 * g .nesting .0) ⌝ }
+        × Free p slot (2 + left + (1 + p .foresight .0) * g .nesting .0) ⌝ }
     ensures { λ r. ⌜ Answers (now (pack .entry)) (now (places .entry)) p slot (now (work .entry))
         (now (work .exit)) r
         (λ th s. AboveBySome th (p .foresight .0) (g .nesting .0) (g .who) (g .base) (suc left) s) ⌝ }
@@ -211,7 +239,7 @@ pub fn via(
 ) -> bool
     requires { ⌜ Prepared (now pack) (now places) p (now work) (slotTable p (now work) slot) (slot + p .stride)
         × (g .who < p .characters) × (x < p .actions) × (0 < p .foresight .0) × (p .foresight .0 ≤ 6)
-        × Free p slot (2 + left + p .foresight .0 * g .nesting .0) ⌝ }
+        × Free p slot (2 + left + (1 + p .foresight .0) * g .nesting .0) ⌝ }
     ensures { λ r. ⌜ Answers (now (pack .entry)) (now (places .entry)) p slot (now (work .entry))
         (now (work .exit)) r
         (λ th s. AboveBy th (p .foresight .0) (g .nesting .0) (g .who) (g .base) (suc left) x s) ⌝ }
@@ -244,7 +272,7 @@ pub fn allowed(
 ) -> bool
     requires { ⌜ Prepared (now pack) (now places) p (now work) (slotTable p (now work) slot) (slot + p .stride)
         × (d .action < p .actions) × (0 < p .foresight .0) × (p .foresight .0 ≤ 6)
-        × Free p slot (1 + p .foresight .0 * d .nesting .0) ⌝ }
+        × Free p slot (1 + (1 + p .foresight .0) * d .nesting .0) ⌝ }
     ensures { λ r. ⌜ Answers (now (pack .entry)) (now (places .entry)) p slot (now (work .entry))
         (now (work .exit)) r (λ th s. Agreed th (p .foresight .0) (d .nesting .0) (d .who) (d .action) s) ⌝ }
 {
@@ -274,7 +302,7 @@ pub fn fine(
 ) -> bool
     requires { ⌜ Prepared (now pack) (now places) p (now work) (slotTable p (now work) slot) (slot + p .stride)
         × (c < p .characters) × (d .action < p .actions) × (0 < p .foresight .0) × (p .foresight .0 ≤ 6)
-        × Free p slot (1 + p .foresight .0 * d .nesting .0) ⌝ }
+        × Free p slot (1 + (1 + p .foresight .0) * d .nesting .0) ⌝ }
     ensures { λ r. ⌜ Answers (now (pack .entry)) (now (places .entry)) p slot (now (work .entry))
         (now (work .exit)) r
         (λ th s. Other (d .who) c → Explained th (p .foresight .0) (d .nesting .0) c (d .action) s) ⌝ }

@@ -1,11 +1,13 @@
 // The planner layer: explanations and endings. What it promises stands in specs/; here are the answers that its public
 // calls hand back.
+pub mod belief;
 pub mod bound;
 pub mod entry;
 pub mod explain;
 pub mod intern;
 pub mod limits;
 pub mod prune;
+pub mod range;
 pub mod reach;
 pub mod regions;
 pub mod search;

@@ -35,7 +35,7 @@ pub struct Context {
 // The context of a call that wants so many slots: each has room for a count and for 32 rows of the pack's width. The
 // memory takes all behind them, up to the scratch of a step.
 pub fn laid_out(c: Contents, k: Foresight, slots: usize) -> Context
-    requires { ⌜ (c .fluents ≤ 24) × (c .characters ≤ 6) × (slots ≤ 27) ⌝ }
+    requires { ⌜ (c .fluents ≤ 24) × (c .characters ≤ 6) × (slots ≤ 30) ⌝ }
     ensures { λ r. ⌜ r ≡ laidOut c k slots ⌝ }
 {
     let stride = 1 + 32 * (c.fluents + c.characters);

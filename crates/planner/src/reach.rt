@@ -1,70 +1,67 @@
 // How far a state is from a utility: whether one above another could be had within so many actions.
 //
-// A relaxed plan, level by level: what actions could be among the first, by conditions that could hold before anything
-// is played, which could then be among the first two, and so on. What one of them writes stays had, and consenters are
-// not asked, so where no rule above could hold even so no list of so many actions leads there, and no step is made.
+// A relaxed plan, level by level: by the state's own values the actions that could be played first, by what these write
+// besides those that could then be played, and so on. What one of them writes stays in range, and consenters are not
+// asked, so where no rule above could hold even so no list of so many actions leads there, and no step is made.
 use crate::intern::is_large;
-use crate::intern::table_in;
 use crate::limits::Context;
-use crate::prune::Course;
 use crate::prune::Hope;
-use crate::prune::could_exceed;
-use crate::prune::could_hold;
+use crate::range::could_exceed;
+use crate::range::could_hold;
+use crate::range::widen;
+use crate::range::widen_by_triggers;
+use pack::copy::copy_bytes;
 use pack::places::ACTION;
+use pack::places::EFFECTS;
 use pack::places::UTILITIES;
-use pack::table::Table;
 ghost use mathlib.Core.Path.{_≡_};
 ghost use mathlib.Core.Bool.{false};
 ghost use Prim.Native.Nat.{_<_};
-ghost use Rattle.planner.specs.Inner.Levels.{Castable, ActionMarked, Levelable, MoreLevels, Reckoned, OutOfReach};
+ghost use Rattle.planner.specs.Inner.Look.{Ranged};
+ghost use Rattle.planner.specs.Inner.Levels.{ActionThere, ActionWidened, Levelable, LevelWidened};
+ghost use Rattle.planner.specs.Inner.Levels.{Reckoned, OutOfReach};
 
-// Marks an action that has no mark, where it could be played after so many others, as one of one more.
-pub fn mark_action(
+// Widens the ranges by the effects of an action, where its condition could hold by other ranges, from lower to upper.
+pub fn widen_action(
     pack: &[u8],
     places: &[u16],
-    c: Course,
-    work: &[u8],
-    t: Table,
-    ahead: &mut [u8],
     x: usize,
+    lower: &[u8],
+    upper: &[u8],
+    lows: &mut [u8],
+    highs: &mut [u8],
 )
-    requires { ⌜ Castable (now pack) (now places) c (now work) t (now ahead) × (x < c .to) × (c .within < 255) ⌝ }
-    ensures { λ _. ⌜ ActionMarked (now (pack .entry)) (now (places .entry)) c (now (work .entry)) t
-        (now (ahead .entry)) (now (ahead .exit)) x ⌝ }
+    requires { ⌜ ActionThere (now pack) (now places) x × Ranged (now lower) (now upper)
+        × Ranged (now lows) (now highs) ⌝ }
+    ensures { λ _. ⌜ ActionWidened (now (pack .entry)) (now (places .entry)) x (now (lower .entry))
+        (now (upper .entry)) (now (lows .entry)) (now (highs .entry)) (now (lows .exit)) (now (highs .exit)) ⌝ }
 {
-    if 0 < ahead[x] {
-        return;
-    }
     let condition = places[ACTION * x] as usize;
-    if !could_hold(pack, places, c, ahead, condition, work, t) {
+    if !could_hold(pack, condition, lower, upper) {
         return;
     }
-    ahead[x] = (c.within + 1) as u8;
+    let effects = places[ACTION * x + EFFECTS] as usize;
+    widen(pack, effects, lows, highs);
 }
 
-// Marks with i + 1 the actions that have no mark and could be played after i others.
-pub fn mark_level(
+// By the effects of all actions that are there.
+pub fn widen_level(
     pack: &[u8],
     places: &[u16],
-    p: Context,
-    work: &[u8],
-    t: Table,
-    ahead: &mut [u8],
-    i: usize,
+    actions: usize,
+    lower: &[u8],
+    upper: &[u8],
+    lows: &mut [u8],
+    highs: &mut [u8],
 )
-    requires { ⌜ Levelable (now pack) (now places) p (now work) t (now ahead) × (i < 255) ⌝ }
-    ensures { λ _. ⌜ MoreLevels (now (pack .entry)) (now (places .entry)) p (now (work .entry)) t (now (ahead .entry))
-        (now (ahead .exit)) i ⌝ }
+    requires { ⌜ Levelable (now pack) (now places) actions × Ranged (now lower) (now upper)
+        × Ranged (now lows) (now highs) ⌝ }
+    ensures { λ _. ⌜ LevelWidened (now (pack .entry)) (now (places .entry)) actions (now (lower .entry))
+        (now (upper .entry)) (now (lows .entry)) (now (highs .entry)) (now (lows .exit)) (now (highs .exit)) ⌝ }
 {
-    let course = Course {
-        from: 0,
-        to: p.actions,
-        within: i,
-        triggers: p.triggers,
-    };
     let mut x = 0;
-    while x < p.actions {
-        mark_action(pack, places, course, work, t, ahead, x);
+    while x < actions {
+        widen_action(pack, places, x, lower, upper, lows, highs);
         x += 1;
     }
 }
@@ -90,24 +87,30 @@ pub fn within_reach(
     if !is_large(work, p) {
         return true;
     }
-    let t = table_in(work, p, slot);
     let rules = places[UTILITIES + h.whose] as usize;
-    let mut ahead = [0u8; 32];
+    let mut lows = [0u8; 24];
+    copy_bytes(work, slot + 1, &mut lows, 0, p.fluents, 0);
+    let mut highs = lows;
+    widen_by_triggers(pack, places, p.triggers, &mut lows, &mut highs);
     let mut i = 0;
     loop {
-        let course = Course {
-            from: 0,
-            to: p.actions,
-            within: i,
-            triggers: p.triggers,
-        };
-        if could_exceed(pack, places, course, &ahead, rules, work, t, h.base) {
+        if could_exceed(pack, rules, &lows, &highs, h.base) {
             return true;
         }
         if i == h.left {
             return false;
         }
-        mark_level(pack, places, p, work, t, &mut ahead, i);
+        let lower = lows;
+        let upper = highs;
+        widen_level(
+            pack,
+            places,
+            p.actions,
+            &lower,
+            &upper,
+            &mut lows,
+            &mut highs,
+        );
         i += 1;
     }
 }

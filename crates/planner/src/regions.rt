@@ -1,23 +1,36 @@
-// Where the memory keeps what, from its beginning on, as specs/Inner/Memory has it. It begins with the ids of the
-// tables in the slots, a byte for each slot.
+// Where the memory keeps what, from its beginning on, as specs/Inner/Memory has it.
+
+// It begins with the ids of the tables in the slots, a byte for each slot, at the remainder by this of where the
+// table's rows begin. A slot takes 1 byte and 32 rows, so the remainder is 1 for the first slot and 1 more for each
+// slot behind; there are at most 30 slots, so no two share one.
+pub const SLOTS: usize = 32;
 
 // How many blocks are taken by tables.
 pub const TAKEN: usize = 48;
 
+// Whether all has been forgotten once, as there was no room: 1, else 0.
+pub const OVERFLOWED: usize = 49;
+
+// How many steps have been made since then, in two bytes.
+pub const MADE_SINCE: usize = 50;
+
 // Ids found by a hash, a byte for each.
-pub const HASHED: usize = 50;
+pub const HASHED: usize = 52;
 
 // What is known of steps, 128 entries of 4 bytes.
-pub const STEPS: usize = 178;
+pub const STEPS: usize = 308;
 
-// What is known of lists, 256 entries of 7 bytes.
-pub const LISTS: usize = 690;
+// What is known of lists, 512 entries of 7 bytes.
+pub const LISTS: usize = 820;
 
 // The tables that are kept, in blocks: so many bytes stand before them.
-pub const TABLES: usize = 2482;
+pub const TABLES: usize = 4404;
 
 // How many blocks there are, as many as an id of one byte can tell apart.
 pub const BLOCKS: usize = 255;
 
 // So many blocks are taken where a search is large.
 pub const ENOUGH: usize = 20;
+
+// What took so many steps to find out is worth being kept.
+pub const WORTH: usize = 4;

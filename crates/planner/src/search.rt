@@ -1,9 +1,8 @@
 // Search: the list search of the author, shortest lists first, and the public call. A state is row 0 of the table in a
 // slot of the work buffer; the slots behind it are free.
 //
-// Iterative deepening (`deepen`) over a depth-limited search (`completes`). The memory is emptied in two parts: each is
-// below 2,048 bytes, up to which C's `memset` writes by plain stores. The list is written on the way back from its end,
-// so nothing is put down where there is none; `none` is a utility of 0, since one above another is at least 1.
+// Iterative deepening (`deepen`) over a depth-limited search (`completes`). The list is written on the way back from
+// its end, so nothing is put down where there is none; `none` is a utility of 0, since one above another is at least 1.
 // Everybody is asked: the character left out is the number of characters, which no consenter has.
 use crate::Found;
 use crate::bound::can_exceed;
@@ -12,7 +11,7 @@ use crate::entry::Deed;
 use crate::entry::Goal;
 use crate::entry::goal_key;
 use crate::entry::recall;
-use crate::entry::remember;
+use crate::entry::remember_worth;
 use crate::explain::allowed;
 use crate::intern::table_in;
 use crate::limits::Context;
@@ -24,9 +23,9 @@ use crate::limits::searchable;
 use crate::prune::Hope;
 use crate::prune::next_promising;
 use crate::reach::within_reach;
-use crate::regions::LISTS;
 use crate::regions::TABLES;
 use crate::steps::known_step;
+use crate::steps::steps_made;
 use chart::bytes::clear;
 use chart::bytes::copy_part;
 use chart::call::WORK_ROOM;
@@ -78,7 +77,7 @@ pub fn completes(
 ) -> usize
     requires { ⌜ Underway (g .nesting .0) (g .base) (now pack) (now places) p (now work) done left
         × (0 < p .foresight .0) × (p .foresight .0 ≤ 6)
-        × Free p (done * p .stride) (1 + left + p .foresight .0 * g .nesting .0)
+        × Free p (done * p .stride) (1 + left + (1 + p .foresight .0) * g .nesting .0)
         × (done + left ≤ length (now list)) ⌝ }
     ensures { λ r. ⌜ Finds (g .nesting .0) (g .base) (now (pack .entry)) (now (places .entry)) p done left
         (now (list .entry)) (now (list .exit)) (now (work .entry)) (now (work .exit)) r
@@ -103,9 +102,10 @@ pub fn completes(
     if recall(work, p, slot, key) == 3 {
         return 0;
     }
+    let since = steps_made(work, p);
     let after = completes_after(pack, places, p, work, list, done, g, left - 1);
     if after == 0 {
-        remember(work, p, slot, 3, key);
+        remember_worth(work, p, slot, 3, key, since);
     }
     after
 }
@@ -151,7 +151,7 @@ pub fn completes_after(
 ) -> usize
     requires { ⌜ Underway (g .nesting .0) (g .base) (now pack) (now places) p (now work) done (suc left)
         × (0 < p .foresight .0) × (p .foresight .0 ≤ 6)
-        × Free p (done * p .stride) (2 + left + p .foresight .0 * g .nesting .0)
+        × Free p (done * p .stride) (2 + left + (1 + p .foresight .0) * g .nesting .0)
         × (done + suc left ≤ length (now list)) ⌝ }
     ensures { λ r. ⌜ Finds (g .nesting .0) (g .base) (now (pack .entry)) (now (places .entry)) p done (suc left)
         (now (list .entry)) (now (list .exit)) (now (work .entry)) (now (work .exit)) r
@@ -200,7 +200,7 @@ pub fn completes_by(
 ) -> usize
     requires { ⌜ Underway (g .nesting .0) (g .base) (now pack) (now places) p (now work) done (suc left)
         × (x < p .actions) × (0 < p .foresight .0) × (p .foresight .0 ≤ 6)
-        × Free p (done * p .stride) (2 + left + p .foresight .0 * g .nesting .0)
+        × Free p (done * p .stride) (2 + left + (1 + p .foresight .0) * g .nesting .0)
         × (done + suc left ≤ length (now list)) ⌝ }
     ensures { λ r. ⌜ Finds (g .nesting .0) (g .base) (now (pack .entry)) (now (places .entry)) p done (suc left)
         (now (list .entry)) (now (list .exit)) (now (work .entry)) (now (work .exit)) r
@@ -241,7 +241,7 @@ pub fn deepen(
 ) -> Ended
     requires { ⌜ Outset (g .base) (now pack) (now places) p (now work) × (0 < p .foresight .0)
         × (p .foresight .0 ≤ 6) × (most ≤ 8) × (8 ≤ length (now list))
-        × Free p 0 (1 + most + p .foresight .0 * g .nesting .0) ⌝ }
+        × Free p 0 (1 + most + (1 + p .foresight .0) * g .nesting .0) ⌝ }
     ensures { λ r. ⌜ ShortestFrom most (g .nesting .0) (g .base) (now (pack .entry)) (now (places .entry)) p
         (now (list .entry)) (now (list .exit)) (now (work .entry)) (now (work .exit)) r ⌝ }
 {
@@ -271,8 +271,7 @@ pub fn lay_start(pack: &[u8], first: usize, nodes: usize, p: Context, work: &mut
     let rows = merge_table(work, nodes, width, p.fluents, p.characters);
     work[0] = rows as u8;
     copy_part(work, MERGED, 1, rows * width);
-    clear(work, p.memory, LISTS);
-    clear(work, p.memory + LISTS, TABLES - LISTS);
+    clear(work, p.memory, TABLES);
 }
 
 // The search from what node 0 means of the nodes that are read from `first` on. The work buffer is cleared.
@@ -330,7 +329,7 @@ pub fn search(
     match check_lent(nodes, enough, there) {
         Number::Refused(number, at) => Found::Refused(number, at),
         Number::Is(_, _) => {
-            let context = laid_out(p, k, 1 + t.0 + k.0 * e.0);
+            let context = laid_out(p, k, 1 + t.0 + (1 + k.0) * e.0);
             search_nodes(pack, &places, context, p.first, p.nodes, t, e, list, work)
         }
     }

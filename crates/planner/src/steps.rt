@@ -1,8 +1,12 @@
-// Steps that are known: what an action leaves of a row of a kept table is made once, and then copied.
+// Steps that are known: what an action leaves of a row of a kept table is made once, and then copied. Once there was no
+// room they are made and counted, and not kept.
+use crate::intern::has_overflowed;
 use crate::intern::id_of;
 use crate::intern::intern_slot;
 use crate::intern::table_in;
 use crate::limits::Context;
+use crate::regions::MADE_SINCE;
+use crate::regions::SLOTS;
 use crate::regions::STEPS;
 use crate::regions::TABLES;
 use chart::bytes::copy_part;
@@ -12,19 +16,20 @@ use pack::table::Table;
 use transition::step::Move;
 use transition::step::step_slot;
 ghost use mathlib.Core.Path.{_≡_};
-ghost use mathlib.Core.Bool.{true};
+ghost use mathlib.Core.Bool.{true, false};
 ghost use Prim.Native.Nat.{_+_, _*_, _<_, _≤_};
 ghost use lib.ListN.{length, getD};
+ghost use Rattle.chart.specs.Call.{workRoom};
 ghost use Rattle.planner.specs.Inner.Lists.{slotTable};
-ghost use Rattle.planner.specs.Inner.Memory.{stepsAt, Before, Kept, Place, StepRead, StepPut};
-ghost use Rattle.planner.specs.Inner.Memory.{Noted, Slot, Again, LeftNoted};
+ghost use Rattle.planner.specs.Inner.Memory.{stepsAt, stepAt, Before, Kept, Place, StepRead, StepPut};
+ghost use Rattle.planner.specs.Inner.Memory.{Noted, Slot, Again, LeftNoted, StepOnce, Unasked};
 ghost use Rattle.planner.specs.Inner.Explain.{Steppable, Advances};
 ghost use Rattle.transition.specs.Contracts.Stage.{scratchAt};
 
 // The place of the entry for an action in a row of the table of an id.
 pub fn step_at(p: Context, id: usize, root: usize, action: usize) -> usize
     requires { ⌜ (p .memory ≤ scratchAt) × (id < 256) × (root < 256) × (action < 256) ⌝ }
-    ensures { λ r. ⌜ Place 128 (stepsAt p) 4 r ⌝ }
+    ensures { λ r. ⌜ (r ≡ stepAt p id root action) × Place 128 (stepsAt p) 4 r ⌝ }
 {
     p.memory + STEPS + 4 * ((id * 11 + root * 5 + action) % 128)
 }
@@ -32,7 +37,8 @@ pub fn step_at(p: Context, id: usize, root: usize, action: usize) -> usize
 // Whether an entry is that one.
 pub fn step_is(work: &[u8], at: usize, id: usize, root: usize, action: usize) -> bool
     requires { ⌜ at + 4 ≤ length (now work) ⌝ }
-    ensures { λ r. ⌜ (r ≡ true → StepRead (now (work .entry)) at id root action) ⌝ }
+    ensures { λ r. ⌜ (r ≡ true → StepRead (now (work .entry)) at id root action)
+        × (r ≡ false → ¬ StepRead (now (work .entry)) at id root action) ⌝ }
 {
     if id == 0 {
         return false;
@@ -62,7 +68,7 @@ pub fn note(work: &mut [u8], p: Context, t: Table, root: usize, action: usize, n
     requires { ⌜ Before p (now work) t × (root < 256) × (action < 256) × (next < 256) ⌝ }
     ensures { λ _. ⌜ Noted p t root action next (now (work .entry)) (now (work .exit)) ⌝ }
 {
-    let id = wide(work[p.memory + t.rows / p.stride]);
+    let id = wide(work[p.memory + t.rows % SLOTS]);
     if id != 0 {
         let at = step_at(p, id, root, action);
         store_step(work, at, id, root, action, next);
@@ -80,7 +86,7 @@ pub fn again(work: &mut [u8], p: Context, next: usize, slot: usize) -> u8
     let from = p.memory + TABLES - p.block + p.block * next;
     let nodes = wide(work[from]);
     copy_part(work, from, slot, 1 + nodes * (p.fluents + p.characters));
-    work[p.memory + slot / p.stride] = next as u8;
+    work[p.memory + (slot + 1) % SLOTS] = next as u8;
     0
 }
 
@@ -90,15 +96,15 @@ pub fn note_left(work: &mut [u8], p: Context, t: Table, root: usize, action: usi
         × (getD (now work) slot 0 ≤ 32) ⌝ }
     ensures { λ _. ⌜ LeftNoted p t root action slot (now (work .entry)) (now (work .exit)) ⌝ }
 {
-    work[p.memory + slot / p.stride] = 0;
+    work[p.memory + (slot + 1) % SLOTS] = 0;
     let next = intern_slot(work, p, slot);
     if next != 0 {
         note(work, p, t, root, action, next);
     }
 }
 
-// As `step_slot`, of what a row of the table in a slot means, into the next slot.
-pub fn known_step(
+// As `step_slot`, of what a row of the table in a slot means, into the next slot; it is copied where it is known.
+pub fn kept_step(
     pack: &[u8],
     places: &[u16],
     p: Context,
@@ -110,6 +116,8 @@ pub fn known_step(
     requires { ⌜ Steppable (now pack) (now places) p action (now work) (slotTable p (now work) slot) root
         (slot + p .stride) ⌝ }
     ensures { λ r. ⌜ Advances (now (pack .entry)) (now (places .entry)) p action slot root (now (work .entry))
+        (now (work .exit)) r
+        × StepOnce p (slotTable p (now (work .entry)) slot) root action (slot + p .stride) (now (work .entry))
         (now (work .exit)) r ⌝ }
 {
     let t = table_in(work, p, slot);
@@ -130,4 +138,72 @@ pub fn known_step(
         note(work, p, t, root, action, 0);
     }
     number
+}
+
+// How many steps have been made since there was no room; counted from 0 again after 65,535.
+pub fn steps_made(work: &[u8], p: Context) -> usize
+    requires { ⌜ (p .memory ≤ scratchAt) × (workRoom ≤ length (now work)) ⌝ }
+    ensures { λ r. ⌜ r < 65536 ⌝ }
+{
+    let at = p.memory + MADE_SINCE;
+    wide(work[at]) + 256 * wide(work[at + 1])
+}
+
+// Counts one more.
+pub fn count_step(work: &mut [u8], p: Context)
+    requires { ⌜ (p .memory ≤ scratchAt) × (workRoom ≤ length (now work)) ⌝ }
+    ensures { λ _. ⌜ Unasked p (now (work .entry)) (now (work .exit)) ⌝ }
+{
+    let count = steps_made(work, p) + 1;
+    let at = p.memory + MADE_SINCE;
+    work[at] = (count % 256) as u8;
+    work[at + 1] = (count / 256 % 256) as u8;
+}
+
+// As `kept_step`, made and not kept.
+pub fn plain_step(
+    pack: &[u8],
+    places: &[u16],
+    p: Context,
+    action: usize,
+    work: &mut [u8],
+    slot: usize,
+    root: usize,
+) -> u8
+    requires { ⌜ Steppable (now pack) (now places) p action (now work) (slotTable p (now work) slot) root
+        (slot + p .stride) ⌝ }
+    ensures { λ r. ⌜ Advances (now (pack .entry)) (now (places .entry)) p action slot root (now (work .entry))
+        (now (work .exit)) r ⌝ }
+{
+    let t = table_in(work, p, slot);
+    count_step(work, p);
+    let next = slot + p.stride;
+    let m = Move {
+        action,
+        triggers: p.triggers,
+    };
+    let number = step_slot(pack, places, m, work, t, root, next);
+    work[p.memory + (next + 1) % SLOTS] = 0;
+    number
+}
+
+// The step of what a row of the table in a slot means, into the next slot.
+pub fn known_step(
+    pack: &[u8],
+    places: &[u16],
+    p: Context,
+    action: usize,
+    work: &mut [u8],
+    slot: usize,
+    root: usize,
+) -> u8
+    requires { ⌜ Steppable (now pack) (now places) p action (now work) (slotTable p (now work) slot) root
+        (slot + p .stride) ⌝ }
+    ensures { λ r. ⌜ Advances (now (pack .entry)) (now (places .entry)) p action slot root (now (work .entry))
+        (now (work .exit)) r ⌝ }
+{
+    if has_overflowed(work, p) {
+        return plain_step(pack, places, p, action, work, slot, root);
+    }
+    kept_step(pack, places, p, action, work, slot, root)
 }

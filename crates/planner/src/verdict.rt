@@ -9,7 +9,6 @@ use crate::limits::explainable;
 use crate::limits::laid_out;
 use crate::regions::TABLES;
 use chart::bytes::clear;
-use chart::bytes::sweep;
 use chart::call::WORK_ROOM;
 use chart::call::check_lent;
 use chart::call::check_under;
@@ -65,7 +64,7 @@ pub fn verdict_in(
     copy_table(chart, 1, nodes, work, 0, p.fluents, p.characters);
     clear(work, p.memory, TABLES);
     let verdict = explained(pack, places, p, work, 0, d);
-    sweep(work, 0, WORK_ROOM);
+    clear(work, 0, WORK_ROOM);
     verdict
 }
 
@@ -91,7 +90,7 @@ pub fn verdict(
     match check_lent(nodes, WORK_ROOM <= work.len(), there) {
         Number::Refused(number, at) => Judged::Refused(number, at),
         Number::Is(n, _) => {
-            let context = laid_out(p, k, 1 + k.0 * e.0);
+            let context = laid_out(p, k, 1 + (1 + k.0) * e.0);
             let deed = Deed {
                 who: character,
                 nesting: e,

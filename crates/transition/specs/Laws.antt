@@ -4,7 +4,6 @@ pub mod Settled
 pub mod Tabled
 pub mod Decided
 pub mod Kept
-pub mod Still
 pub mod Stepping
 pub mod Step
 pub mod Replies

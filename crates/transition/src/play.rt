@@ -4,7 +4,7 @@ use crate::regions::SLOT;
 use crate::step::Move;
 use crate::step::step_slot;
 use chart::Charted;
-use chart::bytes::sweep;
+use chart::bytes::clear;
 use chart::call::CHART_ROOM;
 use chart::call::WORK_ROOM;
 use chart::call::both_at_most;
@@ -54,7 +54,7 @@ pub fn play(
     };
     let number = step_slot(pack, places, m, work, t, 0, SLOT);
     if number != 0 {
-        sweep(work, 0, WORK_ROOM);
+        clear(work, 0, WORK_ROOM);
         return Charted::Refused(number, 0);
     }
     let rows = wide(work[SLOT]);
@@ -66,7 +66,7 @@ pub fn play(
         width,
     };
     let length = write_chart(work, left, out);
-    sweep(work, 0, WORK_ROOM);
+    clear(work, 0, WORK_ROOM);
     Charted::Chart(length)
 }
 

@@ -9,7 +9,7 @@ use std::path::Path;
 pub const WIDTH: usize = 120;
 
 /// At most so many longer lines are left. Where there are fewer, this is to be lowered to their number.
-pub const BOUND: usize = 20;
+pub const BOUND: usize = 0;
 
 /// The longer lines of `crates/*/src` and `crates/*/specs`, each with its file.
 pub fn long(repository: &Path) -> Result<Vec<String>> {

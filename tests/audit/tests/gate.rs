@@ -144,7 +144,11 @@ fn the_rust_tests() {
     let gate = well("later");
     gate.stand_in("cargo", "#!/bin/sh\n[ \"$*\" != \"${*#*compare -p}\" ] && exit 1\ncat ../said/apart\n");
     gate.fails("a Rust test of the library");
-    well("audit").say("said/audit", "1").fails("the sources (tests/audit)");
+    let gate = well("audit");
+    gate.say("said/audit", "1").fails("the sources (tests/audit)");
+    assert!(!gate.ran().1.contains("pack proved"), "nothing is proved where the sources are at fault");
+    let gate = well("apart");
+    gate.stand_in("cargo", &CARGO.replace("*) cat ../said/apart", "*) exit 1")).fails("that needs nothing of the library");
     well("layout").say("said/fmt", "1").fails("sources are not in the layout");
     let gate = well("archive");
     gate.stand_in("rt", &RT.replace("cat \"said/lib$2\"", "exit 1")).fails("an archive for the Rust tests");

@@ -74,11 +74,11 @@ pub record Laid (bytes : List ℕ) (n w f c s m t : ℕ) : Type 0 where
 pub record Sound (bytes : List ℕ) (n w f c s : ℕ) : Type 0 where
   pub beliefs : (i k : ℕ) → i < n → k < c → getD bytes (s + i * w + f + k) 0 < n
 
--- what the copy leaves: r rows from t on, in the order met breadth first, that mean what the source means
-pub record Copied (was now : List ℕ) (n w f c s m t r : ℕ) : Type 0 where
+-- what the copy leaves: r rows from t on, in the order met breadth first, that mean what row x of the source means
+pub record Copied (was now : List ℕ) (n w f c s m t x r : ℕ) : Type 0 where
   pub some : 0 < r
   pub few : r ≤ n
   pub ordered : Ordered c (rowsAt now w f c t r)
-  pub means : meaning c (rowsAt now w f c t r) 0 ≡ meaning c (rowsAt was w f c s n) 0
+  pub means : meaning c (rowsAt now w f c t r) 0 ≡ meaning c (rowsAt was w f c s n) x
   pub low : Below was now m
   pub high : Above was now (t + n * w)

@@ -75,8 +75,13 @@ written-short C t u w closed pos e =
       count-all (length t),
       count-all (length u),
       count-inj all all (λ i j. meaning C t i ≡ meaning C u j) (length t) (length u)
-          (λ i l _. let (chain, v, g) = ordered-reached C t (w .ordered) i l in
-          (walk u 0 chain, walk-inside C u closed chain 0 pos v, tt, ap (meaning C t) (sym g) ∙ sym (after-walk C t chain 0 v) ∙ ap (λ (s : State). after s chain) e ∙ after-walk C u chain 0 v))
+          (λ i l _. let (chain, v, g) = ordered-reached C t (w .ordered) i l in (
+            walk u 0 chain,
+            walk-inside C u closed chain 0 pos v,
+            tt,
+            ap (meaning C t) (sym g)
+                ∙ sym (after-walk C t chain 0 v) ∙ ap (λ (s : State). after s chain) e ∙ after-walk C u chain 0 v,
+          ))
           (λ i j k l h _ x y. w .apart i j l h (x ∙ sym y)),
     )
 

@@ -235,7 +235,11 @@ some-nodes : (d : Dimensions) (s : List ℕ) (at : ℕ) (t : List Node) (n : ℕ
 unfolding nodesAt
 some-nodes d s at t n e =
     let b = both (between 1 33 3 s at) (λ k n. many (nodeAt d k) k s n) t n e in
-    omega (arith, between-within 1 33 3 s at (b .value) (b .place) (b .left), many-length (nodeAt d (b .value)) (b .value) s (b .place) t n (b .right))
+    omega (
+      arith,
+      between-within 1 33 3 s at (b .value) (b .place) (b .left),
+      many-length (nodeAt d (b .value)) (b .value) s (b .place) t n (b .right),
+    )
 
 -- a chart that was read, by its nodes
 pub nodes-read : {pack places chart : List ℕ} {x : Pack} {p : Contents} {t : List Node} {n : ℕ} → packOf pack ≡ gives x

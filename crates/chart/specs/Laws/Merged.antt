@@ -175,8 +175,11 @@ module _ (C : ℕ) (t : List Node) (cls : ℕ → ℕ) (u : List Node) (d : Merg
       omega (
         arith,
         getD-map cls (node t m .beliefs) j lm,
-        grows cls (target t r j) (met t m) (omega
-            (arith, meets-in (met t r) (node t r .beliefs) j (omega (arith, d .ordered .wide r hr)), met-up t (suc r) m lr)),
+        grows cls (target t r j) (met t m) (omega (
+          arith,
+          meets-in (met t r) (node t r .beliefs) j (omega (arith, d .ordered .wide r hr)),
+          met-up t (suc r) m lr,
+        )),
       ))
 
   -- the classes met by reading the first rows

@@ -191,7 +191,13 @@ pub ordered-sound : {bytes : List ℕ} {n w f c t : ℕ} → Ordered c (rowsAt b
 ordered-sound {bytes} {n} {w} {f} {c} {t} o = record {
   beliefs = λ i d l ld.
       let long = rows-length bytes w f c t n in
-      omega (arith, long, o .closed i d (omega (arith, long)) ld, ap (λ (m : Node). getD (m .beliefs) d 0) (rows-node bytes w f c t n i l), cells-at bytes (t + i * w + f) c d ld);
+      omega (
+        arith,
+        long,
+        o .closed i d (omega (arith, long)) ld,
+        ap (λ (m : Node). getD (m .beliefs) d 0) (rows-node bytes w f c t n i l),
+        cells-at bytes (t + i * w + f) c d ld,
+      );
 }
 
 pub room-same : {was now : List ℕ} {n w f c t k u : ℕ} → Room was n w f c t k u → length now ≡ length was

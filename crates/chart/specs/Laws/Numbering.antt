@@ -17,7 +17,17 @@ use Rattle.chart.specs.Contracts.Numbers.{slotAt, keyAt, Numbering, Give
 pub pigeons : (key : ℕ → ℕ) (count size : ℕ) → ((i : ℕ) → i < count → key i < size)
     → ((i j : ℕ) → i < j → j < count → key i ≡ key j → ⊥) → count ≤ size
 pigeons key count size there apart =
-    omega (arith, count-all count, count-all size, count-inj all all (λ i x. key i ≡ x) count size (λ i l _. (key i, there i l, tt, refl)) (λ i j x l h _ p q. apart i j l h (p ∙ sym q)))
+    omega (
+      arith,
+      count-all count,
+      count-all size,
+      count-inj all all (λ i x. key i ≡ x) count size (λ i l _. (
+        key i,
+        there i l,
+        tt,
+        refl,
+      )) (λ i j x l h _ p q. apart i j l h (p ∙ sym q)),
+    )
 
 module _ (bytes : List ℕ) (m size count : ℕ) (n : Numbering bytes m size count) where
   apart : (i j : ℕ) → i < j → j < count → keyAt bytes m size i ≡ keyAt bytes m size j → ⊥

@@ -35,7 +35,11 @@ module _ (C : ℕ) {K : Type 0} (Real : K → Type 0) (val : K → List ℕ) (ne
   inside : (t : List Node) (key : ℕ → K) → Pass t key → (i c : ℕ) → i < length t → c < C → target t i c < numbered t
   unfolding met
   inside t key p i c h l =
-      omega (arith, met-up t (suc i) (length t) h, meets-in (met t i) (node t i .beliefs) c (omega (arith, p .rows i h .wide)))
+      omega (
+        arith,
+        met-up t (suc i) (length t) h,
+        meets-in (met t i) (node t i .beliefs) c (omega (arith, p .rows i h .wide)),
+      )
 
   pub pass-start : (key : ℕ → K) → Real (key 0) → Pass [] key
   unfolding met

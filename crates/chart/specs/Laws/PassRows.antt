@@ -72,7 +72,12 @@ module _ {was old mid : List ℕ} {m size count more met to k r x : ℕ} {slots 
 
   below-met : (d : ℕ) → d < k → getD old (to + d) 0 < more
   below-met d l =
-      omega (arith, n .more-met, cells-at old to k d l, meets-in count (cells old to k) d (omega (arith, cells-length old to k)))
+      omega (
+        arith,
+        n .more-met,
+        cells-at old to k d l,
+        meets-in count (cells old to k) d (omega (arith, cells-length old to k)),
+      )
 
   same-cells : cells now to k ≡ cells old to k
   same-cells = cells-same old now to to k before

@@ -180,7 +180,11 @@ module _ {pack : List ℕ} {p : Pack} (g : Given pack p) where
       → length bytes ≤ chartRoom
   chart-bounded x =
       let w = fits-limits p (given-fits g) in
-      omega (arith, ap length (x .bytewise), chart-short (p .theory .characters) D (w .sizes) (w .characters .1) (w .fluents .1) (x .rows) (x .fits))
+      omega (
+        arith,
+        ap length (x .bytewise),
+        chart-short (p .theory .characters) D (w .sizes) (w .characters .1) (w .fluents .1) (x .rows) (x .fits),
+      )
 
   -- Start's reply is the written chart of what node 0 means
   pub start-writes : (chart work : List ℕ) → chartRoom ≤ length chart → workRoom ≤ length work

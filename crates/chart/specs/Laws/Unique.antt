@@ -82,7 +82,12 @@ module _ (C : ℕ) (t u : List Node) (w : Written C t) (v : Written C u) (e : me
       absurd (omega
       (arith, v .ordered .known (length t) l, w .ordered .whole, upto (length t) (omega arith) (omega arith) .0)))
       (λ x. by-cases (decLt (length u) (length t))
-      (λ l. absurd (omega (arith, w .ordered .known (length u) l, v .ordered .whole, upto (length u) (omega arith) (omega arith) .0))) (λ y. omega arith)) in
+      (λ l. absurd (omega (
+        arith,
+        w .ordered .known (length u) l,
+        v .ordered .whole,
+        upto (length u) (omega arith) (omega arith) .0,
+      ))) (λ y. omega arith)) in
       ext-getD nowhere t u long (upto (length t) (omega arith) (omega arith) .2)
 
 -- every row is reached: so the rows of a written chart are the states reached by beliefs, each once

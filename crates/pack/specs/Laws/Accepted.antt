@@ -161,7 +161,12 @@ rows-end d F C shaped nodes few s zero at t n e = omega (arith, same-place e, ze
 rows-end d F C shaped nodes few s (suc k) at t n e =
     let b = both (nodeAt d nodes s at) (λ a n. mapped (λ rest. a ∷ rest) (many (nodeAt d nodes) k s n)) t n e in
     let u = unmapped (λ rest. b .value ∷ rest) (many (nodeAt d nodes) k s (b .place)) t n (b .right) in
-    omega (arith, node-bytes d F C shaped nodes few s at (b .value) (b .place) (b .left) .beliefs .ends, rows-end d F C shaped nodes few s k (b .place) (u .value) n (u .left), suc-mul k (F + C))
+    omega (
+      arith,
+      node-bytes d F C shaped nodes few s at (b .value) (b .place) (b .left) .beliefs .ends,
+      rows-end d F C shaped nodes few s k (b .place) (u .value) n (u .left),
+      suc-mul k (F + C),
+    )
 
 -- nodes that are read believe in nodes that are read
 belief-below : (nodes : ℕ) (s : List ℕ) (at b n : ℕ) → beliefAt nodes s at ≡ done b n → b < nodes

@@ -41,7 +41,20 @@ three s at a b d v l e f g h i j k m =
     let l1 : at + 1 < length s = omega arith in
     let i0 : b ≡ 0 → ⊥ = omega arith in
     let j0 : d ≡ 0 → ⊥ = omega arith in
-    simp (lt-leb (length s) at l0, lt-leb (length s) (at + 1) l1, lt-leb (length s) (at + 2) l, e, f, g, le-ltb a 128 h, ne-eqb b 0 i0, le-ltb b 128 i, ne-eqb d 0 j0, le-ltb 3 d k, m)
+    simp (
+      lt-leb (length s) at l0,
+      lt-leb (length s) (at + 1) l1,
+      lt-leb (length s) (at + 2) l,
+      e,
+      f,
+      g,
+      le-ltb a 128 h,
+      ne-eqb b 0 i0,
+      le-ltb b 128 i,
+      ne-eqb d 0 j0,
+      le-ltb 3 d k,
+      m,
+    )
 
 by-size : (v : ℕ) → v < 65536 → (x y : Bool) → ltb v 128 ≡ x → ltb v 16384 ≡ y
     → (pre post : List ℕ)

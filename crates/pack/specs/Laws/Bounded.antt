@@ -249,7 +249,8 @@ chart-refusal t s k p e = go (whole (nodesAt (dimensions t)) s) refl e
     go (gives a) f e = never-gives (sym e)
     go (refuses j q) f e =
         let x : j + 20 ≡ k = same-number e in
-        omega (arith, whole-bounded s (length s) (nodesAt (dimensions t) s 0) j q (nodes-bounded (dimensions t) s 0 (omega arith)) f)
+        let bounded = nodes-bounded (dimensions t) s 0 (omega arith) in
+        omega (arith, whole-bounded s (length s) (nodesAt (dimensions t) s 0) j q bounded f)
 
 -- a refusal that is told fits a byte
 pub refusal-bounded : {A B : Type 0} (s : List ℕ) (g : A → B) (x : Reading A) (k p : ℕ) → Bounded s x

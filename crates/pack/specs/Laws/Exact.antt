@@ -240,7 +240,8 @@ module _ {S A : Type 0} (p : S → Reader A) (next : S → A → S) (P : S → A
         let (ha, sa, na) = x z .sound s bs at (b .value) (b .place) (b .left) in
         let (hl, sl, nl) = runs-exact k (next z (b .value)) .sound s bs (b .place) (m .value) n (m .left) in
         subst (λ (l : List A).
-        ((length l ≡ suc k) × Chained z l) × Stands s at (listBytes f l) × (n ≡ at + length (listBytes f l))) (m .right) (
+        ((length l ≡ suc k) × Chained z l) × Stands s at (listBytes f l)
+        × (n ≡ at + length (listBytes f l))) (m .right) (
           (ap suc (hl .0), (ha, hl .1)),
           stands-append s at (f (b .value)) (listBytes f (m .value)) sa
               (subst (λ (q : ℕ). Stands s q (listBytes f (m .value))) na sl),

@@ -1,18 +1,17 @@
--- What is asked of an effect, from its bytes, and of a list of effects, one by one; what one leaves. Assumes nothing.
-use Prim.Native.Nat.{ℕ, _+_}
+-- What is asked of an effect, from its bytes, and of a list of effects, one by one. Assumes nothing.
+use Prim.Native.Nat.{ℕ}
 use mathlib.Core.Path.{_≡_, refl, sym, ap, _∙_}
-use mathlib.Core.Bool.{Bool, true, false, cond, _&&_}
+use mathlib.Core.Bool.{Bool, true, false}
 use mathlib.Core.List.{List, [], _∷_}
 use lib.ListN.{getD}
 use lib.Dec.{eqb, ltb}
-use borrow.Author.Tests.{ne-eqb, eq-eqb}
 use Rattle.pack.specs.Syntax.{Effect}
 use Rattle.pack.specs.Reading.{done}
 use Rattle.pack.specs.Grammar.{Dimensions, effectAt}
 use Rattle.pack.specs.Contracts.Judge.{Small}
-use Rattle.pack.specs.Contracts.Effects.{asks, someOf, leaves}
+use Rattle.pack.specs.Contracts.Effects.{asks, someOf}
 use Rattle.pack.specs.declared.effects.Wanted.{Wanted}
-use Rattle.pack.specs.declared.effects.Wanted.the-variants.{For, Belief, Sets}
+use Rattle.pack.specs.declared.effects.Wanted.the-variants.{For, Belief}
 use Rattle.pack.specs.Laws.OneByte.{EffectBytes, effect-bytes}
 
 module _ (s : List ℕ) (at : ℕ) (d : Dimensions) (small : Small d) (x : Effect) (n : ℕ) (e : effectAt d s at ≡ done x n)
@@ -26,17 +25,6 @@ module _ (s : List ℕ) (at : ℕ) (d : Dimensions) (small : Small d) (x : Effec
   pub wanted-belief : (k : ℕ) → w ≡ Belief → getD s at 0 ≡ k → ltb 0 k ≡ asks w x
   wanted-belief k q h = ap (ltb 0) (sym (bytes .whom ∙ h)) ∙ ap (λ (w : Wanted). asks w x) (sym q)
 
-  pub wanted-sets : (fluent k : ℕ) → w ≡ Sets fluent → getD s at 0 ≡ 0 → getD s (at + 1) 0 ≡ k → eqb k fluent ≡ asks w x
-  wanted-sets fluent k q h g =
-      ap (λ (k : ℕ). eqb k fluent) (sym (bytes .fluent ∙ g))
-      ∙ ap (λ (b : Bool). b && eqb (x .fluent) fluent) (sym (eq-eqb (x .whom) 0 (bytes .whom ∙ h)))
-      ∙ ap (λ (w : Wanted). asks w x) (sym q)
-
-  pub wanted-not : (fluent : ℕ) → w ≡ Sets fluent → (getD s at 0 ≡ 0 → ⊥) → false ≡ asks w x
-  wanted-not fluent q h =
-      ap (λ (b : Bool). b && eqb (x .fluent) fluent) (sym (ne-eqb (x .whom) 0 (λ z. h (sym (bytes .whom) ∙ z))))
-      ∙ ap (λ (w : Wanted). asks w x) (sym q)
-
 -- one effect more
 pub some-here : (f : Effect → Bool) (e : Effect) (es : List Effect) → f e ≡ true → someOf f (e ∷ es) ≡ true
 unfolding someOf
@@ -49,11 +37,3 @@ some-on f e es h = rw h
 pub some-nil : (f : Effect → Bool) → someOf f [] ≡ false
 unfolding someOf
 some-nil f = refl
-
--- what an effect leaves, by what is told of it
-module _ (fluent value : ℕ) (e : Effect) {b : Bool} (q : b ≡ asks (Sets fluent) e) where
-  pub leaves-own : b ≡ true → e .value ≡ leaves fluent e value
-  leaves-own t = ap (λ (b : Bool). cond b (e .value) value) (sym t ∙ q)
-
-  pub leaves-old : b ≡ false → value ≡ leaves fluent e value
-  leaves-old f = ap (λ (b : Bool). cond b (e .value) value) (sym f ∙ q)

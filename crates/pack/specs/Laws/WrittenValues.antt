@@ -1,7 +1,7 @@
--- Effects written into the values of a row, and what they leave of one. Assumes nothing.
+-- Effects written into the values of a row. Assumes nothing.
 use Prim.Native.Nat.{ℕ, zero, suc, _+_, _-_, _<_, _≤_}
 use mathlib.Core.Path.{_≡_, refl, sym, ap, _∙_, subst}
-use mathlib.Core.Bool.{Bool, true, false, cond, _&&_}
+use mathlib.Core.Bool.{cond}
 use mathlib.Core.Logic.{by-cases}
 use mathlib.Core.List.{List, [], _∷_}
 use native.Mathlib.Decide.{decLt}
@@ -10,14 +10,13 @@ use native.Mathlib.Omega.{arith}
 use lib.ListN.{length, getD, set, length-set}
 use lib.Seq.{getD-set-same, getD-set-other, ext-getD}
 use lib.Dec.{eqb}
-use borrow.Author.Tests.{eq-eqb, ne-eqb, eqb-true, eqb-false}
+use borrow.Author.Tests.{eq-eqb, ne-eqb}
 use Rattle.pack.specs.Syntax.{Effect}
 use Rattle.pack.specs.Reading.{done, mapped, runs, many}
 use Rattle.pack.specs.Grammar.{Dimensions, effectAt}
 use Rattle.pack.specs.Condition.{write}
 use Rattle.pack.specs.Contracts.Table.{cells}
 use Rattle.pack.specs.Contracts.Write.{RowOnly, EffectWritten}
-use Rattle.pack.specs.Contracts.Effects.{leaves, leftOf}
 use Rattle.pack.specs.Laws.Reading.{same-value, both, unmapped}
 use Rattle.pack.specs.Laws.Rows.{upto-length, cells-at}
 use Rattle.pack.specs.Laws.OneByte.{effect-bytes}
@@ -146,36 +145,3 @@ write-first whom e es values now q = ap (write whom es) (sym q)
 pub write-nil : (whom : ℕ) (values : List ℕ) → write whom [] values ≡ values
 unfolding write
 write-nil whom values = refl
-
-pub left-first : (fluent : ℕ) (e : Effect) (es : List Effect) (value now : ℕ) → now ≡ leaves fluent e value
-    → leftOf fluent (e ∷ es) value ≡ leftOf fluent es now
-unfolding leftOf
-left-first fluent e es value now q = ap (leftOf fluent es) (sym q)
-
-pub left-nil : (fluent value : ℕ) → leftOf fluent [] value ≡ value
-unfolding leftOf
-left-nil fluent value = refl
-
--- what effects leave of a fluent stands there after they are written
-pub write-left : (es : List Effect) (fluent : ℕ) (values : List ℕ) → fluent < length values
-    → getD (write 0 es values) fluent 0 ≡ leftOf fluent es (getD values fluent 0)
-unfolding write leftOf
-write-left [] fluent values l = refl
-write-left (e ∷ es) fluent values l =
-    write-left es fluent (cond (eqb (e .whom) 0) (set values (e .fluent) (e .value)) values) (long (eqb (e .whom) 0))
-    ∙ ap (leftOf fluent es) (go (eqb (e .whom) 0) (eqb (e .fluent) fluent) refl)
-  where
-    long : (b : Bool) → fluent < length (cond b (set values (e .fluent) (e .value)) values)
-    long true = omega (arith, length-set values (e .fluent) (e .value), l)
-    long false = l
-
-    go : (b c : Bool) → eqb (e .fluent) fluent ≡ c
-        → getD (cond b (set values (e .fluent) (e .value)) values) fluent 0
-        ≡ cond (b && c) (e .value) (getD values fluent 0)
-    go false c q = refl
-    go true false q =
-        getD-set-other values (e .fluent) fluent (e .value) 0 (λ z. eqb-false (e .fluent) fluent q (sym z))
-    go true true q =
-        let same : e .fluent ≡ fluent = eqb-true (e .fluent) fluent q in
-        ap (λ (k : ℕ). getD (set values (e .fluent) (e .value)) k 0) (sym same)
-        ∙ getD-set-same values (e .fluent) (e .value) 0 (omega (arith, same, l))

@@ -4,9 +4,9 @@ use mathlib.Core.Bool.{Bool, true, false}
 use mathlib.Core.Logic.{_≢_}
 use mathlib.Core.List.{List}
 use Prim.Native.Nat.{ℕ, _+_, _*_, _<_, _≤_}
-use lib.ListN.{length}
+use lib.ListN.{length, getD}
 use Rattle.pack.specs.Syntax.{Node, Theory}
-use Rattle.pack.specs.State.{State, meaning}
+use Rattle.pack.specs.State.{State, meaning, belief}
 use Rattle.pack.specs.Contracts.Answer.{dims}
 use Rattle.pack.specs.Contracts.Table as table
 use Rattle.pack.specs.declared.table.Table.{Table}
@@ -54,15 +54,22 @@ pub record Told (M : List ℕ → Type 0) (slot : ℕ) (was now : List ℕ) (r :
   pub high : table.Above was now workRoom
   pub memory : M now
 
--- asked about the state in a slot, where what is known is true: the flag r says whether P holds of it
-abbrev pub Answers : (pack places : List ℕ) (h : Context) (slot : ℕ) (work work′ : List ℕ) (r : Bool)
+-- asked about what a row of the table in a slot means, where what is known is true: the flag r says whether P holds of
+-- it
+abbrev pub AnswersOf : (row : ℕ) (pack places : List ℕ) (h : Context) (slot : ℕ) (work work′ : List ℕ) (r : Bool)
     (P : Theory → State → Type 0)
     → Type 0
-Answers pack places h slot work work′ r P =
+AnswersOf row pack places h slot work work′ r P =
     (th : Theory) (T : List Node) → Stage th T pack places h work (slotTable h work slot) (slot + h .stride)
     → Memory th (h .foresight .0) h (slot + h .stride) work
     → Told (Memory th (h .foresight .0) h (slot + h .stride)) (slot + h .stride) work work′ r
-    (P th (meaning (h .characters) T 0))
+    (P th (meaning (h .characters) T row))
+
+-- about the state in it
+abbrev pub Answers : (pack places : List ℕ) (h : Context) (slot : ℕ) (work work′ : List ℕ) (r : Bool)
+    (P : Theory → State → Type 0)
+    → Type 0
+Answers = AnswersOf 0
 
 -- an action and a row of the table
 abbrev pub Steppable : (pack places : List ℕ) (h : Context) (a : ℕ) (work : List ℕ) (t : Table) (root slot : ℕ) → Type 0
@@ -87,6 +94,40 @@ Advances pack places h a slot root work work′ r =
     → Advanced th (h .foresight .0) h (meaning (h .characters) T root) a (slotTable h work slot) work work′
     (slot + h .stride) r
 
+-- a state in a slot, whatever the pack is
+abbrev pub Held : (h : Context) (work : List ℕ) (slot : ℕ) → Type 0
+Held h work slot =
+    (pack : List ℕ) × ((places : List ℕ) × Prepared pack places h work (slotTable h work slot) (slot + h .stride))
+
+-- what is believed is what a row means of the table in a slot, the one that the believer stands in or the next
+pub record BeliefAt (p : Theory) (foresight : ℕ) (h : Context) (pack places : List ℕ) (b : State) (was now : List ℕ)
+    (slot at row : ℕ) : Type 0 where
+  pub rows : List Node
+  pub stage : Stage p rows pack places h now (slotTable h now at) (at + h .stride)
+  pub inside : row < getD now at 0
+  pub means : meaning (h .characters) rows row ≡ b
+  pub from : slot ≤ at
+  pub to : at ≤ slot + h .stride
+  pub low : table.Below was now (slot + h .stride)
+  pub high : table.Above was now workRoom
+  pub memory : Memory p foresight h (at + h .stride) now
+
+-- what a row of the table in a slot means is laid out in the next
+abbrev pub LaysBelief : (h : Context) (slot row : ℕ) (work work′ : List ℕ) → Type 0
+LaysBelief h slot row work work′ =
+    (pack places : List ℕ) (th : Theory) (T : List Node)
+    → Stage th T pack places h work (slotTable h work slot) (slot + h .stride)
+    → Memory th (h .foresight .0) h (slot + h .stride) work
+    → BeliefAt th (h .foresight .0) h pack places (meaning (h .characters) T row) work work′ slot (slot + h .stride) 0
+
+-- what c believes in the state in a slot stands there
+abbrev pub PlacesBelief : (h : Context) (slot c : ℕ) (work work′ : List ℕ) (at row : ℕ) → Type 0
+PlacesBelief h slot c work work′ at row =
+    (pack places : List ℕ) (th : Theory) (T : List Node)
+    → Stage th T pack places h work (slotTable h work slot) (slot + h .stride)
+    → Memory th (h .foresight .0) h (slot + h .stride) work
+    → BeliefAt th (h .foresight .0) h pack places (belief (meaning (h .characters) T 0) c) work work′ slot at row
+
 -- an accepted pack and chart, numbers of something there, and a slot for each state of an explanation
 pub record Judging (th : Theory) (T : List Node) (pack places : List ℕ) (h : Context) (chart : List ℕ)
     (nodes character action foresight nesting : ℕ) (work : List ℕ) : Type 0 where
@@ -98,7 +139,7 @@ pub record Judging (th : Theory) (T : List Node) (pack places : List ℕ) (h : C
   pub what : action < h .actions
   pub foreseen : (0 < foresight) × (foresight ≤ 6)
   pub laid : Laid h
-  pub slots : Free h 0 (1 + foresight * nesting)
+  pub slots : Free h 0 (1 + (1 + foresight) * nesting)
   pub room : workRoom ≤ length work
 
 abbrev pub Judgeable : (pack places : List ℕ) (h : Context) (chart : List ℕ)

@@ -2,12 +2,12 @@
 -- nothing.
 use mathlib.Core.Path.{_≡_}
 use mathlib.Core.List.{List, _∷_}
-use Prim.Native.Nat.{ℕ, _+_, _<_}
+use Prim.Native.Nat.{ℕ, zero, suc, _+_, _<_}
 use lib.ListN.{getD}
 use Rattle.pack.specs.Syntax.{Theory}
 use Rattle.pack.specs.State.{State}
 use Rattle.pack.specs.declared.table.Table.{Table}
-use Rattle.transition.specs.Happening.{actionOf}
+use Rattle.transition.specs.Happening.{actionOf, Plays}
 use Rattle.planner.specs.declared.limits.Context.{Context}
 use Rattle.planner.specs.Ending.{Explained, utilityTo, authorUtility}
 use Rattle.planner.specs.Laws.Explaining as explaining
@@ -44,6 +44,12 @@ AboveBy p K e c base n x s =
 -- some action first
 abbrev pub AboveBySome : (p : Theory) (foresight nesting c base n : ℕ) → State → Type 0
 AboveBySome p K e c base n s = (x : ℕ) × AboveBy p K e c base n x s
+
+-- what Explained asks of c's belief b: the action is played in it, and then some list of fewer than K actions ends with
+-- c's utility above that in b
+unfoldable pub ExplainedBy : (p : Theory) (foresight nesting c action : ℕ) → State → Type 0
+ExplainedBy p K zero c a b = ⊥
+ExplainedBy p K (suc e) c a b = (t : State) × Plays p b a t × Above p K e c (utilityTo p c b) K t
 
 -- action x is explained to its consenters other than c
 abbrev pub Agreed : (p : Theory) (foresight nesting c x : ℕ) → State → Type 0

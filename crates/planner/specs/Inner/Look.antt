@@ -1,85 +1,48 @@
 -- What is looked at before an action is tried, and what is told of it. Assumes nothing.
 use mathlib.Core.Path.{_≡_}
-use mathlib.Core.Bool.{Bool, _&&_}
 use mathlib.Core.List.{List, []}
 use Prim.Native.Nat.{ℕ, _+_, _<_, _≤_}
 use lib.ListN.{length, getD}
-use lib.Dec.{ltb, leb}
-use Rattle.pack.specs.Contracts.Effects.{leftOf}
-use Rattle.pack.specs.Syntax.{Test, Theory}
+use Rattle.pack.specs.Syntax.{Theory}
 use Rattle.pack.specs.State.{State}
 use Rattle.pack.specs.Condition.{utility}
-use Rattle.pack.specs.Reading.{Reader}
-use Rattle.pack.specs.Grammar.{Dimensions, dimensions, testAt}
-use Rattle.pack.specs.Contracts.Contents.{Gives}
-use Rattle.pack.specs.Contracts.Judge.{Over}
+use Rattle.pack.specs.Reading.{Reader, done}
+use Rattle.pack.specs.Grammar.{Dimensions, dimensions}
+use Rattle.pack.specs.Contracts.Judge.{Small, Over, Readable}
 use Rattle.pack.specs.Contracts.Table.{stateOf, TableFits}
 use Rattle.pack.specs.declared.table.Table.{Table}
 use Rattle.chart.specs.Call.{workRoom}
-use Rattle.transition.specs.Happening.{Plays, actionOf}
-use Rattle.transition.specs.Laws.Still.{triggerWrites}
+use Rattle.transition.specs.Happening.{Plays}
 use Rattle.transition.specs.Contracts.Play.{Theorized}
 use Rattle.planner.specs.declared.limits.Context.{Context}
-use Rattle.planner.specs.declared.prune.Course.{Course}
 use Rattle.planner.specs.Inner.Lists.{slotTable}
-use Rattle.planner.specs.Inner.Reach.{someBelow, metBy, couldPass}
+use Rattle.planner.specs.Inner.Range.{Wider, TriggersInRange}
+
+-- a range for each fluent that a pack may have
+pub record Ranged (lows highs : List ℕ) : Type 0 where
+  pub lowest : 24 ≤ length lows
+  pub highest : 24 ≤ length highs
+
+-- a part of the pack is read at a place, and judged by ranges
+abbrev pub Judgeable : {A : Type 0} (part : Dimensions → Reader A) (pack : List ℕ) (at : ℕ) (lows highs : List ℕ)
+    → Type 0
+Judgeable part pack at lows highs = Readable part pack at × Ranged lows highs
+
+-- ranges are widened by what is read at a place: all that it writes is in range
+pub record Widened {A : Type 0} (part : Dimensions → Reader A) (inRange : (lows highs : List ℕ) → A → Type 0)
+    (pack : List ℕ) (at : ℕ) (lows highs lows′ highs′ : List ℕ) : Type 0 where
+  pub wider : Wider lows highs lows′ highs′
+  pub covers : (d : Dimensions) → Small d → (x : A) (n : ℕ) → part d pack at ≡ done x n → inRange lows′ highs′ x
 
 -- a theory with so many triggers is found in the pack
 abbrev pub Triggered : (pack places : List ℕ) (triggers : ℕ) → Type 0
 Triggered pack places triggers = (p : Theory) × ((actions : ℕ) × Theorized p pack places actions triggers)
 
--- the flag r says whether some trigger writes the fluent in a state itself
-abbrev pub Moved : (pack places : List ℕ) (triggers fluent : ℕ) (r : Bool) → Type 0
-Moved pack places triggers fluent r =
-    (p : Theory) (actions : ℕ) → Theorized p pack places actions triggers → r ≡ triggerWrites (p .triggers) fluent
-
--- a mark is one of 1 to `within`
-abbrev pub marked : (mark within : ℕ) → Bool
-marked mark within = ltb 0 mark && leb mark within
-
--- the actions of a course, by their marks: those below its end
-abbrev pub among : Course → List ℕ → ℕ → Bool
-among c ahead a = leb (c .from) a && marked (getD ahead a 0) (c .within)
-
--- which are actions of a theory that is found in the pack
-pub record Casting (p : Theory) (pack places : List ℕ) (c : Course) (ahead : List ℕ) : Type 0 where
-  pub actions : ℕ
-  pub theorized : Theorized p pack places actions (c .triggers)
-  pub there : c .to ≤ actions
-  pub long : c .to ≤ length ahead
-
-abbrev pub Cast : (pack places : List ℕ) (c : Course) (ahead : List ℕ) → Type 0
-Cast pack places c ahead = (p : Theory) × Casting p pack places c ahead
-
--- the flag r says whether one of them leaves of the test's fluent, which has a value, one that the test is met by
-abbrev pub Brought : (pack places : List ℕ) (c : Course) (ahead : List ℕ) (at fluent value : ℕ) (r : Bool) → Type 0
-Brought pack places c ahead at fluent value r =
-    (p : Theory) → Casting p pack places c ahead → (x : Test) → Gives (testAt (dimensions p)) pack at x
-    → r ≡ someBelow (λ a. among c ahead a && metBy x (leftOf fluent (actionOf p a .effects) value)) (c .to)
-
--- and a table to look at
-pub record Looking (p : Theory) (pack places : List ℕ) (c : Course) (ahead work : List ℕ) (t : Table) : Type 0 where
-  pub casting : Casting p pack places c ahead
-  pub over : Over (dimensions p) t
-  pub fits : TableFits t work
-  pub low : t .rows ≤ workRoom
-  pub some : 0 < t .nodes
-
--- a part of the pack is read at a place
-pub record Lookable {A : Type 0} (part : Dimensions → Reader A) (pack places : List ℕ) (c : Course) (ahead : List ℕ)
-    (at : ℕ) (work : List ℕ) (t : Table) : Type 0 where
-  pub theory : Theory
-  pub looking : Looking theory pack places c ahead work t
-  pub value : A
-  pub stands : Gives (part (dimensions theory)) pack at value
-
--- the flag r says of it what `could` says of what row 0 means, after some of these actions
-abbrev pub Looked : {A : Type 0} (part : Dimensions → Reader A) (could : (Test → Bool) → A → Bool)
-    (pack places : List ℕ) (c : Course) (ahead : List ℕ) (at : ℕ) (work : List ℕ) (t : Table) (r : Bool)
-    → Type 0
-Looked part could pack places c ahead at work t r =
-    (p : Theory) → Looking p pack places c ahead work t → (value : _) → Gives (part (dimensions p)) pack at value
-    → r ≡ could (couldPass p (among c ahead) (c .to) (stateOf t work 0)) value
+-- ranges are widened by what they write
+pub record TriggersWidened (pack places : List ℕ) (triggers : ℕ) (lows highs lows′ highs′ : List ℕ) : Type 0 where
+  pub wider : Wider lows highs lows′ highs′
+  pub covers : (p : Theory) (actions : ℕ) → Theorized p pack places actions triggers
+      → TriggersInRange lows′ highs′ (p .triggers) triggers
 
 -- an action of a theory that is found in the pack, and a table to try it in
 pub record Trial (p : Theory) (pack places : List ℕ) (triggers a : ℕ) (work : List ℕ) (t : Table) : Type 0 where

@@ -3,7 +3,7 @@
 use mathlib.Core.Path.{_≡_}
 use mathlib.Core.Logic.{_≢_}
 use mathlib.Core.List.{List}
-use Prim.Native.Nat.{ℕ, suc, _+_, _*_, _-_, _<_, _≤_}
+use Prim.Native.Nat.{ℕ, suc, _+_, _*_, _-_, _/_, _%_, _<_, _≤_}
 use lib.ListN.{length, getD}
 use Rattle.pack.specs.Syntax.{Theory}
 use Rattle.pack.specs.State.{State}
@@ -16,37 +16,40 @@ use Rattle.planner.specs.declared.limits.Context.{Context}
 use Rattle.planner.specs.declared.entry.Goal.{Goal}
 use Rattle.planner.specs.declared.entry.Deed.{Deed}
 use Rattle.planner.specs.declared.entry.Key.{Key}
-use Rattle.planner.specs.Ending.{Explained}
-use Rattle.planner.specs.Inner.Lists.{slotTable, Above, Ends}
+use Rattle.planner.specs.Inner.Lists.{slotTable, Above, ExplainedBy, Ends}
 use Rattle.transition.specs.Contracts.Stage.{slotRoom, scratchAt}
 
--- slots of `stride` bytes from the buffer's start on, at most 48, each with room for a count and 32 rows; the memory
+-- slots of `stride` bytes from the buffer's start on, at most 30, each with room for a count and 32 rows; the memory
 -- behind them, with 255 blocks for tables, and a step's scratch behind that
 pub record Laid (h : Context) : Type 0 where
   pub narrow : h .fluents + h .characters ≤ 30
-  pub wide : slotRoom (h .fluents + h .characters) ≤ h .stride
+  pub wide : slotRoom (h .fluents + h .characters) ≡ h .stride
   pub some : 1 < h .stride
-  pub few : h .memory < 48 * h .stride
+  pub few : h .memory ≤ 30 * h .stride
   pub blocks : 0 < h .block
-  pub room : h .memory + 2482 + 255 * h .block ≤ scratchAt
+  pub room : h .memory + 4404 + 255 * h .block ≤ scratchAt
 
--- it begins with the id of the table in each slot; then how many blocks are taken; behind that are ids found by a hash,
--- of which nothing is asked; then steps, lists and tables
+-- it begins with the id of the table in each slot, found by where its rows begin: slot after slot the remainder is one
+-- more; then how many blocks are taken; behind that is whether all has been forgotten once, ids found by a hash, and
+-- how many steps were made, of which nothing is asked; then steps, lists and tables
+abbrev pub idAt : Context → (rows : ℕ) → ℕ
+idAt h rows = h .memory + rows % 32
+
 abbrev pub takenAt : Context → ℕ
 takenAt h = h .memory + 48
 
 abbrev pub stepsAt : Context → ℕ
-stepsAt h = h .memory + 178
+stepsAt h = h .memory + 308
 
 abbrev pub factsAt : Context → ℕ
-factsAt h = h .memory + 690
+factsAt h = h .memory + 820
 
 abbrev pub tablesAt : Context → ℕ
-tablesAt h = h .memory + 2482
+tablesAt h = h .memory + 4404
 
 -- the table of an id begins with a block, that of 1 with the first
 abbrev pub keptAt : Context → ℕ → ℕ
-keptAt h n = h .memory + 2482 - h .block + h .block * n
+keptAt h n = h .memory + 4404 - h .block + h .block * n
 
 abbrev pub keptTable : Context → List ℕ → ℕ → Table
 keptTable h work n = slotTable h work (keptAt h n)
@@ -73,23 +76,24 @@ pub record StepFact (p : Theory) (h : Context) (work : List ℕ) (n root a next 
       × ((s : State) × Plays p (table.stateOf (keptTable h work n) work root) a s
       × Starts (h .characters) s (table.tableOf (keptTable h work next) work))
 
--- what is known of the lists of so many actions to a goal, and of a deed, is found by these
+-- what is known of the lists of so many actions to a goal, and of a deed by the belief that a row means, is found by
+-- these
 abbrev pub goalKey : Goal → ℕ → Key
 goalKey g left = record { who = g .who; nesting = g .nesting .0; number = left; base = g .base }
 
-abbrev pub deedKey : Deed → Key
-deedKey d = record { who = d .who; nesting = d .nesting .0; number = d .action; base = 0 }
+abbrev pub deedKey : Deed → (row : ℕ) → Key
+deedKey d row = record { who = d .who; nesting = d .nesting .0; number = d .action; base = row }
 
--- what a mark says of a state: of a character's lists 1 that there is none and 2 that there is one, of the author's 3
--- that there is none of exactly so many actions; and of an action, whether it is explained to the character, 4 no and 5
--- yes
-pub record Fact (p : Theory) (foresight mark : ℕ) (k : Key) (s : State) : Type 0 where
-  pub no : mark ≡ 1 → Above p foresight (k .nesting) (k .who) (k .base) (suc (k .number)) s → ⊥
-  pub yes : mark ≡ 2 → Above p foresight (k .nesting) (k .who) (k .base) (suc (k .number)) s
+-- what a mark says of the states that a table's rows mean: of a character's lists from the first 1 that there is none
+-- and 2 that there is one, of the author's 3 that there is none of exactly so many actions; and of an action, whether
+-- it is explained to the character by the belief that a row means, 4 no and 5 yes
+pub record Fact (p : Theory) (foresight mark : ℕ) (k : Key) (s : ℕ → State) : Type 0 where
+  pub no : mark ≡ 1 → Above p foresight (k .nesting) (k .who) (k .base) (suc (k .number)) (s 0) → ⊥
+  pub yes : mark ≡ 2 → Above p foresight (k .nesting) (k .who) (k .base) (suc (k .number)) (s 0)
   pub none : mark ≡ 3 → (list : List ℕ) (v : ℕ) → length list ≡ k .number
-      → Ends p foresight (k .nesting) (k .base) s list v → ⊥
-  pub unexplained : mark ≡ 4 → Explained p foresight (k .nesting) (k .who) (k .number) s → ⊥
-  pub explained : mark ≡ 5 → Explained p foresight (k .nesting) (k .who) (k .number) s
+      → Ends p foresight (k .nesting) (k .base) (s 0) list v → ⊥
+  pub unexplained : mark ≡ 4 → ExplainedBy p foresight (k .nesting) (k .who) (k .number) (s (k .base)) → ⊥
+  pub explained : mark ≡ 5 → ExplainedBy p foresight (k .nesting) (k .who) (k .number) (s (k .base))
 
 -- a byte for the mark and five for the key
 abbrev pub keyAt : List ℕ → ℕ → Key
@@ -104,7 +108,8 @@ keyAt work a =
 -- entries, each empty or true: the id of the table in slot i, a step at a, a fact at a with its id behind it
 abbrev pub SlotEntry : (h : Context) (work : List ℕ) (i : ℕ) → Type 0
 SlotEntry h work i =
-    0 < getD work (h .memory + i) 0 → HasId h work (slotTable h work (h .stride * i)) (getD work (h .memory + i) 0)
+    0 < getD work (idAt h (h .stride * i + 1)) 0
+    → HasId h work (slotTable h work (h .stride * i)) (getD work (idAt h (h .stride * i + 1)) 0)
 
 abbrev pub StepEntry : (p : Theory) (h : Context) (work : List ℕ) (a : ℕ) → Type 0
 StepEntry p h work a =
@@ -116,7 +121,7 @@ FactEntry p foresight h work a =
     0 < getD work (a + 6) 0
     → Kept h work (getD work (a + 6) 0)
     × Fact p foresight (getD work a 0) (keyAt work a)
-    (table.stateOf (keptTable h work (getD work (a + 6) 0)) work 0)
+    (table.stateOf (keptTable h work (getD work (a + 6) 0)) work)
 
 -- all are true; of slots, those before a place
 pub record Memory (p : Theory) (foresight : ℕ) (h : Context) (limit : ℕ) (work : List ℕ) : Type 0 where
@@ -124,7 +129,18 @@ pub record Memory (p : Theory) (foresight : ℕ) (h : Context) (limit : ℕ) (wo
   pub within : tablesAt h + h .block * getD work (takenAt h) 0 ≤ scratchAt
   pub slots : (i : ℕ) → h .stride * i + h .stride ≤ limit → SlotEntry h work i
   pub steps : (i : ℕ) → i < 128 → StepEntry p h work (stepsAt h + 4 * i)
-  pub facts : (i : ℕ) → i < 256 → FactEntry p foresight h work (factsAt h + 7 * i)
+  pub facts : (i : ℕ) → i < 512 → FactEntry p foresight h work (factsAt h + 7 * i)
+
+-- the id of the table in a slot, or 0 where it has none
+abbrev pub slotId : Context → List ℕ → Table → ℕ
+slotId h work t = getD work (idAt h (t .rows)) 0
+
+-- where a fact stands by an id and a key, and a step by the id of a table, a row and an action
+abbrev pub entryAt : Context → (id : ℕ) → Key → ℕ
+entryAt h id k = factsAt h + 7 * ((id * 11 + k .who % 8 * 37 + k .number % 32 * 5 + k .nesting % 4) % 512)
+
+abbrev pub stepAt : Context → (id root action : ℕ) → ℕ
+stepAt h id root a = stepsAt h + 4 * ((id * 11 + root * 5 + a) % 128)
 
 -- where an entry begins, of so many of a size
 pub record Place (count first size a : ℕ) : Type 0 where
@@ -150,10 +166,19 @@ pub record InSlot (h : Context) (work : List ℕ) (t : Table) (limit : ℕ) : Ty
   pub counted : getD work (h .stride * number) 0 ≡ t .nodes
   pub before : h .stride * number + h .stride ≤ limit
 
+-- it takes no more blocks than there are
+abbrev pub Fits : Context → Table → Type 0
+Fits h t = t .nodes * t .width / h .block < 255
+
 -- only the memory changes
 pub record Only (h : Context) (was now : List ℕ) : Type 0 where
   pub low : table.Below was now (h .memory)
   pub high : table.Above was now workRoom
+
+-- only what nothing is asked of changes
+pub record Unasked (h : Context) (was now : List ℕ) : Type 0 where
+  pub low : table.Below was now (h .memory + 49)
+  pub high : table.Above was now (stepsAt h)
 
 -- r is an id of the table, or 0, and what is known stays true
 pub record Stored (h : Context) (t : Table) (was now : List ℕ) (r : ℕ) : Type 0 where
@@ -163,9 +188,26 @@ pub record Stored (h : Context) (t : Table) (was now : List ℕ) (r : ℕ) : Typ
   pub memory : (p : Theory) (foresight limit : ℕ) → limit ≤ h .memory → Memory p foresight h limit was
       → Memory p foresight h limit now
 
--- the same of a table in a slot, where what is known is true
+-- the same of a table in a slot, where what is known is true; r is the slot's id from then on, and one where it fits
 pub record Interning (h : Context) (t : Table) (was now : List ℕ) (r : ℕ) : Type 0 where
   pub small : r < 256
+  pub stands : slotId h now t ≡ r
+  pub kept : Fits h t → 0 < r
+  pub only : Only h was now
+  pub told : (p : Theory) (foresight limit : ℕ) → limit ≤ h .memory → InSlot h was t limit
+      → Memory p foresight h limit was
+      → Memory p foresight h limit now × (0 < r → HasId h now t r)
+
+-- and where the slot has an id, it is that one
+pub record Identified (h : Context) (t : Table) (was now : List ℕ) (r : ℕ) : Type 0 where
+  pub interning : Interning h t was now r
+  pub known : 0 < slotId h was t → now ≡ was
+
+-- r is the id of a table in a slot, which is looked for and not kept; where the slot has one, it is that one
+pub record Sought (h : Context) (t : Table) (was now : List ℕ) (r : ℕ) : Type 0 where
+  pub small : r < 256
+  pub stands : slotId h now t ≡ r
+  pub known : 0 < slotId h was t → now ≡ was
   pub only : Only h was now
   pub told : (p : Theory) (foresight limit : ℕ) → limit ≤ h .memory → InSlot h was t limit
       → Memory p foresight h limit was
@@ -186,18 +228,41 @@ pub record KeyPut (was now : List ℕ) (a mark : ℕ) (k : Key) : Type 0 where
   pub low : table.Below was now a
   pub high : table.Above was now (a + 6)
 
+-- an entry of a fact
+pub record FactRead (work : List ℕ) (a id : ℕ) (k : Key) (mark : ℕ) : Type 0 where
+  pub some : 0 < id
+  pub marked : getD work a 0 ≡ mark
+  pub key : keyAt work a ≡ k
+  pub read : getD work (a + 6) 0 ≡ id
+
+-- of the table in a slot, at its place
+abbrev pub FactKnown : (h : Context) (work : List ℕ) (t : Table) (k : Key) (mark : ℕ) → Type 0
+FactKnown h work t k mark = FactRead work (entryAt h (slotId h work t) k) (slotId h work t) k mark
+
+-- r is the mark that stands there, or 0 where none does; where the slot has an id, nothing changes
+pub record Recalls (h : Context) (t : Table) (k : Key) (was now : List ℕ) (r : ℕ) : Type 0 where
+  pub found : (mark : ℕ) → FactKnown h now t k mark → r ≡ mark
+  pub none : ((mark : ℕ) → ¬ FactKnown h now t k mark) → r ≡ 0
+  pub same : 0 < slotId h was t → now ≡ was
+
+-- a mark stands there, where the table has an id and the key fits; where the slot had an id, it has it still
+pub record Notes (h : Context) (t : Table) (mark : ℕ) (k : Key) (was now : List ℕ) : Type 0 where
+  pub kept : Fits h t → 0 < slotId h now t
+  pub stands : Storable (slotId h now t) k → FactKnown h now t k mark
+  pub same : 0 < slotId h was t → slotId h now t ≡ slotId h was t
+
 -- what the mark r says of the state is true where what is known is
 pub record Recalled (h : Context) (t : Table) (k : Key) (was now : List ℕ) (r : ℕ) : Type 0 where
   pub only : Only h was now
   pub told : (p : Theory) (foresight limit : ℕ) → limit ≤ h .memory → InSlot h was t limit
       → Memory p foresight h limit was
-      → Memory p foresight h limit now × Fact p foresight r k (table.stateOf t was 0)
+      → Memory p foresight h limit now × Fact p foresight r k (table.stateOf t was)
 
 -- what is put down is true where what it says is
 pub record Remembered (h : Context) (t : Table) (mark : ℕ) (k : Key) (was now : List ℕ) : Type 0 where
   pub only : Only h was now
   pub memory : (p : Theory) (foresight limit : ℕ) → limit ≤ h .memory → InSlot h was t limit
-      → Memory p foresight h limit was → Fact p foresight mark k (table.stateOf t was 0)
+      → Memory p foresight h limit was → Fact p foresight mark k (table.stateOf t was)
       → Memory p foresight h limit now
 
 -- an entry of a step
@@ -207,7 +272,12 @@ pub record StepRead (work : List ℕ) (a id root action : ℕ) : Type 0 where
   pub row : getD work (a + 1) 0 ≡ root
   pub acted : getD work (a + 2) 0 ≡ action
 
--- which is put down
+-- of a row of the table in a slot, at its place; with the id of what the action leaves, or 0 where it does not play
+pub record StepKnown (h : Context) (work : List ℕ) (t : Table) (root action next : ℕ) : Type 0 where
+  pub entry : StepRead work (stepAt h (slotId h work t) root action) (slotId h work t) root action
+  pub leaves : getD work (stepAt h (slotId h work t) root action + 3) 0 ≡ next
+
+-- an entry is put down
 pub record StepPut (was now : List ℕ) (a id root action next : ℕ) : Type 0 where
   pub read : getD now a 0 ≡ id
   pub row : getD now (a + 1) 0 ≡ root
@@ -216,8 +286,10 @@ pub record StepPut (was now : List ℕ) (a id root action next : ℕ) : Type 0 w
   pub low : table.Below was now a
   pub high : table.Above was now (a + 4)
 
--- true where what it says is, of every id of the table
+-- true where what it says is, of every id of the table; it stands at its place where the slot has an id
 pub record Noted (h : Context) (t : Table) (root action next : ℕ) (was now : List ℕ) : Type 0 where
+  pub stands : 0 < slotId h now t → StepKnown h now t root action next
+  pub ids : table.Below was now (stepsAt h)
   pub only : Only h was now
   pub memory : (p : Theory) (foresight limit : ℕ) → limit ≤ h .memory → InSlot h was t limit
       → Memory p foresight h limit was → ((n : ℕ) → HasId h was t n → StepFact p h was n root action next)
@@ -231,9 +303,12 @@ pub record Slot (h : Context) (work : List ℕ) (slot : ℕ) : Type 0 where
   pub is : slot ≡ h .stride * number
   pub room : workRoom ≤ length work
 
--- the table of an id stands in it, as after a step that plays
+-- the table of an id stands in it, as after a step that plays; from the memory on only the slot's id is written, so no
+-- step is made
 pub record Again (h : Context) (next slot : ℕ) (was now : List ℕ) (r : ℕ) : Type 0 where
   pub refused : r ≢ 0 → next ≡ 0
+  pub named : r ≡ 0 → slotId h now (slotTable h now slot) ≡ next
+  pub others : (q : ℕ) → h .memory ≤ q → q ≢ idAt h (slot + 1) → getD now q 0 ≡ getD was q 0
   pub played : r ≡ 0
       → (0 < next) × (table.tableOf (slotTable h now slot) now ≡ table.tableOf (keptTable h was next) was)
       × (getD now slot 0 ≤ 32)
@@ -242,10 +317,22 @@ pub record Again (h : Context) (next slot : ℕ) (was now : List ℕ) (r : ℕ) 
   pub memory : (p : Theory) (foresight : ℕ) → Memory p foresight h slot was
       → Memory p foresight h slot now × (r ≡ 0 → Memory p foresight h (slot + h .stride) now)
 
--- what a step has left in it is known
+-- what a step has left in it is known, and the step where both tables have ids
 pub record LeftNoted (h : Context) (t : Table) (root a slot : ℕ) (was now : List ℕ) : Type 0 where
+  pub stands : 0 < slotId h now t → 0 < slotId h now (slotTable h now slot)
+      → StepKnown h now t root a (slotId h now (slotTable h now slot))
+  pub kept : Fits h (slotTable h now slot) → 0 < slotId h now (slotTable h now slot)
   pub only : Only h was now
   pub memory : (p : Theory) (foresight : ℕ) → InSlot h was t slot → Memory p foresight h slot was
       → ((s : State) × Plays p (table.stateOf t was root) a s
       × Starts (h .characters) s (table.tableOf (slotTable h was slot) was))
       → Memory p foresight h (slot + h .stride) now
+
+-- a step from a row of a table into a slot: one that is known is repeated, and any is known afterwards where the tables
+-- before and after it have ids
+pub record StepOnce (h : Context) (t : Table) (root a slot : ℕ) (was now : List ℕ) (r : ℕ) : Type 0 where
+  pub again : (next : ℕ) → StepKnown h was t root a next → Again h next slot was now r
+  pub kept : r ≡ 0 → Fits h (slotTable h now slot) → 0 < slotId h now (slotTable h now slot)
+  pub refused : r ≢ 0 → 0 < slotId h now t → StepKnown h now t root a 0
+  pub played : r ≡ 0 → 0 < slotId h now t → 0 < slotId h now (slotTable h now slot)
+      → StepKnown h now t root a (slotId h now (slotTable h now slot))

@@ -159,7 +159,7 @@ pub record Seeking (th : Theory) (T : List Node) (pack places : List ℕ) (h : C
   pub storied : story ≤ 8
   pub foreseen : (0 < foresight) × (foresight ≤ 6)
   pub laid : Laid h
-  pub slots : Free h 0 (1 + story + foresight * nesting)
+  pub slots : Free h 0 (1 + story + (1 + foresight) * nesting)
   pub list-room : listRoom ≤ length list
   pub room : workRoom ≤ length work
 

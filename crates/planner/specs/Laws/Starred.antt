@@ -51,7 +51,8 @@ abbrev pack : Pack
 pack = record { theory = P; nodes = first }
 
 given : Given row.P pack
-unfolding allBelow packOf packAt headAt nodesAt nodeAt theoryAt actionAt triggerAt rulesAt ruleAt conditionAt testAt effectsAt effectAt consentersAt numberAt between beliefAt risingAt runs
+unfolding allBelow packOf packAt headAt nodesAt nodeAt theoryAt actionAt triggerAt rulesAt ruleAt conditionAt testAt
+    effectsAt effectAt consentersAt numberAt between beliefAt risingAt runs
 given = record { bytewise = bytes row.P refl; accepted = refl }
 
 module _ (l : List ℕ) (t : List Node) (b : allBelow 256 l ≡ true) (e : chartOf P l ≡ gives t) where

@@ -91,7 +91,12 @@ module _ {d : Dimensions} {T : List Node} {work : List ℕ} {t : Table} (x : Tab
 
   pub belief-in : (m c : ℕ) → m < t .nodes → c < t .characters → target T m c < t .nodes
   belief-in m c h l =
-      omega (arith, ap (λ (T : List Node). target T m c) (x .same), x .fits .closed m c (omega (arith, rows-length work w (t .fluents) (t .characters) (t .rows) (t .nodes))) l, rows-length work w (t .fluents) (t .characters) (t .rows) (t .nodes))
+      omega (
+        arith,
+        ap (λ (T : List Node). target T m c) (x .same),
+        x .fits .closed m c (omega (arith, rows-length work w (t .fluents) (t .characters) (t .rows) (t .nodes))) l,
+        rows-length work w (t .fluents) (t .characters) (t .rows) (t .nodes),
+      )
 
   pub values-are : (m : ℕ) → m < t .nodes → cells work (t .rows + m * w) (t .fluents) ≡ node T m .values
   values-are m h =

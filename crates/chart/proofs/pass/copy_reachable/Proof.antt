@@ -10,12 +10,12 @@ use Rattle.chart.proofs.pass.copy_reachable.Statement.{statement}
 use Rattle.chart.proofs.pass.copy_reachable.Tie as tie
 
 abbrev Inv-loop : tie.InvT-loop
-Inv-loop work₀ s m t root count₀ i₀ work count i =
+Inv-loop work₀ s m t root first count₀ i₀ work count i =
     (length work ≡ length work₀) ×
-    Copying work₀ work (s .nodes) (s .width) (s .fluents) (s .characters) (s .rows) m t i count
+    Copying work₀ work (s .nodes) (s .width) (s .fluents) (s .characters) (s .rows) m t root i count
 
 abbrev μ-loop : tie.MeasureT-loop
-μ-loop work₀ s m t root count₀ i₀ work count i = s .nodes - i
+μ-loop work₀ s m t root first count₀ i₀ work count i = s .nodes - i
 
 number-of-requires : tie.Need-number-of-requires Inv-loop μ-loop
 number-of-requires c κs =

@@ -1,9 +1,8 @@
 -- As its bytes say, by what is asked. Assumes nothing.
-use mathlib.Core.Path.{refl, sym, _∙_}
 use native.Mathlib.Omega.{arith}
 use borrow.Author.Needs.{needs}
 use Rattle.pack.specs.Laws.OneByte.{effect-read}
-use Rattle.pack.specs.Laws.Wanted.{wanted-for, wanted-belief, wanted-sets, wanted-not}
+use Rattle.pack.specs.Laws.Wanted.{wanted-for, wanted-belief}
 use Rattle.pack.proofs.effects.is_wanted.Statement.{statement}
 use Rattle.pack.proofs.effects.is_wanted.Tie as tie
 
@@ -19,21 +18,6 @@ returns-2 c =
     let at-wide = at-match .before in
     λ d small x n e. wanted-belief _ _ d small x n e _ _ (c .enum-told .given .1) (at-wide .wide .ensures)
 
-returns-3 : tie.Need-returns-3
-returns-3 c =
-    let at-test = c .before .before in
-    let at-w2 = at-test .before .before in
-    let at-match = at-w2 .before in
-    let at-wide = at-match .before in
-    λ d small x n e. wanted-sets _ _ d small x n e _ _ _ (at-w2 .w2 .given .1) (at-wide .wide .ensures ∙ at-test .if1 .taken) (c .wide2 .ensures)
-
-returns-4 : tie.Need-returns-4
-returns-4 c =
-    let at-w2 = c .before .before in
-    let at-match = at-w2 .before in
-    let at-wide = at-match .before in
-    λ d small x n e. wanted-not _ _ d small x n e _ _ (at-w2 .w2 .given .1) (λ z. c .if1 .left (sym (at-wide .wide .ensures) ∙ z))
-
 pub is-wanted-spec : {M : Type 1} → statement M
 is-wanted-spec =
     tie.close
@@ -44,17 +28,5 @@ is-wanted-spec =
     (λ c κs. search needs)
     (λ c. search needs)
     (λ c. search needs)
-    (λ c. search needs)
-    (λ c.
-    let at-match = c .before .before .before in
-    let start = at-match .before .before .before .before in
-    omega (arith, effect-read (start .pre)))
-    (λ c.
-    let at-match = c .before .before .before .before in
-    let start = at-match .before .before .before .before in
-    omega (arith, effect-read (start .pre)))
-    (λ c κs. search needs)
     returns
-    returns-2
-    returns-3
-    returns-4)
+    returns-2)

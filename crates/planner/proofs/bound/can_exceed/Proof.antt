@@ -4,13 +4,15 @@ use native.Mathlib.Omega.{arith}
 use borrow.Author.Needs.{needs}
 use Rattle.pack.specs.Contracts.Said.{said}
 use Rattle.pack.specs.Laws.Reading.{never, same-value, same-place}
-use Rattle.planner.proofs.Pruning.{Rest, run-start, run-stop, run-on, run-none}
-use Rattle.planner.proofs.Bounds.{aboveRun, above-none, above-here, above-not, rules-inside, rules-next, above-told, above-number}
+use Rattle.pack.specs.Grammar.{ruleAt}
+use Rattle.planner.specs.Inner.Bound.{exceeds}
+use Rattle.planner.proofs.Pruning.{Rest, run-start, run-stop, run-on, run-none, tinyRun, run-next, run-inside, rules-parts, rules-told, rule-readable, rule-number}
+use Rattle.planner.proofs.Bounds.{above-none, above-here, above-not}
 use Rattle.planner.proofs.bound.can_exceed.Statement.{statement}
 use Rattle.planner.proofs.bound.can_exceed.Tie as tie
 
 abbrev Inv-loop : tie.InvT-loop
-Inv-loop pack at base n₀ left₀ n left = Rest (aboveRun base) pack at n left
+Inv-loop pack at base n₀ left₀ n left = Rest (tinyRun ruleAt (exceeds base)) pack at n left
 
 abbrev μ-loop : tie.MeasureT-loop
 μ-loop pack at base n₀ left₀ n left = left
@@ -21,7 +23,7 @@ returns c =
     let at-read-number = c .before .before in
     let at-after-condition = at-read-number .before in
     let turn = at-after-condition .before in
-    above-told _ (run-stop (aboveRun _) _ _ (turn .before .loop .inv) (turn .loop-test .taken) (λ k x rest g. never (above-number (at-after-condition .after-condition .ensures) (at-read-number .read-number .ensures ∙ ap said (c .enum-told .given .1)) (k .0) (k .1) x g)))
+    rules-told (run-stop (tinyRun ruleAt _) _ _ (turn .before .loop .inv) (turn .loop-test .taken) (λ k x rest g. never (rule-number (at-after-condition .after-condition .ensures) (at-read-number .read-number .ensures ∙ ap said (c .enum-told .given .1)) k x g)))
 
 returns-2 : tie.Need-returns-2 Inv-loop μ-loop
 returns-2 c =
@@ -29,8 +31,8 @@ returns-2 c =
     let at-read-number = at-value .before .before in
     let at-after-condition = at-read-number .before in
     let turn = at-after-condition .before in
-    above-told _ (run-stop (aboveRun _) _ _ (turn .before .loop .inv) (turn .loop-test .taken) (λ k x rest g.
-    let is = same-value (above-number (at-after-condition .after-condition .ensures) (at-read-number .read-number .ensures ∙ ap said (at-value .value .given .1)) (k .0) (k .1) x g) in
+    rules-told (run-stop (tinyRun ruleAt _) _ _ (turn .before .loop .inv) (turn .loop-test .taken) (λ k x rest g.
+    let is = same-value (rule-number (at-after-condition .after-condition .ensures) (at-read-number .read-number .ensures ∙ ap said (at-value .value .given .1)) k x g) in
     above-here _ x rest (omega (arith, is, c .if1 .taken))))
 
 loop-again : tie.Need-loop-again Inv-loop μ-loop
@@ -39,8 +41,8 @@ loop-again c =
     let at-read-number = at-value .before .before in
     let at-after-condition = at-read-number .before in
     let turn = at-after-condition .before in
-    run-on (aboveRun _) _ _ (turn .before .loop .inv) (turn .loop-test .taken) _ (λ k x g. sym (same-place (above-number (at-after-condition .after-condition .ensures) (at-read-number .read-number .ensures ∙ ap said (at-value .value .given .1)) (k .0) (k .1) x g))) (λ k x rest g.
-    let is = same-value (above-number (at-after-condition .after-condition .ensures) (at-read-number .read-number .ensures ∙ ap said (at-value .value .given .1)) (k .0) (k .1) x g) in
+    run-on (tinyRun ruleAt _) _ _ (turn .before .loop .inv) (turn .loop-test .taken) _ (λ k x g. sym (same-place (rule-number (at-after-condition .after-condition .ensures) (at-read-number .read-number .ensures ∙ ap said (at-value .value .given .1)) k x g))) (λ k x rest g.
+    let is = same-value (rule-number (at-after-condition .after-condition .ensures) (at-read-number .read-number .ensures ∙ ap said (at-value .value .given .1)) k x g) in
     above-not _ x rest (omega (arith, is, c .if1 .left)))
 
 pub can-exceed-spec : {M : Type 1} → statement M
@@ -49,15 +51,15 @@ can-exceed-spec =
     (tie.spec
     Inv-loop
     μ-loop
-    (λ c. omega (arith, rules-inside (c .before .pre)))
+    (λ c. omega (arith, run-inside ruleAt (rules-parts (c .before .pre))))
     (λ c.
     let start = c .before .before in
-    rules-inside (start .pre))
+    run-inside ruleAt (rules-parts (start .pre)))
     (λ c κs. search needs)
-    (λ c. run-start (aboveRun _) _ _ (omega arith) _ (c .wide .ensures))
+    (λ c. run-start (tinyRun ruleAt _) _ _ (omega arith) _ (c .wide .ensures))
     (λ c κs.
     let start = c .before .before .before .before .before in
-    rules-next (start .pre) _ (c .before .loop .inv) (c .loop-test .taken))
+    rule-readable (run-next ruleAt (rules-parts (start .pre)) (c .before .loop .inv) (c .loop-test .taken)))
     (λ c κs. search needs)
     (λ c. search needs)
     returns
@@ -66,4 +68,4 @@ can-exceed-spec =
     (λ c. search needs)
     (λ c. search needs)
     loop-again
-    (λ c. above-told _ (run-none (aboveRun _) _ _ (c .before .loop .inv) (c .loop-test .left) (λ k. above-none _))))
+    (λ c. rules-told (run-none (tinyRun ruleAt _) _ _ (c .before .loop .inv) (c .loop-test .left) (λ k. above-none _))))

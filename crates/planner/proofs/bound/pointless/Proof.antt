@@ -20,7 +20,7 @@ use Rattle.planner.specs.Ending.{utilityTo}
 use Rattle.planner.specs.Inner.Lists.{slotTable}
 use Rattle.planner.specs.Inner.Explain.{Stage}
 use Rattle.planner.specs.Inner.Bound.{exceeds, unexplained}
-use Rattle.planner.proofs.Explanations.{stage-believed, stage-rules, stage-utility, rules-in, utility-in, explained-plays}
+use Rattle.planner.proofs.Explanations.{stage-believed, stage-rules, stage-utility, rules-in, utility-in, explained-plays, by-belief}
 use Rattle.planner.proofs.TrueMemory.{unset}
 use Rattle.planner.proofs.Bounds.{judged-readable, stage-judged, stage-forbidden, stage-exceeds}
 use Rattle.planner.proofs.bound.pointless.Statement.{statement}
@@ -55,7 +55,7 @@ returns-2 c =
     let a = start .args in
     λ e th T y K E.
     let judged = subst (λ (t : Table). (d : Dimensions) → Over d t → (z : Condition) (n : ℕ) → conditionAt d (a .pack .now) (getD (a .places .now) (9 * a .d .action) 0) ≡ done z n → at-holds .holds .result ≡ holds (stateOf t (a .work .now) (at-wide .wide .result)) z) (at-table-in .table-in .ensures) (at-holds .holds .ensures) in
-    explained-plays th K E (a .d .who) (a .d .action) (meaning (a .p .characters) T 0) (λ s plays. stage-forbidden y (a .d .action) (start .pre .2) (at-wide .wide .result) judged (not-true (at-holds .holds .result) (c .if2 .taken)) s (subst (λ (z : State). Plays th z (a .d .action) s) (believed at-wide y .0) plays))
+    λ z. explained-plays th K E (a .d .who) (a .d .action) (belief (meaning (a .p .characters) T 0) (a .d .who)) (λ s plays. stage-forbidden y (a .d .action) (start .pre .2) (at-wide .wide .result) judged (not-true (at-holds .holds .result) (c .if2 .taken)) s (subst (λ (z : State). Plays th z (a .d .action) s) (believed at-wide y .0) plays)) (by-belief th K E (a .d .who) (a .d .action) (meaning (a .p .characters) T 0) z)
 
 utility-requires : tie.Need-utility-requires
 utility-requires c κs =

@@ -1,5 +1,6 @@
 -- The place of an entry. Assumes nothing.
 use Prim.Native.Nat.{_+_}
+use mathlib.Core.Path.{refl}
 use native.Mathlib.Omega.{arith}
 use Rattle.planner.proofs.TrueMemory.{placed}
 use borrow.Author.Needs.{needs}
@@ -25,4 +26,4 @@ entry-at-spec =
     omega (arith, start .pre))
     (λ c.
     let start = c .before .before .before .before in
-    placed 256 (omega arith) (start .args .p .memory + 690) 7 _))
+    (refl, placed 512 (omega arith) (start .args .p .memory + 820) 7 _)))

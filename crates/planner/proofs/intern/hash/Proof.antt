@@ -49,7 +49,7 @@ loop-again c =
 returns : tie.Need-returns Inv-loop μ-loop
 returns c =
     let at-loop = c .before in
-    let m : at-loop .loop .h % 127 < 127 = mod-lt (at-loop .loop .h) (omega arith) in
+    let m : at-loop .loop .h % 241 < 241 = mod-lt (at-loop .loop .h) (omega arith) in
     omega (arith, m)
 
 pub hash-spec : {M : Type 1} → statement M

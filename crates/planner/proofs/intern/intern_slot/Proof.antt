@@ -1,9 +1,10 @@
 -- The id that is looked up is the slot's. Assumes nothing.
+use Prim.Native.Nat.{_<_}
 use mathlib.Core.Path.{sym, subst}
 use native.Mathlib.Omega.{arith}
 use Rattle.pack.specs.declared.table.Table.{Table}
-use Rattle.planner.specs.Inner.Memory.{Before, Stored}
-use Rattle.planner.proofs.TrueMemory.{row-index, naming-new}
+use Rattle.planner.specs.Inner.Memory.{Before, Fits, Stored}
+use Rattle.planner.proofs.TrueMemory.{naming-new}
 use borrow.Author.Needs.{needs}
 use Rattle.planner.proofs.intern.intern_slot.Statement.{statement}
 use Rattle.planner.proofs.intern.intern_slot.Tie as tie
@@ -25,19 +26,16 @@ intern-slot-spec =
     omega (arith, start .pre .before, start .pre .laid .room))
     (λ c.
     let start = c .before .before .before .before .before .before .before .before in
-    omega (arith, start .pre .laid .some))
+    omega (arith, start .pre .laid .room))
     (λ c.
-    let start = c .before .before .before .before .before .before .before .before .before in
-    omega (arith, row-index (start .args .p) (start .pre), start .pre .laid .room))
-    (λ c.
-    let at-intern = c .before .before .before .before in
+    let at-intern = c .before .before .before in
     let start = at-intern .before .before .before .before .before in
-    omega (arith, row-index (start .args .p) (start .pre), start .pre .laid .room, start .pre .room, at-intern .intern .kept .0))
+    omega (arith, start .pre .laid .room, start .pre .room, at-intern .intern .kept .0))
     (λ c. search needs)
     (λ c.
-    let at-intern = c .before .before .before .before in
+    let at-intern = c .before .before .before in
     let at-table-in = at-intern .before .before in
     let start = at-table-in .before .before .before in
     let a = start .args in
     let k = at-intern .intern in
-    naming-new (a .p) (k .kept .0) (start .pre) (subst (λ (t : Table). Stored (a .p) t (a .work .now) (k .last .0) (k .result)) (at-table-in .table-in .ensures) (k .ensures))))
+    naming-new (a .p) (k .kept .0) (start .pre) (subst (λ (t : Table). Stored (a .p) t (a .work .now) (k .last .0) (k .result)) (at-table-in .table-in .ensures) (k .ensures .0)) (subst (λ (t : Table). Fits (a .p) t → 0 < k .result) (at-table-in .table-in .ensures) (k .ensures .1))))

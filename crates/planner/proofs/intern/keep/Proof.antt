@@ -1,6 +1,9 @@
 -- A table is kept, if need be in the place of all else. Assumes nothing.
-use mathlib.Core.Path.{_∙_}
+use Prim.Native.Nat.{_+_}
+use mathlib.Core.Path.{_≡_, _∙_}
 use native.Mathlib.Omega.{arith}
+use lib.ListN.{getD, set, length-set}
+use lib.Seq.{getD-set-other}
 use Rattle.planner.proofs.TrueMemory.{before-now, stored-anew}
 use borrow.Author.Needs.{needs}
 use Rattle.planner.proofs.intern.keep.Statement.{statement}
@@ -12,20 +15,36 @@ keep-spec =
     (tie.spec
     (λ c κs. search needs)
     (λ c. search needs)
-    (λ c. search needs)
+    (λ c.
+    let at-store = c .before .before .before in
+    (at-store .store .ensures .0, λ _. omega (arith, c .if1 .taken)))
     (λ c κs.
     let at-store = c .before .before .before .before in
     let start = at-store .before .before .before in
     omega (arith, start .pre .laid .room, start .pre .room, at-store .store .kept .0))
-    (λ c κs.
+    (λ c.
+    let start = c .before .before .before .before .before .before .before .before .before .before .before in
+    omega (arith, start .pre .laid .room))
+    (λ c.
     let at-clear = c .before .before .before in
     let at-store = at-clear .before .before .before .before .before in
     let start = at-store .before .before .before in
-    before-now (start .args .p) (at-clear .clear .kept .0 ∙ at-store .store .kept .0) (start .pre))
-    (λ c. search needs)
-    (λ c.
-    let at-store2 = c .before .before in
-    let at-clear = at-store2 .before .before .before .before in
+    omega (arith, start .pre .laid .room, start .pre .room, at-clear .clear .kept .0, at-store .store .kept .0))
+    (λ c κs.
+    let at-clear = c .before .before .before .before in
     let at-store = at-clear .before .before .before .before .before in
     let start = at-store .before .before .before in
-    stored-anew (start .args .p) (start .pre .laid) (at-store .store .ensures .only) (at-clear .clear .ensures) (at-store2 .store2 .ensures)))
+    before-now (start .args .p) (length-set (at-clear .clear .last .0) (start .args .p .memory + 49) 1 ∙ at-clear .clear .kept .0 ∙ at-store .store .kept .0) (start .pre))
+    (λ c.
+    let at-store2 = c .before .before in
+    let at-clear = at-store2 .before .before .before .before .before in
+    let at-store = at-clear .before .before .before .before .before in
+    let start = at-store .before .before .before in
+    at-store2 .store2 .kept .0 ∙ length-set (at-clear .clear .last .0) (start .args .p .memory + 49) 1 ∙ at-clear .clear .kept .0 ∙ at-store .store .kept .0)
+    (λ c.
+    let at-store2 = c .before .before in
+    let at-clear = at-store2 .before .before .before .before .before in
+    let at-store = at-clear .before .before .before .before .before in
+    let start = at-store .before .before .before in
+    let none : getD (set (at-clear .clear .last .0) (start .args .p .memory + 49) 1) (start .args .p .memory + 48) 0 ≡ 0 = getD-set-other (at-clear .clear .last .0) (start .args .p .memory + 49) (start .args .p .memory + 48) 1 0 (λ z. omega (arith, z)) ∙ at-clear .clear .ensures .clear 48 (omega arith) in
+    (stored-anew (start .args .p) (start .pre .laid) (at-store .store .ensures .0 .only) (at-clear .clear .ensures) (at-store2 .store2 .ensures .0), λ f. at-store2 .store2 .ensures .1 (omega (arith, f, none)))))

@@ -37,7 +37,8 @@ use Rattle.planner.proofs.prune.next_promising.Reads as next-promising-
 use Rattle.planner.proofs.reach.within_reach.Reads as within-reach-reads
 use Rattle.planner.proofs.entry.goal_key.Reads as goal-key-reads
 use Rattle.planner.proofs.entry.recall.Reads as recall-reads
-use Rattle.planner.proofs.entry.remember.Reads as remember-reads
+use Rattle.planner.proofs.entry.remember_worth.Reads as remember-worth-reads
+use Rattle.planner.proofs.steps.steps_made.Reads as steps-made-reads
 use Rattle.planner.proofs.search.ends.Reads as ends-reads
 use Rattle.planner.proofs.search.repeats.Reads as repeats-reads
 use Rattle.planner.proofs.steps.known_step.Reads as known-step-reads
@@ -95,7 +96,7 @@ abbrev completes-by-calls : ℕ → completes-by-lts.Claims
 completes-by-calls t = (allowed-reads.Asked, allowed-reads.Learnt, known-step-reads.Asked, known-step-reads.Learnt, completes-below t, completes.Post)
 
 abbrev completes-calls : ℕ → completes-lts.Claims
-completes-calls t = (ends-reads.Asked, ends-reads.Learnt, repeats-reads.Asked, repeats-reads.Learnt, within-reach-reads.Asked, within-reach-reads.Learnt, goal-key-reads.Asked, goal-key-reads.Learnt, recall-reads.Asked, recall-reads.Learnt, completes-after-below t, completes-after.Post, remember-reads.Asked, remember-reads.Learnt)
+completes-calls t = (ends-reads.Asked, ends-reads.Learnt, repeats-reads.Asked, repeats-reads.Learnt, within-reach-reads.Asked, within-reach-reads.Learnt, goal-key-reads.Asked, goal-key-reads.Learnt, recall-reads.Asked, recall-reads.Learnt, steps-made-reads.Asked, steps-made-reads.Learnt, completes-after-below t, completes-after.Post, remember-worth-reads.Asked, remember-worth-reads.Learnt)
 
 completes-mul-slot : (t : ℕ) → completes-lts.Need-mul-slot (completes-calls t) (completes-at t) completes.Post
 completes-mul-slot t c =
@@ -147,7 +148,7 @@ completes-within-reach-requires t c κs =
     let P = start .pre .1 in
     let a = start .args in
     let (th, (T, (y, mem, trail))) = P .0 in
-    let wanted = 1 + a .left + a .p .foresight .0 * a .g .nesting .0 in
+    let wanted = 1 + a .left + (1 + a .p .foresight .0) * a .g .nesting .0 in
     let few = free-few (a .p) (a .done * a .p .stride) wanted (y .laid) (P .3) in
     (((th, (T, y)), free-fewer (a .p) (a .done * a .p .stride) wanted 1 (omega arith) (P .3), omega arith), omega (arith, few))
 
@@ -185,18 +186,26 @@ completes-returns-4 t c =
     let a = start .args in
     let r = at-recall .recall in
     λ th T y mem trail.
-    let (m, fact) = r .ensures .told th (a .p .foresight .0) (a .done * a .p .stride + a .p .stride) (omega (arith, P .3)) (y .slotted) mem in
-    best-none _ (λ q l. r .ensures .only .low q (omega (arith, l, P .3))) (r .ensures .only .high) m (known y key fact .none (c .if4 .taken))
+    let (m, fact) = r .ensures .0 .told th (a .p .foresight .0) (a .done * a .p .stride + a .p .stride) (omega (arith, P .3)) (y .slotted) mem in
+    best-none _ (λ q l. r .ensures .0 .only .low q (omega (arith, l, P .3))) (r .ensures .0 .only .high) m (known y key fact .none (c .if4 .taken))
+
+completes-steps-made-requires : (t : ℕ) → completes-lts.Need-steps-made-requires (completes-calls t) (completes-at t) completes.Post
+completes-steps-made-requires t c κs =
+    let at-recall = c .before .before .before .before in
+    let at-if1 = at-recall .before .before .before .before .before .before .before .before .before in
+    let start = at-if1 .before .before .before .before .before .before in
+    let (th, (T, (y, mem, trail))) = start .pre .1 .0 in
+    (omega (arith, y .laid .room), omega (arith, y .room, at-recall .recall .kept .0))
 
 completes-sub-completes-after : (t : ℕ) → completes-lts.Need-sub-completes-after (completes-calls t) (completes-at t) completes.Post
 completes-sub-completes-after t c =
-    let at-repeats = c .before .before .before .before .before .before .before .before .before .before .before .before in
+    let at-repeats = c .before .before .before .before .before .before .before .before .before .before .before .before .before .before in
     let at-if1 = at-repeats .before .before in
     omega (arith, at-if1 .if1 .left)
 
 completes-completes-after-requires : (t : ℕ) → completes-lts.Need-completes-after-requires (completes-calls t) (completes-at t) completes.Post
 completes-completes-after-requires t c κs =
-    let at-recall = c .before .before .before .before .before in
+    let at-recall = c .before .before .before .before .before .before .before in
     let at-if1 = at-recall .before .before .before .before .before .before .before .before .before in
     let start = at-if1 .before .before .before .before .before .before in
     let (m, P) = start .pre in
@@ -204,12 +213,13 @@ completes-completes-after-requires t c κs =
     let (th, (T, (y, mem, trail))) = P .0 in
     let r = at-recall .recall in
     let up : a .left ≡ suc (a .left - 1) = omega (arith, at-if1 .if1 .left) in
-    (omega (arith, m, at-if1 .if1 .left), ((th, (T, ((slot-same (a .done * a .p .stride) y (λ q l. r .ensures .only .low q (omega (arith, l, P .3))) (r .kept .0)), (r .ensures .told th (a .p .foresight .0) (a .done * a .p .stride + a .p .stride) (omega (arith, P .3)) (y .slotted) mem .0), (trail-same th (a .p .foresight .0) (a .g .nesting .0) (a .g .base) (meaning (a .p .characters) T 0) (λ q l. r .ensures .only .low q (omega (arith, l, P .3))) (subst (λ (n : ℕ). Trail th (a .p .foresight .0) (a .g .nesting .0) (a .g .base) (a .p) (a .work .now) (a .done) n (meaning (a .p .characters) T 0)) up trail))))), P .1, P .2, free-fewer (a .p) (a .done * a .p .stride) (1 + a .left + a .p .foresight .0 * a .g .nesting .0) (2 + (a .left - 1) + a .p .foresight .0 * a .g .nesting .0) (omega (arith, at-if1 .if1 .left)) (P .3), omega (arith, P .4, at-if1 .if1 .left)))
+    (omega (arith, m, at-if1 .if1 .left), ((th, (T, ((slot-same (a .done * a .p .stride) y (λ q l. r .ensures .0 .only .low q (omega (arith, l, P .3))) (r .kept .0)), (r .ensures .0 .told th (a .p .foresight .0) (a .done * a .p .stride + a .p .stride) (omega (arith, P .3)) (y .slotted) mem .0), (trail-same th (a .p .foresight .0) (a .g .nesting .0) (a .g .base) (meaning (a .p .characters) T 0) (λ q l. r .ensures .0 .only .low q (omega (arith, l, P .3))) (subst (λ (n : ℕ). Trail th (a .p .foresight .0) (a .g .nesting .0) (a .g .base) (a .p) (a .work .now) (a .done) n (meaning (a .p .characters) T 0)) up trail))))), P .1, P .2, free-fewer (a .p) (a .done * a .p .stride) (1 + a .left + (1 + a .p .foresight .0) * a .g .nesting .0) (2 + (a .left - 1) + (1 + a .p .foresight .0) * a .g .nesting .0) (omega (arith, at-if1 .if1 .left)) (P .3), omega (arith, P .4, at-if1 .if1 .left)))
 
-completes-remember-requires : (t : ℕ) → completes-lts.Need-remember-requires (completes-calls t) (completes-at t) completes.Post
-completes-remember-requires t c κs =
+completes-remember-worth-requires : (t : ℕ) → completes-lts.Need-remember-worth-requires (completes-calls t) (completes-at t) completes.Post
+completes-remember-worth-requires t c κs =
     let at-completes-after = c .before .before .before .before .before .before in
-    let at-recall = at-completes-after .before .before .before .before .before .before in
+    let at-steps-made = at-completes-after .before .before .before in
+    let at-recall = at-steps-made .before .before .before .before .before in
     let at-if1 = at-recall .before .before .before .before .before .before .before .before .before in
     let start = at-if1 .before .before .before .before .before .before in
     let P = start .pre .1 in
@@ -218,15 +228,15 @@ completes-remember-requires t c κs =
     let r = at-recall .recall in
     let up : a .left ≡ suc (a .left - 1) = omega (arith, at-if1 .if1 .left) in
     let d = at-completes-after .completes-after in
-    let b = d .ensures th T (slot-same (a .done * a .p .stride) y (λ q l. r .ensures .only .low q (omega (arith, l, P .3))) (r .kept .0)) (r .ensures .told th (a .p .foresight .0) (a .done * a .p .stride + a .p .stride) (omega (arith, P .3)) (y .slotted) mem .0) (trail-same th (a .p .foresight .0) (a .g .nesting .0) (a .g .base) (meaning (a .p .characters) T 0) (λ q l. r .ensures .only .low q (omega (arith, l, P .3))) (subst (λ (n : ℕ). Trail th (a .p .foresight .0) (a .g .nesting .0) (a .g .base) (a .p) (a .work .now) (a .done) n (meaning (a .p .characters) T 0)) up trail)) in
-    stage-before (slot-same (a .done * a .p .stride) (slot-same {now = r .last .0} (a .done * a .p .stride) y (λ q l. r .ensures .only .low q (omega (arith, l, P .3))) (r .kept .0)) (b .low) (d .kept .1 .1 .1 .0)) (omega (arith, P .3))
+    let b = d .ensures th T (slot-same (a .done * a .p .stride) y (λ q l. r .ensures .0 .only .low q (omega (arith, l, P .3))) (r .kept .0)) (r .ensures .0 .told th (a .p .foresight .0) (a .done * a .p .stride + a .p .stride) (omega (arith, P .3)) (y .slotted) mem .0) (trail-same th (a .p .foresight .0) (a .g .nesting .0) (a .g .base) (meaning (a .p .characters) T 0) (λ q l. r .ensures .0 .only .low q (omega (arith, l, P .3))) (subst (λ (n : ℕ). Trail th (a .p .foresight .0) (a .g .nesting .0) (a .g .base) (a .p) (a .work .now) (a .done) n (meaning (a .p .characters) T 0)) up trail)) in
+    (stage-before (slot-same (a .done * a .p .stride) (slot-same {now = r .last .0} (a .done * a .p .stride) y (λ q l. r .ensures .0 .only .low q (omega (arith, l, P .3))) (r .kept .0)) (b .low) (d .kept .1 .1 .1 .0)) (omega (arith, P .3)), at-steps-made .steps-made .ensures)
 
 completes-same-length-5 : (t : ℕ) → completes-lts.Need-same-length-5 (completes-calls t) (completes-at t) completes.Post
 completes-same-length-5 t c =
     let at-remember = c .before .before in
     let at-completes-after = at-remember .before .before .before .before .before .before .before in
-    let at-recall = at-completes-after .before .before .before .before .before .before in
-    at-remember .remember .kept .0 ∙ at-completes-after .completes-after .kept .1 .1 .1 .0 ∙ at-recall .recall .kept .0
+    let at-recall = at-completes-after .before .before .before .before .before .before .before .before in
+    at-remember .remember-worth .kept .0 ∙ at-completes-after .completes-after .kept .1 .1 .1 .0 ∙ at-recall .recall .kept .0
 
 completes-same-length-6 : (t : ℕ) → completes-lts.Need-same-length-6 (completes-calls t) (completes-at t) completes.Post
 completes-same-length-6 t c =
@@ -239,7 +249,7 @@ completes-returns-5 t c =
     let at-remember = c .before .before in
     let at-if5 = at-remember .before .before in
     let at-completes-after = at-if5 .before .before .before .before .before in
-    let at-recall = at-completes-after .before .before .before .before .before .before in
+    let at-recall = at-completes-after .before .before .before .before .before .before .before .before in
     let key = at-recall .before .before .goal-key .ensures in
     let at-if1 = at-recall .before .before .before .before .before .before .before .before .before in
     let start = at-if1 .before .before .before .before .before .before in
@@ -247,18 +257,18 @@ completes-returns-5 t c =
     let a = start .args in
     let r = at-recall .recall in
     let d = at-completes-after .completes-after in
-    let rem = at-remember .remember .ensures in
+    let rem = at-remember .remember-worth .ensures in
     let zero : d .result ≡ 0 = omega (arith, at-if5 .if5 .taken) in
     let up : a .left ≡ suc (a .left - 1) = omega (arith, at-if1 .if1 .left) in
     λ th T y mem trail.
-    let b = best-from (λ q l. r .ensures .only .low q (omega (arith, l, P .3))) (r .ensures .only .high) (best-same (sym up) (d .ensures th T (slot-same (a .done * a .p .stride) y (λ q l. r .ensures .only .low q (omega (arith, l, P .3))) (r .kept .0)) (r .ensures .told th (a .p .foresight .0) (a .done * a .p .stride + a .p .stride) (omega (arith, P .3)) (y .slotted) mem .0) (trail-same th (a .p .foresight .0) (a .g .nesting .0) (a .g .base) (meaning (a .p .characters) T 0) (λ q l. r .ensures .only .low q (omega (arith, l, P .3))) (subst (λ (n : ℕ). Trail th (a .p .foresight .0) (a .g .nesting .0) (a .g .base) (a .p) (a .work .now) (a .done) n (meaning (a .p .characters) T 0)) up trail)))) in
-    let z′ = slot-same (a .done * a .p .stride) (slot-same {now = r .last .0} (a .done * a .p .stride) y (λ q l. r .ensures .only .low q (omega (arith, l, P .3))) (r .kept .0)) (d .ensures th T (slot-same (a .done * a .p .stride) y (λ q l. r .ensures .only .low q (omega (arith, l, P .3))) (r .kept .0)) (r .ensures .told th (a .p .foresight .0) (a .done * a .p .stride + a .p .stride) (omega (arith, P .3)) (y .slotted) mem .0) (trail-same th (a .p .foresight .0) (a .g .nesting .0) (a .g .base) (meaning (a .p .characters) T 0) (λ q l. r .ensures .only .low q (omega (arith, l, P .3))) (subst (λ (n : ℕ). Trail th (a .p .foresight .0) (a .g .nesting .0) (a .g .base) (a .p) (a .work .now) (a .done) n (meaning (a .p .characters) T 0)) up trail)) .low) (d .kept .1 .1 .1 .0) in
-    best-noted b (omega (arith, P .3)) (rem .only .low) (rem .only .high) (rem .memory th (a .p .foresight .0) (a .done * a .p .stride + a .p .stride) (omega (arith, P .3)) (z′ .slotted) (b .memory) (note z′ key (fact-of-none th (a .p .foresight .0) (a .g .nesting .0) (a .g .base) (meaning (a .p .characters) T 0) (b .none zero .1))))
+    let b = best-from (λ q l. r .ensures .0 .only .low q (omega (arith, l, P .3))) (r .ensures .0 .only .high) (best-same (sym up) (d .ensures th T (slot-same (a .done * a .p .stride) y (λ q l. r .ensures .0 .only .low q (omega (arith, l, P .3))) (r .kept .0)) (r .ensures .0 .told th (a .p .foresight .0) (a .done * a .p .stride + a .p .stride) (omega (arith, P .3)) (y .slotted) mem .0) (trail-same th (a .p .foresight .0) (a .g .nesting .0) (a .g .base) (meaning (a .p .characters) T 0) (λ q l. r .ensures .0 .only .low q (omega (arith, l, P .3))) (subst (λ (n : ℕ). Trail th (a .p .foresight .0) (a .g .nesting .0) (a .g .base) (a .p) (a .work .now) (a .done) n (meaning (a .p .characters) T 0)) up trail)))) in
+    let z′ = slot-same (a .done * a .p .stride) (slot-same {now = r .last .0} (a .done * a .p .stride) y (λ q l. r .ensures .0 .only .low q (omega (arith, l, P .3))) (r .kept .0)) (d .ensures th T (slot-same (a .done * a .p .stride) y (λ q l. r .ensures .0 .only .low q (omega (arith, l, P .3))) (r .kept .0)) (r .ensures .0 .told th (a .p .foresight .0) (a .done * a .p .stride + a .p .stride) (omega (arith, P .3)) (y .slotted) mem .0) (trail-same th (a .p .foresight .0) (a .g .nesting .0) (a .g .base) (meaning (a .p .characters) T 0) (λ q l. r .ensures .0 .only .low q (omega (arith, l, P .3))) (subst (λ (n : ℕ). Trail th (a .p .foresight .0) (a .g .nesting .0) (a .g .base) (a .p) (a .work .now) (a .done) n (meaning (a .p .characters) T 0)) up trail)) .low) (d .kept .1 .1 .1 .0) in
+    best-noted b (omega (arith, P .3)) (rem .only .low) (rem .only .high) (rem .memory th (a .p .foresight .0) (a .done * a .p .stride + a .p .stride) (omega (arith, P .3)) (z′ .slotted) (b .memory) (note z′ key (fact-of-none th (a .p .foresight .0) (a .g .nesting .0) (a .g .base) (meaning (a .p .characters) T) (b .none zero .1))))
 
 completes-same-length-7 : (t : ℕ) → completes-lts.Need-same-length-7 (completes-calls t) (completes-at t) completes.Post
 completes-same-length-7 t c =
     let at-completes-after = c .before .before .before .before .before in
-    let at-recall = at-completes-after .before .before .before .before .before .before in
+    let at-recall = at-completes-after .before .before .before .before .before .before .before .before in
     at-completes-after .completes-after .kept .1 .1 .1 .0 ∙ at-recall .recall .kept .0
 
 completes-same-length-8 : (t : ℕ) → completes-lts.Need-same-length-8 (completes-calls t) (completes-at t) completes.Post
@@ -269,7 +279,7 @@ completes-same-length-8 t c =
 completes-returns-6 : (t : ℕ) → completes-lts.Need-returns-6 (completes-calls t) (completes-at t) completes.Post
 completes-returns-6 t c =
     let at-completes-after = c .before .before .before .before .before in
-    let at-recall = at-completes-after .before .before .before .before .before .before in
+    let at-recall = at-completes-after .before .before .before .before .before .before .before .before in
     let at-if1 = at-recall .before .before .before .before .before .before .before .before .before in
     let start = at-if1 .before .before .before .before .before .before in
     let P = start .pre .1 in
@@ -278,7 +288,7 @@ completes-returns-6 t c =
     let d = at-completes-after .completes-after in
     let up : a .left ≡ suc (a .left - 1) = omega (arith, at-if1 .if1 .left) in
     λ th T y mem trail.
-    best-from (λ q l. r .ensures .only .low q (omega (arith, l, P .3))) (r .ensures .only .high) (best-same (sym up) (d .ensures th T (slot-same (a .done * a .p .stride) y (λ q l. r .ensures .only .low q (omega (arith, l, P .3))) (r .kept .0)) (r .ensures .told th (a .p .foresight .0) (a .done * a .p .stride + a .p .stride) (omega (arith, P .3)) (y .slotted) mem .0) (trail-same th (a .p .foresight .0) (a .g .nesting .0) (a .g .base) (meaning (a .p .characters) T 0) (λ q l. r .ensures .only .low q (omega (arith, l, P .3))) (subst (λ (n : ℕ). Trail th (a .p .foresight .0) (a .g .nesting .0) (a .g .base) (a .p) (a .work .now) (a .done) n (meaning (a .p .characters) T 0)) up trail))))
+    best-from (λ q l. r .ensures .0 .only .low q (omega (arith, l, P .3))) (r .ensures .0 .only .high) (best-same (sym up) (d .ensures th T (slot-same (a .done * a .p .stride) y (λ q l. r .ensures .0 .only .low q (omega (arith, l, P .3))) (r .kept .0)) (r .ensures .0 .told th (a .p .foresight .0) (a .done * a .p .stride + a .p .stride) (omega (arith, P .3)) (y .slotted) mem .0) (trail-same th (a .p .foresight .0) (a .g .nesting .0) (a .g .base) (meaning (a .p .characters) T 0) (λ q l. r .ensures .0 .only .low q (omega (arith, l, P .3))) (subst (λ (n : ℕ). Trail th (a .p .foresight .0) (a .g .nesting .0) (a .g .base) (a .p) (a .work .now) (a .done) n (meaning (a .p .characters) T 0)) up trail))))
 
 abbrev completes-after-Inv-loop : completes-after-lts.InvT-loop
 completes-after-Inv-loop pack places p work₀ list₀ done g left slot actions hope x₀ work list x = (length work ≡ length work₀) × (list ≡ list₀) × Below work₀ work (done * p .stride + p .stride) × Above work₀ work workRoom
@@ -501,7 +511,7 @@ completes-by-completes-requires t c κs =
     let agreed = agreed-from y (a .p .foresight .0) (a .g .nesting .0) (a .x) (P .1) (meaning (a .p .characters) T 0) (told .sound (not-false (w .result) (at-if1 .if1 .left))) in
     let next = trail-step (a .done * a .p .stride) y (a .p .foresight .0) (a .g .nesting .0) (a .g .base) trail refl (s .last .1 .1 .1 .1 .0) (λ q l. played .low q l ∙ told .low q l) (long ∙ w .kept .1 .1 .1 .0) (next-written z′ 0 played f long zero) (stage-extent (a .done * a .p .stride + a .p .stride) (next-stage z′ 0 played f long zero)) plays agreed in
     let here = on-path (a .done) (next-stage z′ 0 played f long zero) (played .further zero) in
-    (omega (arith, m), ((th, (nextTable z′ 0 played f long zero, (here .0, here .1, next))), P .2, P .3, free-next (a .p) (a .done) (a .left) (a .p .foresight .0 * a .g .nesting .0) (P .4), omega (arith, P .5)))
+    (omega (arith, m), ((th, (nextTable z′ 0 played f long zero, (here .0, here .1, next))), P .2, P .3, free-next (a .p) (a .done) (a .left) ((1 + a .p .foresight .0) * a .g .nesting .0) (P .4), omega (arith, P .5)))
 
 completes-by-cast-list : (t : ℕ) → completes-by-lts.Need-cast-list (completes-by-calls t) (completes-by-at t) completes-by.Post
 completes-by-cast-list t c =
@@ -618,9 +628,10 @@ pub +completes+completes-after+completes-by-spec : {M : Type 1} → statement M
     (completes-recall-requires t)
     (completes-same-length-4 t)
     (completes-returns-4 t)
+    (completes-steps-made-requires t)
     (completes-sub-completes-after t)
     (completes-completes-after-requires t)
-    (completes-remember-requires t)
+    (completes-remember-worth-requires t)
     (completes-same-length-5 t)
     (completes-same-length-6 t)
     (completes-returns-5 t)

@@ -63,8 +63,8 @@ completes-requires c κs =
     let (some, long, same, low, high, rest) = at-loop .loop .inv in
     let few = turn .loop-test .taken in
     let here = at-outset (slot-same 0 y low long) (rest th T y mem wr le .0) in
-    let count = 1 + at-loop .loop .n + a .p .foresight .0 * a .g .nesting .0 in
-    ((th, (T, (here .0, here .1, trail-outset (a .p .foresight .0) (a .g .nesting .0) (a .g .base) y low long wr le (rest th T y mem wr le .1)))), P .1, P .2, free-outset (a .p) count (free-fewer (a .p) 0 (1 + a .most + a .p .foresight .0 * a .g .nesting .0) count (omega (arith, few)) (P .5)), omega (arith, few, P .3, P .4, ap length same))
+    let count = 1 + at-loop .loop .n + (1 + a .p .foresight .0) * a .g .nesting .0 in
+    ((th, (T, (here .0, here .1, trail-outset (a .p .foresight .0) (a .g .nesting .0) (a .g .base) y low long wr le (rest th T y mem wr le .1)))), P .1, P .2, free-outset (a .p) count (free-fewer (a .p) 0 (1 + a .most + (1 + a .p .foresight .0) * a .g .nesting .0) count (omega (arith, few)) (P .5)), omega (arith, few, P .3, P .4, ap length same))
 
 returns-2 : tie.Need-returns-2 Inv-loop μ-loop
 returns-2 c =

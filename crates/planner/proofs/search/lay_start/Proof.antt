@@ -61,32 +61,16 @@ lay-start-spec =
     let m = at-merge-table .merge-table in
     omega (arith, x .laid .room, x .room, at-copy-table .copy-table .ensures .long, m .kept .0, length-set (m .last .0) 0 (m .result), at-copy-part .copy-part .kept .0))
     (λ c.
-    let start = c .before .before .before .before .before .before .before .before .before .before .before .before .before .before .before .before .before .before .before .before .before in
-    let (T, x) = start .pre in
-    omega (arith, x .laid .room))
-    (λ c. search needs)
-    (λ c κs.
-    let at-clear = c .before .before .before .before in
+    let at-clear = c .before .before in
     let at-copy-part = at-clear .before .before .before .before in
     let at-merge-table = at-copy-part .before .before .before .before in
     let at-copy-table = at-merge-table .before .before .before .before .before in
-    let start = at-copy-table .before .before .before .before in
-    let (T, x) = start .pre in
     let m = at-merge-table .merge-table in
-    omega (arith, x .laid .room, x .room, at-copy-table .copy-table .ensures .long, m .kept .0, length-set (m .last .0) 0 (m .result), at-copy-part .copy-part .kept .0, at-clear .clear .kept .0))
+    at-clear .clear .kept .0 ∙ at-copy-part .copy-part .kept .0 ∙ length-set (m .last .0) 0 (m .result) ∙ m .kept .0 ∙ at-copy-table .copy-table .ensures .long)
     (λ c.
-    let at-clear2 = c .before .before in
-    let at-clear = at-clear2 .before .before .before .before .before in
+    let at-clear = c .before .before in
     let at-copy-part = at-clear .before .before .before .before in
     let at-merge-table = at-copy-part .before .before .before .before in
     let at-copy-table = at-merge-table .before .before .before .before .before in
     let m = at-merge-table .merge-table in
-    at-clear2 .clear2 .kept .0 ∙ at-clear .clear .kept .0 ∙ at-copy-part .copy-part .kept .0 ∙ length-set (m .last .0) 0 (m .result) ∙ m .kept .0 ∙ at-copy-table .copy-table .ensures .long)
-    (λ c.
-    let at-clear2 = c .before .before in
-    let at-clear = at-clear2 .before .before .before .before .before in
-    let at-copy-part = at-clear .before .before .before .before in
-    let at-merge-table = at-copy-part .before .before .before .before in
-    let at-copy-table = at-merge-table .before .before .before .before .before in
-    let m = at-merge-table .merge-table in
-    λ T x. lay-done x (at-copy-table .copy-table .ensures) (m .ensures) (m .kept .0) (at-copy-part .copy-part .ensures) (at-clear .clear .ensures) (at-clear2 .clear2 .ensures)))
+    λ T x. lay-done x (at-copy-table .copy-table .ensures) (m .ensures) (m .kept .0) (at-copy-part .copy-part .ensures) (at-clear .clear .ensures)))

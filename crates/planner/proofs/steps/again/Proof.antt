@@ -6,7 +6,7 @@ use native.Mathlib.Omega.{arith}
 use lib.ListN.{getD}
 use Rattle.chart.specs.Contracts.Put.{PartCopied}
 use Rattle.chart.specs.Laws.Cells.{rows-most}
-use Rattle.planner.proofs.TrueMemory.{slot-few, copied-again, refused-again, blocks-most, kept-from}
+use Rattle.planner.proofs.TrueMemory.{copied-again, refused-again, blocks-most, kept-from}
 use borrow.Author.Needs.{needs}
 use Rattle.planner.proofs.steps.again.Statement.{statement}
 use Rattle.planner.proofs.steps.again.Tie as tie
@@ -61,18 +61,18 @@ again-spec =
     (omega (arith, kept-from p (start .args .next) (k .some), s .before, most, s .laid .wide), omega (arith, k .inside, size, taken, s .room), omega (arith, s .before, s .room, most, s .laid .wide, s .laid .room)))
     (λ c. search needs)
     (λ c.
+    let start = c .before .before .before .before .before .before .before .before .before .before .before .before in
+    omega (arith, start .pre .0 .before, start .pre .0 .laid .room))
+    (λ c.
     let start = c .before .before .before .before .before .before .before .before .before .before .before .before .before in
-    omega (arith, start .pre .0 .laid .some))
+    omega (arith, start .pre .0 .laid .room))
     (λ c.
-    let start = c .before .before .before .before .before .before .before .before .before .before .before .before .before .before in
-    omega (arith, slot-few (start .args .p) (start .pre .0), start .pre .0 .laid .room))
-    (λ c.
-    let at-copy-part = c .before .before .before .before in
+    let at-copy-part = c .before .before .before in
     let start = at-copy-part .before .before .before .before .before .before .before .before .before .before in
-    omega (arith, slot-few (start .args .p) (start .pre .0), start .pre .0 .laid .room, start .pre .0 .room, at-copy-part .copy-part .kept .0))
+    omega (arith, start .pre .0 .laid .room, start .pre .0 .room, at-copy-part .copy-part .kept .0))
     (λ c. search needs)
     (λ c.
-    let at-copy-part = c .before .before .before .before in
+    let at-copy-part = c .before .before .before in
     let at-wide = at-copy-part .before .before .before in
     let at-if1 = at-wide .before .before .before .before .before in
     let at-slice-known = at-if1 .before in
@@ -80,4 +80,4 @@ again-spec =
     let k = start .pre .2 (omega (arith, at-if1 .if1 .left)) in
     let a = start .args in
     let copied = at-copy-part .copy-part in
-    copied-again (a .p) (start .pre .0) (omega (arith, at-slice-known .slice-known .given (start .args .p .memory + 48))) k (subst (λ (n : ℕ). PartCopied (a .work .now) (copied .last .0) (a .p .memory + 2482 - a .p .block + a .p .block * a .next) (a .slot) (1 + n * (a .p .fluents + a .p .characters))) (sym (at-wide .wide .ensures)) (copied .ensures)) (copied .kept .0)))
+    copied-again (a .p) (start .pre .0) (omega (arith, at-slice-known .slice-known .given (start .args .p .memory + 48))) k (subst (λ (n : ℕ). PartCopied (a .work .now) (copied .last .0) (a .p .memory + 4404 - a .p .block + a .p .block * a .next) (a .slot) (1 + n * (a .p .fluents + a .p .characters))) (sym (at-wide .wide .ensures)) (copied .ensures)) (copied .kept .0)))

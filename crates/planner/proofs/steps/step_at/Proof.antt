@@ -1,5 +1,6 @@
 -- The place of an entry. Assumes nothing.
 use Prim.Native.Nat.{_+_}
+use mathlib.Core.Path.{refl}
 use native.Mathlib.Omega.{arith}
 use Rattle.planner.proofs.TrueMemory.{placed}
 use borrow.Author.Needs.{needs}
@@ -23,4 +24,4 @@ step-at-spec =
     omega (arith, start .pre))
     (λ c.
     let start = c .before in
-    placed 128 (omega arith) (start .args .p .memory + 178) 4 _))
+    (refl, placed 128 (omega arith) (start .args .p .memory + 308) 4 _)))

@@ -2,7 +2,7 @@
 use mathlib.Core.Path.{sym}
 use native.Mathlib.Omega.{arith}
 use borrow.Author.Needs.{needs}
-use Rattle.planner.proofs.ExplainedCall.{judge-able, judge-done, judge-refused, judge-sizes}
+use Rattle.planner.proofs.ExplainedCall.{judge-able, judge-done, judge-refused, judge-sizes, judge-ranges}
 use lib.Seq.{length-take-le}
 use Rattle.planner.proofs.verdict.verdict.Statement.{statement}
 use Rattle.planner.proofs.verdict.verdict.Tie as tie
@@ -26,6 +26,22 @@ verdict-spec =
     (λ c κs. search needs)
     (λ c. search needs)
     (λ c. search needs)
+    (λ c.
+    let at-n = c .before .before in
+    let at-check-lent = at-n .before .before in
+    let at-in-range = at-check-lent .before in
+    let at-check-under = at-in-range .before in
+    let at-read-pack = at-check-under .before .before .before .before in
+    let at-shared-slice-known2 = at-read-pack .before .before .before in
+    let at-shared-slice-known = at-shared-slice-known2 .before in
+    let start = at-shared-slice-known .before in
+    let a = start .args in
+    let u = at-check-under .check-under in
+    let i = at-in-range .in-range in
+    let l = at-check-lent .check-lent in
+    let ranges = judge-ranges (a .chart .now) (a .character) (a .action) (a .k .0) (a .e .0) (a .work .now) (at-read-pack .read-pack .ensures) (u .result) (u .ensures) (i .result) (i .ensures) (l .result) (l .ensures)
+    (λ i. omega (arith, at-shared-slice-known .shared-slice-known .given i)) (λ i. omega (arith, at-shared-slice-known2 .shared-slice-known2 .given i)) (omega (arith, at-read-pack .read-pack .kept)) _ _ (at-n .n .given .1) in
+    omega (arith, ranges))
     (λ c.
     let at-n = c .before .before .before in
     let at-check-lent = at-n .before .before in

@@ -29,8 +29,8 @@ explained-requires c κs =
     let e = at-clear .clear in
     ((th, (T, (judge-ready x l (e .ensures) (e .kept .0), judge-memory x l (e .ensures) (e .kept .0)))), x .who, x .what, x .foreseen .0, x .foreseen .1, x .slots)
 
-sweep-requires : tie.Need-sweep-requires
-sweep-requires c κs =
+clear-requires-2 : tie.Need-clear-requires-2
+clear-requires-2 c κs =
     let at-explained = c .before .before .before in
     let at-clear = at-explained .before .before .before .before in
     let at-copy-table = at-clear .before .before .before .before in
@@ -40,15 +40,15 @@ sweep-requires c κs =
 
 returns : tie.Need-returns
 returns c =
-    let at-sweep = c .before .before in
-    let at-explained = at-sweep .before .before .before .before in
+    let at-clear2 = c .before .before in
+    let at-explained = at-clear2 .before .before .before .before in
     let at-clear = at-explained .before .before .before .before in
     let at-copy-table = at-clear .before .before .before .before in
     let l = at-copy-table .copy-table .ensures in
     let e = at-clear .clear in
     let v = at-explained .explained in
-    let z = at-sweep .sweep in
+    let z = at-clear2 .clear2 in
     λ th T x. judge-verdict x l (judge-high x l (e .ensures) (e .kept .0)) (v .ensures th T (judge-ready x l (e .ensures) (e .kept .0)) (judge-memory x l (e .ensures) (e .kept .0))) (z .ensures) (omega (arith, z .kept, v .kept, e .kept, l .long))
 
 pub verdict-in-spec : {M : Type 1} → statement M
-verdict-in-spec = tie.close (tie.spec copy-table-requires clear-requires explained-requires sweep-requires (λ c. search needs) returns)
+verdict-in-spec = tie.close (tie.spec copy-table-requires clear-requires explained-requires clear-requires-2 (λ c. search needs) returns)

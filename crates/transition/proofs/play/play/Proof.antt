@@ -16,13 +16,13 @@ step-slot-requires c κs =
 
 returns : tie.Need-returns
 returns c =
-    let at-sweep = c .before .before in
-    let at-if1 = at-sweep .before .before in
+    let at-clear = c .before .before in
+    let at-if1 = at-clear .before .before in
     let at-step-slot = at-if1 .before .before .before in
     let at-copy-table = at-step-slot .before .before .before .before .before in
     let l = at-copy-table .copy-table .ensures in
     let s = at-step-slot .step-slot in
-    let z = at-sweep .sweep in
+    let z = at-clear .clear in
     λ p T n x. step-refused x l (s .ensures p T n (step-setting x l) (x .there) (x .read .some)) (at-if1 .if1 .taken) (z .ensures) (z .kept .0 ∙ s .kept .1 .1 .1 .0 ∙ l .long)
 
 -- where the action plays: the places before the count of rows is read
@@ -56,8 +56,8 @@ write-chart-requires c κs =
     let s = at-step-slot .step-slot in
     step-writes x l (s .ensures p T n (step-setting x l) (x .there) (x .read .some)) (omega (arith, at-if1 .if1 .left)) (sym (at-wide .wide .ensures)) (s .kept .1 .1 .1 .0 ∙ l .long)
 
-sweep-requires-2 : tie.Need-sweep-requires-2
-sweep-requires-2 c κs =
+clear-requires-2 : tie.Need-clear-requires-2
+clear-requires-2 c κs =
     let at-wide = c .before .before .before .before .before .before in
     let at-step-slot = at-stepped (at-played (at-wide .before)) in
     let at-copy-table = at-copied at-step-slot in
@@ -66,8 +66,8 @@ sweep-requires-2 c κs =
 
 returns-2 : tie.Need-returns-2
 returns-2 c =
-    let at-sweep = c .before .before in
-    let at-write-chart = at-sweep .before .before .before .before in
+    let at-clear = c .before .before in
+    let at-write-chart = at-clear .before .before .before .before in
     let at-wide = at-write-chart .before .before .before in
     let at-if1 = at-played (at-wide .before) in
     let at-step-slot = at-stepped at-if1 in
@@ -75,7 +75,7 @@ returns-2 c =
     let l = at-copy-table .copy-table .ensures in
     let s = at-step-slot .step-slot in
     let o = at-write-chart .write-chart in
-    let z = at-sweep .sweep2 in
+    let z = at-clear .clear2 in
     λ p T n x. step-left x l (s .ensures p T n (step-setting x l) (x .there) (x .read .some)) (omega (arith, at-if1 .if1 .left)) (sym (at-wide .wide .ensures)) (o .ensures) (o .kept .1 .1 .0) (z .ensures) (z .kept .0 ∙ s .kept .1 .1 .1 .0 ∙ l .long)
 
 pub play-spec : {M : Type 1} → statement M
@@ -99,7 +99,7 @@ play-spec =
     slice-read-wide
     (λ c κs. search needs)
     write-chart-requires
-    sweep-requires-2
+    clear-requires-2
     (λ c. search needs)
     (λ c. search needs)
     returns-2)

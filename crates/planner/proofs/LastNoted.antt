@@ -1,0 +1,92 @@
+-- What was last noted of a table that is kept is what is found again: a fact is recalled, a step repeated. Assumes nothing.
+use Prim.Native.Nat.{ℕ, _+_, _*_, _-_, _/_, _%_, _<_, _≤_}
+use mathlib.Core.Path.{_≡_, sym, ap, _∙_, subst}
+use mathlib.Core.Logic.{_≢_, by-cases}
+use mathlib.Core.List.{List}
+use native.Mathlib.Decide.{decLt}
+use native.Mathlib.Nat.{div-add-mod, mod-lt, mul-le-mul-left, mul-le-mul-right}
+use native.Mathlib.Omega.{arith}
+use lib.ListN.{getD}
+use Rattle.pack.specs.declared.contents.Contents.{Contents}
+use Rattle.pack.specs.declared.table.Table.{Table}
+use Rattle.transition.specs.Contracts.Stage.{slotRoom, scratchAt}
+use Rattle.planner.specs.declared.limits.Context.{Context}
+use Rattle.planner.specs.declared.limits.Foresight.{Foresight}
+use Rattle.planner.specs.declared.entry.Key.{Key}
+use Rattle.planner.specs.Inner.Layout.{laidOut}
+use Rattle.planner.specs.Inner.Lists.{slotTable}
+use Rattle.planner.specs.Inner.Memory.{idAt, stepsAt, slotId, entryAt, stepAt, Place, Before, InSlot, Fits, Identified, Storable, FactRead, FactKnown, Recalls, Notes, StepRead, StepKnown, Noted, Slot, Again, LeftNoted, StepOnce}
+use Rattle.planner.proofs.TrueMemory.{table-size, key-same, row-apart, step-here, step-there}
+
+-- as a call lays the work buffer out, every table fits
+pub tables-fit : (c : Contents) (k : Foresight) (slots : ℕ) {work : List ℕ} {t : Table} → (c .fluents ≤ 24) × (c .characters ≤ 6) × (slots ≤ 36) → Before (laidOut c k slots) work t → Fits (laidOut c k slots) t
+tables-fit c k slots {work} {t} (fluents, characters, few) b =
+    let size = slotRoom (c .fluents + c .characters) in
+    let block = laidOut c k slots .block in
+    let n = t .nodes * t .width in
+    let room = scratchAt - 4404 - slots * size in
+    let most : slots * size ≤ 36 * size = mul-le-mul-right size few in
+    let all = div-add-mod room 255 in
+    let rest : room % 255 < 255 = mod-lt room (omega arith) in
+    let wide : 4 ≤ block = omega (arith, most, all, rest) in
+    by-cases (decLt (n / block) 255) (λ l. l)
+    (λ l.
+    let over : 255 ≤ n / block = omega (arith, l) in
+    absurd (omega (arith, div-add-mod n block, mul-le-mul-left block over, wide, table-size (laidOut c k slots) b)))
+
+module _ (h : Context) where
+  module _ (slot : ℕ) where
+    -- the id of the table in the slot
+    abbrev held : List ℕ → ℕ
+    held work = slotId h work (slotTable h work slot)
+
+    -- a fact, where since then the slot's id and the entry's bytes are as they were
+    pub last-recalled : {mark : ℕ} {k : Key} {was noted later now : List ℕ} {r : ℕ} → Notes h (slotTable h was slot) mark k was noted → Storable (held noted) k → held later ≡ held noted → ((i : ℕ) → i < 7 → getD later (entryAt h (held noted) k + i) 0 ≡ getD noted (entryAt h (held noted) k + i) 0)
+        → Recalls h (slotTable h later slot) k later now r → r ≡ mark
+    last-recalled {mark} {k} {was} {noted} {later} x fits same bytes y =
+        let f = x .stands fits in
+        let a = entryAt h (held noted) k in
+        let none : a + 0 ≡ a = omega arith in
+        let here : FactRead later a (held noted) k mark = record {
+          some = f .some;
+          marked = ap (λ (q : ℕ). getD later q 0) (sym none) ∙ bytes 0 (omega arith) ∙ ap (λ (q : ℕ). getD noted q 0) none ∙ f .marked;
+          key = key-same (bytes 1 (omega arith)) (bytes 2 (omega arith)) (bytes 3 (omega arith)) (omega (arith, bytes 4 (omega arith), bytes 5 (omega arith))) ∙ f .key;
+          read = bytes 6 (omega arith) ∙ f .read;
+        } in
+        let there : FactKnown h later (slotTable h later slot) k mark = subst (λ (n : ℕ). FactRead later (entryAt h n k) n k mark) (sym same) here in
+        y .found mark (subst (λ (work : List ℕ). FactKnown h work (slotTable h later slot) k mark) (sym (y .same (there .some))) there)
+
+    -- a step, where nothing has changed since then: it is refused again, or what it left is copied
+    module _ {root a : ℕ} {was noted now : List ℕ} {r r′ : ℕ} (x : StepOnce h (slotTable h was slot) root a (slot + h .stride) was noted r) (some : 0 < held noted) (y : StepOnce h (slotTable h noted slot) root a (slot + h .stride) noted now r′) where
+      pub last-refused : r ≢ 0 → Again h 0 (slot + h .stride) noted now r′
+      last-refused e = let k = x .refused e some in y .again _ (record { entry = k .entry; leaves = k .leaves })
+
+      pub last-repeated : r ≡ 0 → 0 < slotId h noted (slotTable h noted (slot + h .stride)) → Again h (slotId h noted (slotTable h noted (slot + h .stride))) (slot + h .stride) noted now r′
+      last-repeated e left = let k = x .played e some left in y .again _ (record { entry = k .entry; leaves = k .leaves })
+
+  -- a step whose entry is looked up
+  module _ {t : Table} {was mid : List ℕ} {id root a at : ℕ} (x : Identified h t was mid id) (here : at ≡ stepAt h id root a) where
+    -- what stood there before stands there now
+    stood : {next : ℕ} → StepKnown h was t root a next → StepRead mid at id root a × (getD mid (at + 3) 0 ≡ next)
+    stood {next} k = step-here h (x .interning .stands) here (subst (λ (work : List ℕ). StepKnown h work t root a next) (sym (x .known (k .entry .some))) k)
+
+    -- it is there
+    pub once-again : {now : List ℕ} {slot next r : ℕ} → Place 128 (stepsAt h) 4 at → Slot h was slot → InSlot h was t slot → StepRead mid at id root a → getD mid (at + 3) 0 ≡ next → Again h next slot mid now r → StepOnce h t root a slot was now r
+    once-again {now} {slot} {next} {r} place s i read e y =
+        let last : (q : ℕ) → at ≤ q → getD now q 0 ≡ getD mid q 0 = λ q l. y .others q (omega (arith, l, place .is)) (λ z. omega (arith, z, l, place .is)) in
+        let same : slotId h now t ≡ id = y .others (idAt h (t .rows)) (omega arith) (row-apart h s i) ∙ x .interning .stands in
+        let stands : StepKnown h now t root a next = step-there h same here (record { some = read .some; read = last at (omega arith) ∙ read .read; row = last (at + 1) (omega arith) ∙ read .row; acted = last (at + 2) (omega arith) ∙ read .acted }) (last (at + 3) (omega arith) ∙ e) in
+        record {
+          again = λ n k. subst (λ (m : ℕ). Again h m slot was now r) (sym e ∙ stood k .1) (subst (λ (work : List ℕ). Again h next slot work now r) (x .known (k .entry .some)) y);
+          kept = λ z _. omega (arith, y .named z, y .played z .0);
+          refused = λ z _. subst (StepKnown h now t root a) (y .refused z) stands;
+          played = λ z _ _. subst (StepKnown h now t root a) (sym (y .named z)) stands;
+        }
+
+    -- it is not, and is put down
+    module _ {left now : List ℕ} {slot r : ℕ} (unread : ¬ StepRead mid at id root a) where
+      pub once-refused : r ≢ 0 → Noted h t root a 0 left now → StepOnce h t root a slot was now r
+      once-refused e y = record { kept = λ z. absurd (e z); again = λ n k. absurd (unread (stood k .0)); refused = λ _. y .stands; played = λ z. absurd (e z) }
+
+      pub once-left : r ≡ 0 → LeftNoted h t root a slot left now → StepOnce h t root a slot was now r
+      once-left e y = record { kept = λ _. y .kept; again = λ n k. absurd (unread (stood k .0)); refused = λ z. absurd (z e); played = λ _. y .stands }
