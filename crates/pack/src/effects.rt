@@ -1,8 +1,34 @@
-// The walk over effects where they stand: what is asked of one, and whether some effect of a list is such a one.
+// The walk over effects where they stand: one taken apart, what is asked of one, and whether some effect of a list is
+// such a one.
 use crate::number::wide;
+ghost use Rattle.pack.specs.Syntax.{Effect};
 ghost use Rattle.pack.specs.Grammar.{effectAt, effectsAt};
 ghost use Rattle.pack.specs.Contracts.Judge.{Readable, Tells, Ends};
 ghost use Rattle.pack.specs.Contracts.Effects.{asks, someOf};
+
+// For whom an effect is meant: 0 for the state itself, c + 1 for what character c believes.
+pub fn whom_of(s: &[u8], at: usize) -> usize
+    requires { ⌜ Readable effectAt (now s) at ⌝ }
+    ensures { λ r. ⌜ Tells effectAt (λ (x : Effect). x .whom) (now (s .entry)) at r ⌝ }
+{
+    wide(s[at])
+}
+
+// The fluent that an effect writes.
+pub fn written_fluent(s: &[u8], at: usize) -> usize
+    requires { ⌜ Readable effectAt (now s) at ⌝ }
+    ensures { λ r. ⌜ Tells effectAt (λ (x : Effect). x .fluent) (now (s .entry)) at r ⌝ }
+{
+    wide(s[at + 1])
+}
+
+// The value that it writes.
+pub fn written_value(s: &[u8], at: usize) -> u8
+    requires { ⌜ Readable effectAt (now s) at ⌝ }
+    ensures { λ r. ⌜ Tells effectAt (λ (x : Effect). x .value) (now (s .entry)) at r ⌝ }
+{
+    s[at + 2]
+}
 
 // What is asked of an effect: that it is meant for whom, or for anybody's belief.
 pub enum Wanted {
@@ -15,7 +41,7 @@ pub fn is_wanted(s: &[u8], at: usize, w: Wanted) -> bool
     requires { ⌜ Readable effectAt (now s) at ⌝ }
     ensures { λ r. ⌜ Tells effectAt (asks w) (now (s .entry)) at r ⌝ }
 {
-    let whom = wide(s[at]);
+    let whom = whom_of(s, at);
     match w {
         Wanted::For(who) => whom == who,
         Wanted::Belief => 0 < whom,

@@ -229,19 +229,19 @@ fluent-few {pack} {n} x fluent =
 
 -- Widening by an effect: only the ranges of its fluent change
 module _ {pack : List ℕ} {n : ℕ} (x : Readable effectAt pack n) where
-  pub effect-few : getD pack (n + 1) 0 < 24
-  effect-few =
+  pub effect-few : {f : ℕ} → Tells effectAt (λ (e : Effect). e .fluent) pack n f → f < 24
+  effect-few fluent =
       let b = effect-bytes (x .over) (x .small) pack n (x .value) (x .end) (x .reads) in
-      omega (arith, b .below, x .small .fluents)
+      omega (arith, fluent (x .over) (x .small) (x .value) (x .end) (x .reads), b .fluent, b .below, x .small .fluents)
 
 module _ {pack : List ℕ} {n : ℕ} {lows highs : List ℕ} where
-  pub widened-not : {w : ℕ} → getD pack n 0 ≡ w → (w ≡ 0 → ⊥) → Widened effectAt InRange pack n lows highs lows highs
+  pub widened-not : {w : ℕ} → Tells effectAt (λ (e : Effect). e .whom) pack n w → (w ≡ 0 → ⊥) → Widened effectAt InRange pack n lows highs lows highs
   widened-not is other = record {
     wider = wider-same;
-    covers = λ d small e m r q. absurd (other (sym is ∙ sym (effect-bytes d small pack n e m r .whom) ∙ q));
+    covers = λ d small e m r q. absurd (other (is d small e m r ∙ q));
   }
 
-  pub widened-one : {f v l h : ℕ} → getD pack (n + 1) 0 ≡ f → getD pack (n + 2) 0 ≡ v → f < length lows → f < length highs
+  pub widened-one : {f v l h : ℕ} → Tells effectAt (λ (e : Effect). e .fluent) pack n f → Tells effectAt (λ (e : Effect). e .value) pack n v → f < length lows → f < length highs
       → (l ≤ getD lows f 0) × (l ≤ v) → (getD highs f 0 ≤ h) × (v ≤ h) → Widened effectAt InRange pack n lows highs (set lows f l) (set highs f h)
   widened-one {f} {v} {l} {h} fluent value in-l in-h low high =
       let here-l : getD (set lows f l) f 0 ≡ l = getD-set-same lows f l 0 in-l in
@@ -256,9 +256,8 @@ module _ {pack : List ℕ} {n : ℕ} {lows highs : List ℕ} where
               (λ q. omega (arith, getD-set-other highs f i h 0 q));
         };
         covers = λ d small e m r q.
-            let b = effect-bytes d small pack n e m r in
-            let is : e .fluent ≡ f = b .fluent ∙ fluent in
-            let val : e .value ≡ v = b .value ∙ value in (
+            let is : e .fluent ≡ f = sym (fluent d small e m r) in
+            let val : e .value ≡ v = sym (value d small e m r) in (
               subst (λ (i : ℕ). getD (set lows f l) i 0 ≤ e .value) (sym is) (omega (arith, here-l, low .1, val)),
               subst (λ (i : ℕ). e .value ≤ getD (set highs f h) i 0) (sym is) (omega (arith, here-h, high .1, val)),
             );

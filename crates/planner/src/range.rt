@@ -4,6 +4,9 @@
 // Actions and triggers that may happen widen the ranges by what they write. What is believed is left open. Only a "no"
 // is promised anything: that it is so in no state within the ranges. So a range may have values that nothing writes.
 use pack::effects::after_effect;
+use pack::effects::whom_of;
+use pack::effects::written_fluent;
+use pack::effects::written_value;
 use pack::judge::after_alternative;
 use pack::judge::after_condition;
 use pack::number::Number;
@@ -14,6 +17,8 @@ use pack::places::TRIGGER_EFFECTS;
 use pack::test::after_test;
 use pack::test::chain_of;
 use pack::test::fluent_of;
+use pack::test::kind_of;
+use pack::test::tested_value;
 ghost use Prim.Native.Nat.{_<_, _≤_};
 ghost use mathlib.Core.Path.{_≡_};
 ghost use Rattle.pack.specs.Syntax.{Test};
@@ -40,8 +45,7 @@ pub fn could_meet(pack: &[u8], at: usize, low: u8, high: u8) -> bool
     requires { ⌜ Readable testAt (now pack) at ⌝ }
     ensures { λ r. ⌜ Tells testAt (λ (x : Test). couldMeet (x .kind) low high (x .value)) (now (pack .entry)) at r ⌝ }
 {
-    let n = at + 1 + wide(pack[at]);
-    some_relates(pack[n], low, high, pack[n + 2])
+    some_relates(kind_of(pack, at), low, high, tested_value(pack, at))
 }
 
 // Whether the test at a place could pass.
@@ -147,9 +151,9 @@ pub fn widen_one(pack: &[u8], at: usize, lows: &mut [u8], highs: &mut [u8])
     ensures { λ _. ⌜ Widened effectAt InRange (now (pack .entry)) at (now (lows .entry)) (now (highs .entry))
         (now (lows .exit)) (now (highs .exit)) ⌝ }
 {
-    if wide(pack[at]) == 0 {
-        let f = wide(pack[at + 1]);
-        let value = pack[at + 2];
+    if whom_of(pack, at) == 0 {
+        let f = written_fluent(pack, at);
+        let value = written_value(pack, at);
         lows[f] = lesser(lows[f], value);
         highs[f] = greater(highs[f], value);
     }

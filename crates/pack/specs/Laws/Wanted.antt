@@ -1,29 +1,20 @@
--- What is asked of an effect, from its bytes, and of a list of effects, one by one. Assumes nothing.
+-- What is asked of an effect, and of a list of effects, one by one. Assumes nothing.
 use Prim.Native.Nat.{ℕ}
 use mathlib.Core.Path.{_≡_, refl, sym, ap, _∙_}
 use mathlib.Core.Bool.{Bool, true, false}
 use mathlib.Core.List.{List, [], _∷_}
-use lib.ListN.{getD}
 use lib.Dec.{eqb, ltb}
 use Rattle.pack.specs.Syntax.{Effect}
-use Rattle.pack.specs.Reading.{done}
-use Rattle.pack.specs.Grammar.{Dimensions, effectAt}
-use Rattle.pack.specs.Contracts.Judge.{Small}
 use Rattle.pack.specs.Contracts.Effects.{asks, someOf}
 use Rattle.pack.specs.declared.effects.Wanted.{Wanted}
 use Rattle.pack.specs.declared.effects.Wanted.the-variants.{For, Belief}
-use Rattle.pack.specs.Laws.OneByte.{EffectBytes, effect-bytes}
 
-module _ (s : List ℕ) (at : ℕ) (d : Dimensions) (small : Small d) (x : Effect) (n : ℕ) (e : effectAt d s at ≡ done x n)
-    (w : Wanted) where
-  bytes : EffectBytes d s at x n
-  bytes = effect-bytes d small s at x n e
+module _ (x : Effect) (w : Wanted) where
+  pub wanted-for : {who k : ℕ} → w ≡ For who → k ≡ x .whom → eqb k who ≡ asks w x
+  wanted-for {who} q h = ap (λ (k : ℕ). eqb k who) h ∙ ap (λ (w : Wanted). asks w x) (sym q)
 
-  pub wanted-for : (who k : ℕ) → w ≡ For who → getD s at 0 ≡ k → eqb k who ≡ asks w x
-  wanted-for who k q h = ap (λ (k : ℕ). eqb k who) (sym (bytes .whom ∙ h)) ∙ ap (λ (w : Wanted). asks w x) (sym q)
-
-  pub wanted-belief : (k : ℕ) → w ≡ Belief → getD s at 0 ≡ k → ltb 0 k ≡ asks w x
-  wanted-belief k q h = ap (ltb 0) (sym (bytes .whom ∙ h)) ∙ ap (λ (w : Wanted). asks w x) (sym q)
+  pub wanted-belief : {k : ℕ} → w ≡ Belief → k ≡ x .whom → ltb 0 k ≡ asks w x
+  wanted-belief q h = ap (ltb 0) h ∙ ap (λ (w : Wanted). asks w x) (sym q)
 
 -- one effect more
 pub some-here : (f : Effect → Bool) (e : Effect) (es : List Effect) → f e ≡ true → someOf f (e ∷ es) ≡ true
