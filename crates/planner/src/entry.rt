@@ -16,7 +16,7 @@ ghost use lib.ListN.{length};
 ghost use Rattle.transition.specs.Contracts.Stage.{scratchAt};
 ghost use Rattle.planner.specs.Inner.Lists.{slotTable};
 ghost use Rattle.planner.specs.Inner.Memory.{Before, Place, Storable, KeyPut};
-ghost use Rattle.planner.specs.Inner.Memory.{Recalled, Recalls, Remembered, Notes};
+ghost use Rattle.planner.specs.Inner.Memory.{Recalled, Recalls, Remembered, Notes, Roomy};
 ghost use Rattle.planner.specs.Inner.Memory.{factsAt, entryAt, goalKey, deedKey, keyAt};
 
 // What a list is looked for: whose it is, at which nesting its actions are to be explained, and above which utility it
@@ -166,7 +166,9 @@ pub fn remember(work: &mut [u8], p: Context, slot: usize, mark: u8, k: Key)
 // As `recall`, of a character's lists: nothing is kept of them once there was no room.
 pub fn recall_list(work: &mut [u8], p: Context, slot: usize, k: Key) -> u8
     requires { ⌜ Before p (now work) (slotTable p (now work) slot) ⌝ }
-    ensures { λ r. ⌜ Recalled p (slotTable p (now (work .entry)) slot) k (now (work .entry)) (now (work .exit)) r ⌝ }
+    ensures { λ r. ⌜ Recalled p (slotTable p (now (work .entry)) slot) k (now (work .entry)) (now (work .exit)) r
+        × (Roomy p (now (work .entry)) → Recalls p (slotTable p (now (work .entry)) slot) k (now (work .entry))
+        (now (work .exit)) r) ⌝ }
 {
     if has_overflowed(work, p) {
         return 0;
@@ -178,7 +180,9 @@ pub fn recall_list(work: &mut [u8], p: Context, slot: usize, k: Key) -> u8
 pub fn remember_list(work: &mut [u8], p: Context, slot: usize, mark: u8, k: Key)
     requires { ⌜ Before p (now work) (slotTable p (now work) slot) ⌝ }
     ensures { λ _. ⌜ Remembered p (slotTable p (now (work .entry)) slot) mark k (now (work .entry))
-        (now (work .exit)) ⌝ }
+        (now (work .exit))
+        × (Roomy p (now (work .entry)) → Notes p (slotTable p (now (work .entry)) slot) mark k (now (work .entry))
+        (now (work .exit))) ⌝ }
 {
     if has_overflowed(work, p) {
         return;
@@ -191,7 +195,9 @@ pub fn remember_list(work: &mut [u8], p: Context, slot: usize, mark: u8, k: Key)
 pub fn remember_worth(work: &mut [u8], p: Context, slot: usize, mark: u8, k: Key, since: usize)
     requires { ⌜ Before p (now work) (slotTable p (now work) slot) × (since < 65536) ⌝ }
     ensures { λ _. ⌜ Remembered p (slotTable p (now (work .entry)) slot) mark k (now (work .entry))
-        (now (work .exit)) ⌝ }
+        (now (work .exit))
+        × (Roomy p (now (work .entry)) → Notes p (slotTable p (now (work .entry)) slot) mark k (now (work .entry))
+        (now (work .exit))) ⌝ }
 {
     if has_overflowed(work, p) {
         if steps_made(work, p) < since + WORTH {

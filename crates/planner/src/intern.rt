@@ -24,7 +24,7 @@ ghost use lib.ListN.{length, getD};
 ghost use Rattle.chart.specs.Call.{workRoom};
 ghost use Rattle.transition.specs.Contracts.Stage.{scratchAt};
 ghost use Rattle.planner.specs.Inner.Lists.{slotTable};
-ghost use Rattle.planner.specs.Inner.Memory.{takenAt, stepsAt, slotId, Before, HasId, Fits, Stored};
+ghost use Rattle.planner.specs.Inner.Memory.{takenAt, stepsAt, slotId, Roomy, Before, HasId, Fits, Stored};
 ghost use Rattle.planner.specs.Inner.Memory.{Interning, Identified, Sought};
 
 // The table in a slot.
@@ -53,9 +53,10 @@ pub fn is_large(work: &[u8], p: Context) -> bool
 }
 
 // Whether there was once no room, so that all has been forgotten. From then on a search keeps what is worth more than
-// the room it takes. Nothing depends on it.
+// the room it takes. No answer depends on it.
 pub fn has_overflowed(work: &[u8], p: Context) -> bool
     requires { ⌜ (p .memory ≤ scratchAt) × (workRoom ≤ length (now work)) ⌝ }
+    ensures { λ r. ⌜ (r ≡ true → ¬ Roomy p (now (work .entry))) × (r ≡ false → Roomy p (now (work .entry))) ⌝ }
 {
     0 < work[p.memory + OVERFLOWED]
 }

@@ -22,7 +22,7 @@ ghost use lib.ListN.{length, getD};
 ghost use Rattle.chart.specs.Call.{workRoom};
 ghost use Rattle.planner.specs.Inner.Lists.{slotTable};
 ghost use Rattle.planner.specs.Inner.Memory.{stepsAt, stepAt, Before, Kept, Place, StepRead, StepPut};
-ghost use Rattle.planner.specs.Inner.Memory.{Noted, Slot, Again, LeftNoted, StepOnce, Unasked};
+ghost use Rattle.planner.specs.Inner.Memory.{Noted, Slot, Again, LeftNoted, StepOnce, Unasked, Roomy};
 ghost use Rattle.planner.specs.Inner.Explain.{Steppable, Advances};
 ghost use Rattle.transition.specs.Contracts.Stage.{scratchAt};
 
@@ -200,7 +200,9 @@ pub fn known_step(
     requires { ⌜ Steppable (now pack) (now places) p action (now work) (slotTable p (now work) slot) root
         (slot + p .stride) ⌝ }
     ensures { λ r. ⌜ Advances (now (pack .entry)) (now (places .entry)) p action slot root (now (work .entry))
-        (now (work .exit)) r ⌝ }
+        (now (work .exit)) r
+        × (Roomy p (now (work .entry)) → StepOnce p (slotTable p (now (work .entry)) slot) root action
+        (slot + p .stride) (now (work .entry)) (now (work .exit)) r) ⌝ }
 {
     if has_overflowed(work, p) {
         return plain_step(pack, places, p, action, work, slot, root);

@@ -38,6 +38,10 @@ idAt h rows = h .memory + rows % 32
 abbrev pub takenAt : Context → ℕ
 takenAt h = h .memory + 48
 
+-- nothing has been forgotten yet
+abbrev pub Roomy : Context → List ℕ → Type 0
+Roomy h work = getD work (h .memory + 49) 0 ≡ 0
+
 abbrev pub stepsAt : Context → ℕ
 stepsAt h = h .memory + 308
 

@@ -11,10 +11,11 @@ recall-list-spec =
     (λ c κs. search needs)
     (λ c. search needs)
     (λ c.
-    let start = c .before .before .before .before in
-    recalled-nothing (start .args .p) (start .pre))
+    let at-has-overflowed = c .before in
+    let start = at-has-overflowed .before .before .before in
+    (recalled-nothing (start .args .p) (start .pre), λ z. absurd (at-has-overflowed .has-overflowed .ensures .0 (c .if1 .taken) z)))
     (λ c κs. search needs)
     (λ c. search needs)
     (λ c.
     let at-recall = c .before .before in
-    at-recall .recall .ensures .0))
+    (at-recall .recall .ensures .0, λ _. at-recall .recall .ensures .1)))

@@ -11,10 +11,11 @@ remember-list-spec =
     (λ c κs. search needs)
     (λ c. search needs)
     (λ c.
-    let start = c .before .before .before .before in
-    remembered-nothing (start .args .p) (start .pre))
+    let at-has-overflowed = c .before in
+    let start = at-has-overflowed .before .before .before in
+    (remembered-nothing (start .args .p) (start .pre), λ z. absurd (at-has-overflowed .has-overflowed .ensures .0 (c .if1 .taken) z)))
     (λ c κs. search needs)
     (λ c. search needs)
     (λ c.
     let at-remember = c .before .before in
-    at-remember .remember .ensures .0))
+    (at-remember .remember .ensures .0, λ _. at-remember .remember .ensures .1)))

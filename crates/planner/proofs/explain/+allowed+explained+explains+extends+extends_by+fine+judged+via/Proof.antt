@@ -472,7 +472,7 @@ judged-returns-3 t c =
     let a = start .args in
     let r = at-recall .recall in
     let x = at-explains .explains in
-    let rem = at-remember-worth .remember-worth .ensures in
+    let rem = at-remember-worth .remember-worth .ensures .0 in
     λ th T y mem.
     let told = x .ensures th T (slot-same {now = r .last .0} (a .slot) y (λ q l. r .ensures .0 .only .low q (omega (arith, l, within (a .p) (a .slot) (P .3) (P .6) (P .5)))) (r .kept .0)) (r .ensures .0 .told th (a .p .foresight .0) (a .slot + a .p .stride) (within (a .p) (a .slot) (P .3) (P .6) (P .5)) (y .slotted) mem .0) in
     let z = slot-same (a .slot) (slot-same {now = r .last .0} (a .slot) y (λ q l. r .ensures .0 .only .low q (omega (arith, l, within (a .p) (a .slot) (P .3) (P .6) (P .5)))) (r .kept .0)) (told .low) (x .kept .1 .1 .1 .0) in
@@ -502,7 +502,7 @@ explains-returns t c =
     let start = at-known-step .before .before .before .before .before in
     let a = start .args in
     λ th T y mem.
-    let played = at-known-step .known-step .ensures th T y mem in
+    let played = at-known-step .known-step .ensures .0 th T y mem in
     told-no (played .low) (played .high) (played .memory) (explained-plays th (a .p .foresight .0) (a .d .nesting .0) (a .d .who) (a .d .action) (meaning (a .p .characters) T (a .q)) (played .none (c .if1 .taken)))
 
 explains-add-next : (t : ℕ) → explains-lts.Need-add-next (explains-calls t) (explains-at t) explains.Post
@@ -555,7 +555,7 @@ explains-stays t c {th} {T} y mem =
     let start = c .before .before .before .before .before in
     let a = start .args in
     let s = c .known-step in
-    let low = s .ensures th T y mem .low in
+    let low = s .ensures .0 th T y mem .low in
     (slot-same (a .slot) y low (s .kept .1 .1 .1 .1 .0), omega (arith, start .pre .1 .7, low (a .slot) (omega (arith, y .laid .some))))
 
 explains-utility-requires : (t : ℕ) → explains-lts.Need-utility-requires (explains-calls t) (explains-at t) explains.Post
@@ -588,7 +588,7 @@ explains-extends-requires t c κs =
     let (th, (T, (y, mem))) = P .0 in
     let s = at-known-step .known-step in
     let f = held-step (a .p) (a .slot) (P .3) (P .6) (P .5) in
-    let played = s .ensures th T y mem in
+    let played = s .ensures .0 th T y mem in
     let long = s .kept .1 .1 .1 .1 .0 in
     let zero : s .result ≡ 0 = omega (arith, at-if1 .if1 .left) in
     (omega (arith, m, P .4, P .6), ((th, (nextTable y _ played f long zero, (next-stage y _ played f long zero, played .further zero))), P .1, P .3, P .4, held-rest (a .p) (a .slot) (P .3) (P .6) (P .5)))
@@ -618,7 +618,7 @@ explains-returns-2 t c =
     λ th T y mem.
     let b = meaning (a .p .characters) T (a .q) in
     let by : ℕ → Type 0 = λ e. ExplainedBy th (a .p .foresight .0) e (a .d .who) (a .d .action) b in
-    let played = s .ensures th T y mem in
+    let played = s .ensures .0 th T y mem in
     let base = stage-utility (explains-stays t at-known-step y mem .0) (a .d .who) (a .q) (P .1) (utility-in (a .pack .now) (getD (a .places .now) (321 + a .d .who) 0) (s .last .1 .1 .1 .1 .0) (a .q) (at-utility .utility .result) (at-table-in .table-in .ensures) (at-utility .utility .ensures)) in
     let plays = next-plays y _ played f long zero in
     let told = at-extends .extends .ensures th (nextTable y _ played f long zero) (next-stage y _ played f long zero) (played .further zero) in
@@ -741,8 +741,8 @@ extends-returns-4 t c =
     let a = start .args in
     let r = at-recall .recall-list in
     λ th T y mem.
-    let (m, fact) = r .ensures .told th (a .p .foresight .0) (a .slot + a .p .stride) (omega (arith, P .4)) (y .slotted) mem in
-    told-no (λ q l. r .ensures .only .low q (omega (arith, l, P .4))) (r .ensures .only .high) m (known y key fact .no (c .if4 .taken))
+    let (m, fact) = r .ensures .0 .told th (a .p .foresight .0) (a .slot + a .p .stride) (omega (arith, P .4)) (y .slotted) mem in
+    told-no (λ q l. r .ensures .0 .only .low q (omega (arith, l, P .4))) (r .ensures .0 .only .high) m (known y key fact .no (c .if4 .taken))
 
 extends-same-length-5 : (t : ℕ) → extends-lts.Need-same-length-5 (extends-calls t) (extends-at t) extends.Post
 extends-same-length-5 t c = search needs
@@ -757,8 +757,8 @@ extends-returns-5 t c =
     let a = start .args in
     let r = at-recall .recall-list in
     λ th T y mem.
-    let (m, fact) = r .ensures .told th (a .p .foresight .0) (a .slot + a .p .stride) (omega (arith, P .4)) (y .slotted) mem in
-    told-yes (λ q l. r .ensures .only .low q (omega (arith, l, P .4))) (r .ensures .only .high) m (known y key fact .yes (c .if5 .taken))
+    let (m, fact) = r .ensures .0 .told th (a .p .foresight .0) (a .slot + a .p .stride) (omega (arith, P .4)) (y .slotted) mem in
+    told-yes (λ q l. r .ensures .0 .only .low q (omega (arith, l, P .4))) (r .ensures .0 .only .high) m (known y key fact .yes (c .if5 .taken))
 
 extends-sub-extends-by : (t : ℕ) → extends-lts.Need-sub-extends-by (extends-calls t) (extends-at t) extends.Post
 extends-sub-extends-by t c =
@@ -775,7 +775,7 @@ extends-extends-by-requires t c κs =
     let a = start .args in
     let (th, (T, (y, mem))) = P .0 in
     let r = at-recall .recall-list in
-    (omega (arith, m, at-if2 .if2 .left), ((th, (T, (slot-same (a .slot) y (λ q l. r .ensures .only .low q (omega (arith, l, P .4))) (r .kept .0), r .ensures .told th (a .p .foresight .0) (a .slot + a .p .stride) (omega (arith, P .4)) (y .slotted) mem .0))), P .1, P .2, P .3, free-fewer (a .p) (a .slot) (1 + a .left + (1 + a .p .foresight .0) * a .g .nesting .0) (2 + (a .left - 1) + (1 + a .p .foresight .0) * a .g .nesting .0) (omega (arith, at-if2 .if2 .left)) (P .4)))
+    (omega (arith, m, at-if2 .if2 .left), ((th, (T, (slot-same (a .slot) y (λ q l. r .ensures .0 .only .low q (omega (arith, l, P .4))) (r .kept .0), r .ensures .0 .told th (a .p .foresight .0) (a .slot + a .p .stride) (omega (arith, P .4)) (y .slotted) mem .0))), P .1, P .2, P .3, free-fewer (a .p) (a .slot) (1 + a .left + (1 + a .p .foresight .0) * a .g .nesting .0) (2 + (a .left - 1) + (1 + a .p .foresight .0) * a .g .nesting .0) (omega (arith, at-if2 .if2 .left)) (P .4)))
 
 extends-mark-of-requires : (t : ℕ) → extends-lts.Need-mark-of-requires (extends-calls t) (extends-at t) extends.Post
 extends-mark-of-requires t c κs = search needs
@@ -791,8 +791,8 @@ extends-remember-list-requires t c κs =
     let (th, (T, (y, mem))) = P .0 in
     let r = at-recall .recall-list in
     let x = at-extends-by .extends-by in
-    let told = x .ensures th T (slot-same (a .slot) y (λ q l. r .ensures .only .low q (omega (arith, l, P .4))) (r .kept .0)) (r .ensures .told th (a .p .foresight .0) (a .slot + a .p .stride) (omega (arith, P .4)) (y .slotted) mem .0) in
-    stage-before (slot-same (a .slot) (slot-same {now = r .last .0} (a .slot) y (λ q l. r .ensures .only .low q (omega (arith, l, P .4))) (r .kept .0)) (told .low) (x .kept .1 .1 .1 .0)) (omega (arith, P .4))
+    let told = x .ensures th T (slot-same (a .slot) y (λ q l. r .ensures .0 .only .low q (omega (arith, l, P .4))) (r .kept .0)) (r .ensures .0 .told th (a .p .foresight .0) (a .slot + a .p .stride) (omega (arith, P .4)) (y .slotted) mem .0) in
+    stage-before (slot-same (a .slot) (slot-same {now = r .last .0} (a .slot) y (λ q l. r .ensures .0 .only .low q (omega (arith, l, P .4))) (r .kept .0)) (told .low) (x .kept .1 .1 .1 .0)) (omega (arith, P .4))
 
 extends-same-length-6 : (t : ℕ) → extends-lts.Need-same-length-6 (extends-calls t) (extends-at t) extends.Post
 extends-same-length-6 t c =
@@ -816,20 +816,20 @@ extends-returns-6 t c =
     let P = start .pre .1 in
     let a = start .args in
     let some : 0 < a .left = omega (arith, at-if2 .if2 .left) in
-    let rem = at-remember .remember-list .ensures in
+    let rem = at-remember .remember-list .ensures .0 in
     let r = at-recall .recall-list in
     let x = at-extends-by .extends-by in
     λ th T y mem.
     let s = meaning (a .p .characters) T in
-    let told = x .ensures th T (slot-same (a .slot) y (λ q l. r .ensures .only .low q (omega (arith, l, P .4))) (r .kept .0)) (r .ensures .told th (a .p .foresight .0) (a .slot + a .p .stride) (omega (arith, P .4)) (y .slotted) mem .0) in
+    let told = x .ensures th T (slot-same (a .slot) y (λ q l. r .ensures .0 .only .low q (omega (arith, l, P .4))) (r .kept .0)) (r .ensures .0 .told th (a .p .foresight .0) (a .slot + a .p .stride) (omega (arith, P .4)) (y .slotted) mem .0) in
     let here : a .g .base < utilityTo th (a .g .who) (s 0) → ⊥ = (λ b. omega (arith, stage-utility y (a .g .who) 0 (P .1) (utility-in (a .pack .now) (getD (a .places .now) (321 + a .g .who) 0) (a .work .now) 0 (at-utility .utility .result) (at-table-in .table-in .ensures) (at-utility .utility .ensures)), at-if1 .if1 .left, b)) in
     let whole = extended th (a .p .foresight .0) (a .g .nesting .0) (a .g .who) (a .g .base) (a .left) s some here told in
-    let z′ = slot-same (a .slot) (slot-same {now = r .last .0} (a .slot) y (λ q l. r .ensures .only .low q (omega (arith, l, P .4))) (r .kept .0)) (told .low) (x .kept .1 .1 .1 .0) in
+    let z′ = slot-same (a .slot) (slot-same {now = r .last .0} (a .slot) y (λ q l. r .ensures .0 .only .low q (omega (arith, l, P .4))) (r .kept .0)) (told .low) (x .kept .1 .1 .1 .0) in
     record {
       sound = whole .sound;
       complete = whole .complete;
-      low = λ q l. rem .only .low q (omega (arith, l, P .4)) ∙ told .low q l ∙ r .ensures .only .low q (omega (arith, l, P .4));
-      high = λ q l. rem .only .high q l ∙ told .high q l ∙ r .ensures .only .high q l;
+      low = λ q l. rem .only .low q (omega (arith, l, P .4)) ∙ told .low q l ∙ r .ensures .0 .only .low q (omega (arith, l, P .4));
+      high = λ q l. rem .only .high q l ∙ told .high q l ∙ r .ensures .0 .only .high q l;
       memory = rem .memory th (a .p .foresight .0) (a .slot + a .p .stride) (omega (arith, P .4)) (z′ .slotted) (told .memory) (note z′ key (noted th (a .p .foresight .0) (a .g .nesting .0) (a .g .who) (a .g .base) (a .left) s some here told (at-mark-of .mark-of .ensures)));
     }
 
@@ -1020,7 +1020,7 @@ via-returns-2 t c =
     let s = at-known-step .known-step in
     λ th T y mem.
     let told = w .ensures th T y mem in
-    let played = s .ensures th T (slot-same (a .slot) y (told .low) (w .kept .1 .1 .1 .0)) (told .memory) in
+    let played = s .ensures .0 th T (slot-same (a .slot) y (told .low) (w .kept .1 .1 .1 .0)) (told .memory) in
     told-no (λ q l. played .low q l ∙ told .low q l) (λ q l. played .high q l ∙ told .high q l) (played .memory) (λ g. played .none (c .if2 .taken) (g .0) (g .1))
 
 via-add-extends : (t : ℕ) → via-lts.Need-add-extends (via-calls t) (via-at t) via.Post
@@ -1043,7 +1043,7 @@ via-extends-requires t c κs =
     let z′ = slot-same (a .slot) y (told .low) (w .kept .1 .1 .1 .0) in
     let f : Free (a .p) (a .slot + a .p .stride) 1 = omega (arith, P .5) in
     let long = s .kept .1 .1 .1 .1 .0 in
-    let played = s .ensures th T z′ (told .memory) in
+    let played = s .ensures .0 th T z′ (told .memory) in
     let zero : s .result ≡ 0 = omega (arith, c .before .before .if2 .left) in
     (omega (arith, m), ((th, (nextTable z′ 0 played f long zero, (next-stage z′ 0 played f long zero, played .further zero))), P .1, P .3, P .4, omega (arith, P .5)))
 
@@ -1072,7 +1072,7 @@ via-returns-3 t c =
     λ th T y mem.
     let told = w .ensures th T y mem in
     let z′ = slot-same (a .slot) y (told .low) (w .kept .1 .1 .1 .0) in
-    let played = s .ensures th T z′ (told .memory) in
+    let played = s .ensures .0 th T z′ (told .memory) in
     let plays = next-plays z′ 0 played f long zero in
     told-by (omega arith) (memory-fewer (a .p) (omega arith)) (λ q l. played .low q l ∙ told .low q l) (λ q l. played .high q l ∙ told .high q l) (at-extends .extends .ensures th (nextTable z′ 0 played f long zero) (next-stage z′ 0 played f long zero) (played .further zero))
     (λ g. by-from th (a .p .foresight .0) (a .g .nesting .0) (a .g .who) (a .g .base) (suc (a .left)) (a .x) (meaning (a .p .characters) T 0) _ plays (told .sound (not-false (w .result) (at-if1 .if1 .left))) g)

@@ -257,7 +257,7 @@ completes-returns-5 t c =
     let a = start .args in
     let r = at-recall .recall in
     let d = at-completes-after .completes-after in
-    let rem = at-remember .remember-worth .ensures in
+    let rem = at-remember .remember-worth .ensures .0 in
     let zero : d .result ≡ 0 = omega (arith, at-if5 .if5 .taken) in
     let up : a .left ≡ suc (a .left - 1) = omega (arith, at-if1 .if1 .left) in
     λ th T y mem trail.
@@ -479,7 +479,7 @@ completes-by-returns-2 t c =
     let s = at-known-step .known-step in
     λ th T y mem trail.
     let told = w .ensures th T y mem in
-    let played = s .ensures th T (slot-same (a .done * a .p .stride) y (told .low) (w .kept .1 .1 .1 .0)) (told .memory) in
+    let played = s .ensures .0 th T (slot-same (a .done * a .p .stride) y (told .low) (w .kept .1 .1 .1 .0)) (told .memory) in
     best-none _ (λ q l. played .low q l ∙ told .low q l) (λ q l. played .high q l ∙ told .high q l) (played .memory) (λ l v q g. played .none (c .if2 .taken) (g .2 .0) (g .2 .1))
 
 completes-by-add-completes : (t : ℕ) → completes-by-lts.Need-add-completes (completes-by-calls t) (completes-by-at t) completes-by.Post
@@ -505,7 +505,7 @@ completes-by-completes-requires t c κs =
     let z′ = slot-same (a .done * a .p .stride) y (told .low) (w .kept .1 .1 .1 .0) in
     let f : Free (a .p) (a .done * a .p .stride + a .p .stride) 1 = omega (arith, P .4) in
     let long = s .kept .1 .1 .1 .1 .0 in
-    let played = s .ensures th T z′ (told .memory) in
+    let played = s .ensures .0 th T z′ (told .memory) in
     let zero : s .result ≡ 0 = omega (arith, at-if2 .if2 .left) in
     let plays = next-plays z′ 0 played f long zero in
     let agreed = agreed-from y (a .p .foresight .0) (a .g .nesting .0) (a .x) (P .1) (meaning (a .p .characters) T 0) (told .sound (not-false (w .result) (at-if1 .if1 .left))) in
@@ -562,7 +562,7 @@ completes-by-returns-3 t c =
     let z′ = slot-same (a .done * a .p .stride) y (told .low) (w .kept .1 .1 .1 .0) in
     let f : Free (a .p) (a .done * a .p .stride + a .p .stride) 1 = omega (arith, P .4) in
     let long = s .kept .1 .1 .1 .1 .0 in
-    let played = s .ensures th T z′ (told .memory) in
+    let played = s .ensures .0 th T z′ (told .memory) in
     let zero : s .result ≡ 0 = omega (arith, at-if2 .if2 .left) in
     let plays = next-plays z′ 0 played f long zero in
     let agreed = agreed-from y (a .p .foresight .0) (a .g .nesting .0) (a .x) (P .1) (meaning (a .p .characters) T 0) (told .sound (not-false (w .result) (at-if1 .if1 .left))) in
@@ -601,7 +601,7 @@ completes-by-returns-4 t c =
     let z′ = slot-same (a .done * a .p .stride) y (told .low) (w .kept .1 .1 .1 .0) in
     let f : Free (a .p) (a .done * a .p .stride + a .p .stride) 1 = omega (arith, P .4) in
     let long = s .kept .1 .1 .1 .1 .0 in
-    let played = s .ensures th T z′ (told .memory) in
+    let played = s .ensures .0 th T z′ (told .memory) in
     let zero : s .result ≡ 0 = omega (arith, at-if2 .if2 .left) in
     let plays = next-plays z′ 0 played f long zero in
     let agreed = agreed-from y (a .p .foresight .0) (a .g .nesting .0) (a .x) (P .1) (meaning (a .p .characters) T 0) (told .sound (not-false (w .result) (at-if1 .if1 .left))) in
