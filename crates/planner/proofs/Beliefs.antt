@@ -19,7 +19,7 @@ use Rattle.planner.specs.declared.limits.Context.{Context}
 use Rattle.planner.specs.Inner.Lists.{slotTable}
 use Rattle.planner.specs.Inner.Memory.{idAt, takenAt, tablesAt, Memory, Slot}
 use Rattle.planner.specs.Inner.Explain.{Stage, Free, BeliefAt}
-use Rattle.planner.proofs.TrueMemory.{grown-by, memory-quiet, nameless, nameless-only, memory-nameless}
+use Rattle.planner.proofs.TrueMemory.{memory-apart, nameless, nameless-only, memory-nameless}
 use Rattle.planner.proofs.Explanations.{stage-next, stage-slot, stage-same, stage-believed}
 
 module _ {th : Theory} {T : List Node} {pack places : List ℕ} {h : Context} {was : List ℕ} (slot : ℕ) (x : Stage th T pack places h was (slotTable h was slot) (slot + h .stride)) (f : Free h slot 2) where
@@ -95,10 +95,7 @@ module _ {th : Theory} {T : List Node} {pack places : List ℕ} {h : Context} {w
           (λ q l. now-slot (next + 1 + q) (omega (arith, l, rows-few r few, f)) ∙ pc .part q l ∙ getD-set-other mid next (40756 + q) r 0 (λ z. omega (arith, z, f, x .laid .room)))
 
       memory : {K : ℕ} → Memory th K h next was → Memory th K h (next + h .stride) now
-      memory m =
-          memory-nameless h part-slot
-          (memory-quiet h (record { taken = omega (arith, part-mid (takenAt h) (omega (arith, f)) (omega (arith, x .laid .room))); within = λ l. omega (arith, ap (λ (k : ℕ). h .block * k) (part-mid (takenAt h) (omega (arith, f)) (omega (arith, x .laid .room))), l); tables = λ q l g. part-mid q (omega (arith, l, f)) (omega (arith, g, m .within)) })
-          part-low (λ q l g. part-mid q (omega (arith, l, f)) (omega (arith, g, x .laid .room))) (λ q l g. part-mid q (omega (arith, l, f)) (omega (arith, g, x .laid .room))) m)
+      memory m = memory-nameless h part-slot (memory-apart h part-low (λ q l. part-mid q (omega (arith, l, f))) m)
 
       pub belief-at : {K : ℕ} → Memory th K h next was → BeliefAt th K h pack places (meaning (h .characters) T row) was now slot next 0
       belief-at m = record {

@@ -29,7 +29,8 @@ use Rattle.planner.specs.Inner.Memory.{Laid, Fact, Memory}
 use Rattle.planner.specs.Inner.Explain.{Stage, Free}
 use Rattle.planner.specs.Inner.Search.{Dry, Trail, Repeated, Put, Chosen, Best}
 use Rattle.planner.specs.Laws.Explaining.{Agreeing}
-use Rattle.planner.proofs.TrueMemory.{table-moved, state-moved}
+use Rattle.planner.proofs.Chains.{table-moved}
+use Rattle.planner.proofs.TrueMemory.{state-moved}
 use Rattle.planner.proofs.Explanations.{consenter-below, slot-same, stage-extent, stage-state}
 
 -- none found

@@ -42,7 +42,7 @@ use Rattle.planner.specs.Inner.Lists.{counted, slotTable, Other, AboveBy
 use Rattle.planner.specs.Inner.Lists as inner
 use Rattle.planner.specs.Inner.Memory.{takenAt, stepsAt, keptTable, HasId, StepFact, StepEntry, Memory, Fact, Place, Before, InSlot, Only, Interning, StepRead, Noted, Slot, Again, LeftNoted}
 use Rattle.planner.specs.Inner.Explain.{Stage, Free, Told, Advanced}
-use Rattle.planner.proofs.TrueMemory.{fact-same, rows-mean, before-now, named-state, memory-quiet, memory-fewer, nameless, nameless-only, memory-nameless}
+use Rattle.planner.proofs.TrueMemory.{fact-same, rows-mean, before-now, named-state, memory-apart, memory-fewer, nameless, nameless-only, memory-nameless}
 
 -- Told: passed on
 pub told-none : {M : List ℕ → Type 0} {slot : ℕ} (was : List ℕ) {P : Type 0} → M was → (P → ⊥) → Told M slot was was false P
@@ -227,9 +227,7 @@ module _ {th : Theory} {T : List Node} {pack places : List ℕ} {h : Context} {w
     left-mid q l g = y .only .mid q (omega (arith, l, f, x .laid .wide, x .same-fluents, x .same-characters, x .tabled .fits .wide)) g
 
     left-memory : Memory th K h slot left
-    left-memory =
-        let taken = left-mid (takenAt h) (omega arith) (omega (arith, x .laid .room)) in
-        memory-quiet h (record { taken = omega (arith, taken); within = λ l. omega (arith, ap (λ (k : ℕ). h .block * k) taken, l); tables = λ q l g. left-mid q (omega (arith, l)) (omega (arith, g, before .within)) }) (y .only .low) (λ q l g. left-mid q l (omega (arith, g, x .laid .room))) (λ q l g. left-mid q (omega (arith, l)) (omega (arith, g, x .laid .room))) before
+    left-memory = memory-apart h (y .only .low) left-mid before
 
     -- what it leaves stays where only the memory changes
     left-stays : {now : List ℕ} → Only h left now → r ≡ 0 → (s : State) × Plays th (meaning (t .characters) T root) a s × Left s t now slot

@@ -1,12 +1,19 @@
--- What was last noted of a table that is kept is what is found again: a fact is recalled, a step repeated. Assumes nothing.
+-- A table that is kept is found under its id, and what was last noted of it is found again: a fact is recalled, a step
+-- repeated. Assumes nothing.
 use Prim.Native.Nat.{ℕ, _+_, _*_, _-_, _/_, _%_, _<_, _≤_}
 use mathlib.Core.Path.{_≡_, sym, ap, _∙_, subst}
-use mathlib.Core.Logic.{_≢_, by-cases}
+use mathlib.Core.Logic.{_≢_, _↔_, by-cases}
 use mathlib.Core.List.{List}
 use native.Mathlib.Decide.{decLt}
 use native.Mathlib.Nat.{div-add-mod, mod-lt, mul-le-mul-left, mul-le-mul-right}
 use native.Mathlib.Omega.{arith}
-use lib.ListN.{getD}
+use lib.ListN.{length, getD}
+use Rattle.pack.specs.Syntax.{Node, Theory}
+use Rattle.pack.specs.State.{meaning}
+use Rattle.pack.specs.Contracts.Table.{tableOf, stateOf}
+use Rattle.pack.specs.Laws.Rows.{rows-length}
+use Rattle.chart.specs.Chart.{Written}
+use Rattle.chart.specs.Laws.Unique.{unique}
 use Rattle.pack.specs.declared.contents.Contents.{Contents}
 use Rattle.pack.specs.declared.table.Table.{Table}
 use Rattle.transition.specs.Contracts.Stage.{slotRoom, scratchAt}
@@ -15,7 +22,8 @@ use Rattle.planner.specs.declared.limits.Foresight.{Foresight}
 use Rattle.planner.specs.declared.entry.Key.{Key}
 use Rattle.planner.specs.Inner.Layout.{laidOut}
 use Rattle.planner.specs.Inner.Lists.{slotTable}
-use Rattle.planner.specs.Inner.Memory.{idAt, stepsAt, slotId, entryAt, stepAt, Place, Before, InSlot, Fits, Identified, Storable, FactRead, FactKnown, Recalls, Notes, StepRead, StepKnown, Noted, Slot, Again, LeftNoted, StepOnce}
+use Rattle.planner.specs.Inner.Memory.{idAt, stepsAt, keptTable, slotId, HasId, Chained, Memory, entryAt, stepAt, Place, Before, InSlot, Fits, Identified, Storable, FactRead, FactKnown, Recalls, Notes, StepRead, StepKnown, Noted, Slot, Again, LeftNoted, StepOnce}
+use Rattle.planner.proofs.Chains.{id-once}
 use Rattle.planner.proofs.TrueMemory.{table-size, key-same, row-apart, step-here, step-there}
 
 -- as a call lays the work buffer out, every table fits
@@ -24,7 +32,7 @@ tables-fit c k slots {work} {t} (fluents, characters, few) b =
     let size = slotRoom (c .fluents + c .characters) in
     let block = laidOut c k slots .block in
     let n = t .nodes * t .width in
-    let room = scratchAt - 4404 - slots * size in
+    let room = scratchAt - 4532 - slots * size in
     let most : slots * size ≤ 36 * size = mul-le-mul-right size few in
     let all = div-add-mod room 255 in
     let rest : room % 255 < 255 = mod-lt room (omega arith) in
@@ -35,6 +43,27 @@ tables-fit c k slots {work} {t} (fluents, characters, few) b =
     absurd (omega (arith, div-add-mod n block, mul-le-mul-left block over, wide, table-size (laidOut c k slots) b)))
 
 module _ (h : Context) where
+  -- tables in two slots, the first of which has an id
+  module _ {work : List ℕ} (a b : ℕ) {n : ℕ} (x : HasId h work (slotTable h work a) n) where
+    -- the same table has it, too
+    same-has : tableOf (slotTable h work a) work ≡ tableOf (slotTable h work b) work → HasId h work (slotTable h work b) n
+    same-has e =
+        let w = h .fluents + h .characters in
+        let count : getD work a 0 ≡ getD work b 0 = sym (rows-length work w (h .fluents) (h .characters) (a + 1) (getD work a 0)) ∙ ap (λ (T : List Node). length T) e ∙ rows-length work w (h .fluents) (h .characters) (b + 1) (getD work b 0) in
+        record { kept = x .kept; count = x .count ∙ count; same = x .same ∙ e }
+
+    -- and is found under it
+    pub same-id : {p : Theory} {K limit r : ℕ} {now : List ℕ} → InSlot h work (slotTable h work b) limit → Memory p K h limit work → tableOf (slotTable h work a) work ≡ tableOf (slotTable h work b) work → Identified h (slotTable h work b) work now r → r ≡ n
+    same-id {p} {K} {limit} i m e y = y .interning .exact p K limit i m n (same-has e)
+
+    -- written charts of two ids: it is one id exactly where no chain of beliefs tells the states apart
+    pub one-state-one-id : {m : ℕ} → Chained h work → Before h work (slotTable h work b) → HasId h work (slotTable h work b) m → Written (h .characters) (tableOf (slotTable h work a) work) → Written (h .characters) (tableOf (slotTable h work b) work)
+        → (stateOf (slotTable h work a) work 0 ≡ stateOf (slotTable h work b) work 0) ↔ (n ≡ m)
+    one-state-one-id c before y wa wb = (
+      λ e. id-once h before c (same-has (unique (h .characters) (tableOf (slotTable h work a) work) (tableOf (slotTable h work b) work) wa wb e)) y,
+      λ e. ap (λ (T : List Node). meaning (h .characters) T 0) (sym (x .same) ∙ ap (λ (k : ℕ). tableOf (keptTable h work k) work) e ∙ y .same),
+    )
+
   module _ (slot : ℕ) where
     -- the id of the table in the slot
     abbrev held : List ℕ → ℕ

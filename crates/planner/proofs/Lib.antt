@@ -1,4 +1,5 @@
 -- The modules of `proofs/` that belong to no one function.
+pub mod Chains
 pub mod TrueMemory
 pub mod LastNoted
 pub mod Explanations

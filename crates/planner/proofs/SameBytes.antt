@@ -17,7 +17,7 @@ use Rattle.chart.specs.Laws.Unique.{unique}
 use Rattle.chart.specs.Laws.Cells.{rows-node}
 use Rattle.planner.specs.declared.limits.Context.{Context}
 use Rattle.planner.specs.Inner.Lists.{slotTable}
-use Rattle.planner.specs.Inner.Memory.{keptAt, HasId, Before}
+use Rattle.planner.specs.Inner.Memory.{keptAt, keptTable, Before}
 
 module _ (work : List ℕ) (w f c a b : ℕ) (wide : f + c ≡ w) where
   -- a row's bytes are its node's
@@ -65,13 +65,13 @@ module _ (h : Context) (work : List ℕ) (a b : ℕ) where
       → (q : ℕ) → q < 1 + getD work a 0 * (h .fluents + h .characters) → getD work (a + q) 0 ≡ getD work (b + q) 0
   same-state-bytes x y e = table-bytes (unique (h .characters) (tableOf (slotTable h work a) work) (tableOf (slotTable h work b) work) x y (sym e))
 
--- a table has the bytes of the one that is kept under its id
-pub named-bytes : (h : Context) {work : List ℕ} {t : Table} {n : ℕ} → Before h work t → HasId h work t n → (q : ℕ) → q < t .nodes * t .width → getD work (t .rows + q) 0 ≡ getD work (keptAt h n + 1 + q) 0
-named-bytes h {work} {t} {n} b x q l =
+-- a table has the bytes of the one that is kept at a block
+pub named-bytes : (h : Context) {work : List ℕ} {t : Table} (n : ℕ) → Before h work t → getD work (keptAt h n) 0 ≡ t .nodes → tableOf (keptTable h work n) work ≡ tableOf t work → (q : ℕ) → q < t .nodes * t .width → getD work (t .rows + q) 0 ≡ getD work (keptAt h n + 1 + q) 0
+named-bytes h {work} {t} n b count equal q l =
     let w = h .fluents + h .characters in
     let wide : w ≡ t .width = ap (λ (f : ℕ). f + h .characters) (b .fluents) ∙ ap (λ (c : ℕ). t .fluents + c) (b .characters) ∙ b .wide in
     let table : rowsAt work w (h .fluents) (h .characters) (t .rows) (t .nodes) ≡ tableOf t work =
     ap (λ (f : ℕ). rowsAt work w f (h .characters) (t .rows) (t .nodes)) (b .fluents) ∙ ap (λ (c : ℕ). rowsAt work w (t .fluents) c (t .rows) (t .nodes)) (b .characters) ∙ ap (λ (k : ℕ). rowsAt work k (t .fluents) (t .characters) (t .rows) (t .nodes)) wide in
-    let same : rowsAt work w (h .fluents) (h .characters) (t .rows) (t .nodes) ≡ rowsAt work w (h .fluents) (h .characters) (keptAt h n + 1) (t .nodes) = table ∙ sym (x .same) ∙ ap (λ (k : ℕ). rowsAt work w (h .fluents) (h .characters) (keptAt h n + 1) k) (x .count) in
+    let same : rowsAt work w (h .fluents) (h .characters) (t .rows) (t .nodes) ≡ rowsAt work w (h .fluents) (h .characters) (keptAt h n + 1) (t .nodes) = table ∙ sym equal ∙ ap (λ (k : ℕ). rowsAt work w (h .fluents) (h .characters) (keptAt h n + 1) k) count in
     let is : h .fluents + h .characters ≡ w = omega arith in
     all-bytes work w (h .fluents) (h .characters) (t .rows) (keptAt h n + 1) is (t .nodes) (row-bytes work w (h .fluents) (h .characters) (t .rows) (keptAt h n + 1) is (t .nodes) same) q (omega (arith, l, ap (λ (k : ℕ). t .nodes * k) wide))

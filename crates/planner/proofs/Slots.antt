@@ -20,8 +20,8 @@ module _ (c : Contents) (k : Foresight) (slots : ℕ) where
   pub laid-fits : 0 < c .characters → (c .fluents ≤ 24) × (c .characters ≤ 6) × (slots ≤ 30) → Laid (laidOut c k slots)
   laid-fits some (fluents, characters, few) =
       let most : slots * size ≤ 30 * size = mul-le-mul-right size few in
-      let all = div-add-mod (scratchAt - 4404 - slots * size) 255 in
-      let rest : (scratchAt - 4404 - slots * size) % 255 < 255 = mod-lt (scratchAt - 4404 - slots * size) (omega arith) in
+      let all = div-add-mod (scratchAt - 4532 - slots * size) 255 in
+      let rest : (scratchAt - 4532 - slots * size) % 255 < 255 = mod-lt (scratchAt - 4532 - slots * size) (omega arith) in
       record {
         narrow = omega arith;
         wide = omega arith;

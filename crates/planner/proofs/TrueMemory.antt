@@ -24,7 +24,8 @@ use Rattle.chart.specs.Laws.Cells.{rows-same, row-in, rows-most}
 use Rattle.planner.specs.declared.limits.Context.{Context}
 use Rattle.planner.specs.declared.entry.Key.{Key}
 use Rattle.planner.specs.Inner.Lists.{slotTable}
-use Rattle.planner.specs.Inner.Memory.{Laid, idAt, takenAt, stepsAt, factsAt, tablesAt, keptAt, keptTable, Kept, HasId, StepFact, Fact, keyAt, SlotEntry, StepEntry, FactEntry, Memory, slotId, entryAt, stepAt, Place, Before, InSlot, Fits, Only, Unasked, Stored, Interning, Identified, Sought, Storable, KeyPut, FactRead, FactKnown, Recalls, Notes, Recalled, Remembered, StepRead, StepKnown, StepPut, Noted, Slot, Again, LeftNoted, StepOnce}
+use Rattle.planner.specs.Inner.Memory.{Laid, idAt, takenAt, headsAt, headAt, stepsAt, factsAt, linksAt, tablesAt, keptAt, keptTable, sumOf, Inside, Behind, OnChain, Kept, Alike, HasId, Chained, StepFact, Fact, keyAt, SlotEntry, StepEntry, FactEntry, Memory, slotId, entryAt, stepAt, Place, Before, InSlot, Fits, Only, Unasked, FoundOn, Linked, Placed, Stored, Interning, Identified, Sought, Storable, KeyPut, FactRead, FactKnown, Recalls, Notes, Recalled, Remembered, StepRead, StepKnown, StepPut, Noted, Slot, Again, LeftNoted, StepOnce}
+use Rattle.planner.proofs.Chains.{Wider, Grown, kept-from, table-moved, inside-count, inside-table, inside-grown, inside-hash, alike-grown, chain-back, chain-none, grown-same, grown-by, chained-none, alike-hash, id-listed, id-once, found-id, found-exact, linked-wider, linked-grown, sum-same, behind-here}
 
 -- a mark that says nothing
 pub fact-none : (th : Theory) (K : ℕ) (k : Key) (s : ℕ → State) → Fact th K 0 k s
@@ -112,18 +113,8 @@ pub placed : (count : ℕ) → 0 < count → (first size x : ℕ) → Place coun
 placed count some first size x = record { number = x % count; few = mod-lt x some; is = refl }
 
 -- ids, steps and facts that are forgotten
-pub emptied : (h : Context) {was now : List ℕ} → Cleared was now (h .memory) 4404 → (q : ℕ) → h .memory ≤ q → q < tablesAt h → getD now q 0 ≡ 0
+pub emptied : (h : Context) {was now : List ℕ} → Cleared was now (h .memory) 4276 → (q : ℕ) → h .memory ≤ q → q < linksAt h → getD now q 0 ≡ 0
 emptied h {was} {now} x q low high = let y : q ≡ h .memory + (q - (h .memory)) = omega (arith, low) in ap (λ (q : ℕ). getD now q 0) y ∙ x .clear (q - (h .memory)) (omega (arith, low, high))
-
--- tables that are kept stay as they are
-pub record Grown (h : Context) (was now : List ℕ) : Type 0 where
-  pub taken : getD was (takenAt h) 0 ≤ getD now (takenAt h) 0
-  pub within : tablesAt h + h .block * getD was (takenAt h) 0 ≤ scratchAt → tablesAt h + h .block * getD now (takenAt h) 0 ≤ scratchAt
-  pub tables : (q : ℕ) → tablesAt h ≤ q → q < tablesAt h + h .block * getD was (takenAt h) 0 → getD now q 0 ≡ getD was q 0
-
--- only bytes of ids, steps and facts change
-pub grown-by : {h : Context} {was now : List ℕ} → getD now (takenAt h) 0 ≡ getD was (takenAt h) 0 → ((q : ℕ) → tablesAt h ≤ q → getD now q 0 ≡ getD was q 0) → Grown h was now
-grown-by {h} e f = record { taken = omega (arith, e); within = λ l. omega (arith, ap (λ (k : ℕ). h .block * k) e, l); tables = λ q l g. f q l }
 
 module _ (h : Context) where
   abbrev w : ℕ
@@ -140,26 +131,13 @@ module _ (h : Context) where
   slot-apart : Laid h → {i j : ℕ} → h .stride * i < h .memory → h .stride * j < h .memory → idAt h (h .stride * i + 1) ≡ idAt h (h .stride * j + 1) → i ≡ j
   slot-apart laid {i} {j} l g e = omega (arith, slot-place laid i l, slot-place laid j g, e)
 
-  -- the table of an id begins no earlier than the tables
-  pub kept-from : (n : ℕ) → 0 < n → tablesAt h ≤ keptAt h n
-  kept-from n l = let one : 1 ≤ n = omega (arith, l) in omega (arith, mul-le-mul-left (h .block) one)
-
   -- so many blocks lie before the scratch
   pub blocks-most : Laid h → (n : ℕ) → n < 256 → tablesAt h + h .block * n ≤ scratchAt
   blocks-most laid n l = let few : n ≤ 255 = omega (arith, l) in omega (arith, mul-le-mul-left (h .block) few, laid .room)
 
-  -- tables of the same bytes
-  pub table-moved : (was now : List ℕ) (a b : ℕ) → ((i : ℕ) → i < 1 + getD was a 0 * w → getD now (b + i) 0 ≡ getD was (a + i) 0) → tableOf (slotTable h now b) now ≡ tableOf (slotTable h was a) was
-  table-moved was now a b f =
-      let x : b ≡ b + 0 = omega arith in
-      let y : a + 0 ≡ a = omega arith in
-      let count : getD now b 0 ≡ getD was a 0 = ap (λ (q : ℕ). getD now q 0) x ∙ f 0 (omega arith) ∙ ap (λ (q : ℕ). getD was q 0) y in
-      ap (λ (n : ℕ). rowsAt now w (h .fluents) (h .characters) (b + 1) n) count
-      ∙ rows-same was now w (h .fluents) (h .characters) (a + 1) (b + 1) (getD was a 0) (omega arith)
-      (λ q l. let x : b + 1 + q ≡ b + (1 + q) = omega arith in let y : a + (1 + q) ≡ a + 1 + q = omega arith in ap (λ (q : ℕ). getD now q 0) x ∙ f (1 + q) (omega arith) ∙ ap (λ (q : ℕ). getD was q 0) y)
-
+  -- states of the same bytes
   pub state-moved : (was now : List ℕ) (a b : ℕ) → ((i : ℕ) → i < 1 + getD was a 0 * w → getD now (b + i) 0 ≡ getD was (a + i) 0) → stateOf (slotTable h now b) now 0 ≡ stateOf (slotTable h was a) was 0
-  state-moved was now a b f = ap (λ (T : List Node). meaning (h .characters) T 0) (table-moved was now a b f)
+  state-moved was now a b f = ap (λ (T : List Node). meaning (h .characters) T 0) (table-moved h was now a b f)
 
   -- a table in a slot, as one of its fields
   pub slot-table : {work : List ℕ} {t : Table} {limit : ℕ} → Before h work t → (x : InSlot h work t limit) → tableOf (slotTable h work (h .stride * x .number)) work ≡ tableOf t work
@@ -176,21 +154,20 @@ module _ (h : Context) where
   before-same {was} now {t} b low = rows-same was now (t .width) (t .fluents) (t .characters) (t .rows) (t .rows) (t .nodes) (omega (arith, b .wide)) (λ q l. low (t .rows + q) (omega (arith, b .before, l)))
 
   module _ {was now : List ℕ} (g : Grown h was now) where
-    kept-byte : {n : ℕ} → Kept h was n → (i : ℕ) → i < 1 + getD was (keptAt h n) 0 * w → getD now (keptAt h n + i) 0 ≡ getD was (keptAt h n + i) 0
-    kept-byte {n} k i l = g .tables (keptAt h n + i) (omega (arith, kept-from n (k .some))) (omega (arith, k .inside, l))
-
     kept-count : {n : ℕ} → Kept h was n → getD now (keptAt h n) 0 ≡ getD was (keptAt h n) 0
-    kept-count {n} k = g .tables (keptAt h n) (kept-from n (k .some)) (omega (arith, k .inside))
-
-    pub kept-grown : {n : ℕ} → Kept h was n → Kept h now n
-    kept-grown {n} k = record {
-      some = k .some;
-      few = omega (arith, kept-count k, k .few);
-      inside = subst (λ (c : ℕ). keptAt h n + 1 + c * w ≤ tablesAt h + h .block * getD now (takenAt h) 0) (sym (kept-count k)) (omega (arith, k .inside, mul-le-mul-left (h .block) (g .taken)));
-    }
+    kept-count k = inside-count h (g .wider) (k .inside)
 
     pub kept-table : {n : ℕ} → Kept h was n → tableOf (keptTable h now n) now ≡ tableOf (keptTable h was n) was
-    kept-table {n} k = table-moved was now (keptAt h n) (keptAt h n) (kept-byte k)
+    kept-table k = inside-table h (g .wider) (k .inside)
+
+    pub kept-grown : {n : ℕ} → Kept h was n → Kept h now n
+    kept-grown {n} k =
+        let e = inside-hash h (g .wider) (k .inside) in
+        let few : sumOf was (keptAt h n + 1) (getD was (keptAt h n) 0 * w) % 127 < 127 = mod-lt (sumOf was (keptAt h n + 1) (getD was (keptAt h n) 0 * w)) (omega arith) in
+        record {
+          inside = inside-grown h (g .wider) (k .inside);
+          listed = subst (λ (b : ℕ). OnChain h now (headsAt h + b) n) (sym e) (g .listed (sumOf was (keptAt h n + 1) (getD was (keptAt h n) 0 * w) % 127) n few (k .listed));
+        }
 
     pub named-grown : {t t′ : Table} {n : ℕ} → t .nodes ≡ t′ .nodes → tableOf t′ now ≡ tableOf t was → HasId h was t n → HasId h now t′ n
     named-grown c e x = record { kept = kept-grown (x .kept); count = kept-count (x .kept) ∙ x .count ∙ c; same = kept-table (x .kept) ∙ x .same ∙ sym e }
@@ -209,9 +186,9 @@ module _ (h : Context) where
     slot-entry : {limit : ℕ} → Laid h → ((q : ℕ) → q < limit → getD now q 0 ≡ getD was q 0) → (i : ℕ) → h .stride * i + h .stride ≤ limit → getD now (idAt h (h .stride * i + 1)) 0 ≡ getD was (idAt h (h .stride * i + 1)) 0 → SlotEntry h was i → SlotEntry h now i
     slot-entry laid low i l e f z =
         let x = f (omega (arith, e, z)) in
-        let most : getD was (keptAt h (getD was (idAt h (h .stride * i + 1)) 0)) 0 * w ≤ 32 * w = mul-le-mul-right w (x .kept .few) in
+        let most : getD was (keptAt h (getD was (idAt h (h .stride * i + 1)) 0)) 0 * w ≤ 32 * w = mul-le-mul-right w (x .kept .inside .few) in
         let size : 1 + getD was (h .stride * i) 0 * w ≤ h .stride = omega (arith, most, laid .wide, ap (λ (n : ℕ). n * w) (x .count)) in
-        subst (HasId h now (slotTable h now (h .stride * i))) (sym e) (named-grown (sym (low (h .stride * i) (omega (arith, l)))) (table-moved was now (h .stride * i) (h .stride * i) (λ j m. low (h .stride * i + j) (omega (arith, l, m, size)))) x)
+        subst (HasId h now (slotTable h now (h .stride * i))) (sym e) (named-grown (sym (low (h .stride * i) (omega (arith, l)))) (table-moved h was now (h .stride * i) (h .stride * i) (λ j m. low (h .stride * i + j) (omega (arith, l, m, size)))) x)
 
     step-entry : {th : Theory} (a : ℕ) → ((q : ℕ) → a ≤ q → q < a + 4 → getD now q 0 ≡ getD was q 0) → StepEntry th h was a → StepEntry th h now a
     step-entry {th} a e f z =
@@ -240,21 +217,34 @@ module _ (h : Context) where
         → ((i : ℕ) → i < 512 → ((q : ℕ) → factsAt h + 7 * i ≤ q → q < factsAt h + 7 * i + 7 → getD now q 0 ≡ getD was q 0) ⊎ FactEntry th K h now (factsAt h + 7 * i)) → Memory th K h limit was → Memory th K h limit now
     memory-but low a b c m = record {
       laid = m .laid;
-      within = g .within (m .within);
+      within = g .wider .within (m .within);
+      chains = g .chains (m .chains);
       slots = λ i l. ⊎-elim (λ e. slot-entry (m .laid) low i l e (m .slots i l)) (λ x. x) (a i l);
       steps = λ i l. ⊎-elim (λ e. step-entry (stepsAt h + 4 * i) e (m .steps i l)) (λ x. x) (b i l);
       facts = λ i l. ⊎-elim (λ e. fact-entry (factsAt h + 7 * i) e (m .facts i l)) (λ x. x) (c i l);
     }
 
     -- entries all stay
-    pub memory-quiet : {th : Theory} {K limit : ℕ} → ((q : ℕ) → q < limit → getD now q 0 ≡ getD was q 0) → ((q : ℕ) → h .memory ≤ q → q < takenAt h → getD now q 0 ≡ getD was q 0) → ((q : ℕ) → stepsAt h ≤ q → q < tablesAt h → getD now q 0 ≡ getD was q 0) → Memory th K h limit was → Memory th K h limit now
+    pub memory-quiet : {th : Theory} {K limit : ℕ} → ((q : ℕ) → q < limit → getD now q 0 ≡ getD was q 0) → ((q : ℕ) → h .memory ≤ q → q < takenAt h → getD now q 0 ≡ getD was q 0) → ((q : ℕ) → stepsAt h ≤ q → q < linksAt h → getD now q 0 ≡ getD was q 0) → Memory th K h limit was → Memory th K h limit now
     memory-quiet low ids mid = memory-but low (λ i l. inl (ids (idAt h (h .stride * i + 1)) (omega arith) (omega arith))) (λ i l. inl (λ q a b. mid q (omega (arith, a)) (omega (arith, b, l)))) (λ i l. inl (λ q a b. mid q (omega (arith, a)) (omega (arith, b, l))))
 
+  -- only slots and the scratch change
+  pub memory-apart : {th : Theory} {K limit : ℕ} {was now : List ℕ} → ((q : ℕ) → q < limit → getD now q 0 ≡ getD was q 0) → ((q : ℕ) → h .memory ≤ q → q < scratchAt → getD now q 0 ≡ getD was q 0) → Memory th K h limit was → Memory th K h limit now
+  memory-apart low mid m =
+      let room = m .laid .room in
+      let taken = mid (takenAt h) (omega arith) (omega (arith, room)) in
+      memory-quiet
+      (grown-same h
+      (record { taken = omega (arith, taken); within = λ l. omega (arith, ap (λ (k : ℕ). h .block * k) taken, l); tables = λ q l g. mid q (omega (arith, l)) (omega (arith, g, m .within)) })
+      (λ b l. mid (headsAt h + b) (omega arith) (omega (arith, l, room))) (λ n l. mid (linksAt h + n) (omega arith) (omega (arith, l, room))))
+      low (λ q l g. mid q l (omega (arith, g, room))) (λ q l g. mid q (omega (arith, l)) (omega (arith, g, room))) m
+
   -- nothing is known
-  pub memory-clear : {th : Theory} {K limit : ℕ} {now : List ℕ} → Laid h → ((q : ℕ) → h .memory ≤ q → q < tablesAt h → getD now q 0 ≡ 0) → Memory th K h limit now
+  pub memory-clear : {th : Theory} {K limit : ℕ} {now : List ℕ} → Laid h → ((q : ℕ) → h .memory ≤ q → q < linksAt h → getD now q 0 ≡ 0) → Memory th K h limit now
   memory-clear laid f = record {
     laid = laid;
     within = omega (arith, ap (λ (k : ℕ). h .block * k) (f (takenAt h) (omega arith) (omega arith)), laid .room);
+    chains = chained-none h (λ q l g. f q (omega (arith, l)) (omega (arith, g)));
     slots = λ i l z. absurd (omega (arith, z, f (idAt h (h .stride * i + 1)) (omega arith) (omega arith)));
     steps = λ i l z. absurd (omega (arith, z, f (stepsAt h + 4 * i) (omega arith) (omega (arith, l))));
     facts = λ i l z. absurd (omega (arith, z, f (factsAt h + 7 * i + 6) (omega arith) (omega (arith, l))));
@@ -262,24 +252,24 @@ module _ (h : Context) where
 
   -- only what nothing is asked of changes
   pub memory-unasked : {th : Theory} {K limit : ℕ} {was now : List ℕ} → Unasked h was now → limit ≤ h .memory → Memory th K h limit was → Memory th K h limit now
-  memory-unasked u few m = memory-quiet (grown-by (u .low (takenAt h) (omega arith)) (λ q l. u .high q (omega (arith, l)))) (λ q l. u .low q (omega (arith, l, few))) (λ q _ l. u .low q (omega (arith, l))) (λ q l _. u .high q l) m
+  memory-unasked u few m = memory-quiet (grown-by h (u .low (takenAt h) (omega arith)) (λ q l _. u .high q l) (λ q l. u .high q (omega (arith, l)))) (λ q l. u .low q (omega (arith, l, few))) (λ q _ l. u .low q (omega (arith, l))) (λ q l _. u .high q (omega (arith, l))) m
 
   pub unasked-only : {was now : List ℕ} → Laid h → Unasked h was now → Only h was now
   unasked-only laid u = record { low = λ q l. u .low q (omega (arith, l)); high = λ q l. u .high q (omega (arith, l, laid .room)) }
 
   -- fewer slots
   pub memory-fewer : {th : Theory} {K limit limit′ : ℕ} {now : List ℕ} → limit′ ≤ limit → Memory th K h limit now → Memory th K h limit′ now
-  memory-fewer l m = record { laid = m .laid; within = m .within; slots = λ i g. m .slots i (omega (arith, l, g)); steps = m .steps; facts = m .facts }
+  memory-fewer l m = record { laid = m .laid; within = m .within; chains = m .chains; slots = λ i g. m .slots i (omega (arith, l, g)); steps = m .steps; facts = m .facts }
 
   module _ {t : Table} where
     -- a table with the count and the bytes of the one that is kept
     pub kept-as : {now : List ℕ} → Before h now t → (n : ℕ) → 0 < n → h .block * n + t .nodes * t .width < h .block * getD now (takenAt h) 0 + h .block → getD now (keptAt h n) 0 ≡ t .nodes
-        → ((q : ℕ) → q < t .nodes * t .width → getD now (keptAt h n + 1 + q) 0 ≡ getD now (t .rows + q) 0) → HasId h now t n
+        → ((q : ℕ) → q < t .nodes * t .width → getD now (keptAt h n + 1 + q) 0 ≡ getD now (t .rows + q) 0) → Alike h now t n
     kept-as {now} b n some inside count same =
         let wide : w ≡ t .width = ap (λ (f : ℕ). f + h .characters) (b .fluents) ∙ ap (λ (c : ℕ). t .fluents + c) (b .characters) ∙ b .wide in
         let size : getD now (keptAt h n) 0 * w ≡ t .nodes * t .width = ap (λ (c : ℕ). c * w) count ∙ ap (λ (k : ℕ). t .nodes * k) wide in
         record {
-          kept = record { some = some; few = omega (arith, count, b .few); inside = omega (arith, size, inside, b .laid .room) };
+          inside = record { some = some; few = omega (arith, count, b .few); inside = omega (arith, size, inside, b .laid .room) };
           count = count;
           same = ap (λ (c : ℕ). rowsAt now w (h .fluents) (h .characters) (keptAt h n + 1) c) count ∙ ap (λ (f : ℕ). rowsAt now w f (h .characters) (keptAt h n + 1) (t .nodes)) (b .fluents) ∙ ap (λ (c : ℕ). rowsAt now w (t .fluents) c (keptAt h n + 1) (t .nodes)) (b .characters)
               ∙ ap (λ (k : ℕ). rowsAt now k (t .fluents) (t .characters) (keptAt h n + 1) (t .nodes)) wide ∙ rows-same now now (t .width) (t .fluents) (t .characters) (t .rows) (keptAt h n + 1) (t .nodes) (omega (arith, b .wide)) same;
@@ -291,11 +281,19 @@ module _ (h : Context) where
     pub before-now : {was now : List ℕ} → length now ≡ length was → Before h was t → Before h now t
     before-now long b = record { laid = b .laid; fluents = b .fluents; characters = b .characters; wide = b .wide; narrow = b .narrow; few = b .few; before = b .before; room = omega (arith, long, b .room) }
 
-    pub stored-found : {was : List ℕ} {r : ℕ} → r < 256 → (0 < r → HasId h was t r) → Stored h t was was r
-    stored-found small x = record { small = small; named = x; only = record { low = λ q l. refl; high = λ q l. refl }; memory = λ p K limit few m. m }
+    -- an id that is found
+    pub stored-found : {was : List ℕ} {at r : ℕ} → Before h was t → at ≡ headAt h was (t .rows) (t .nodes * t .width) → FoundOn h was t at r → Stored h t was was r
+    stored-found b here f = record { small = f .small; named = found-id h b here f; exact = found-exact h b here f; only = record { low = λ q l. refl; high = λ q l. refl }; memory = λ p K limit few m. m }
 
-    pub stored-none : {was : List ℕ} → Stored h t was was 0
-    stored-none = record { small = omega arith; named = λ z. absurd (omega (arith, z)); only = record { low = λ q l. refl; high = λ q l. refl }; memory = λ p K limit few m. m }
+    pub placed-none : {was : List ℕ} → Placed h t was was 0
+    placed-none = record {
+      small = omega arith;
+      alike = λ z. absurd (omega (arith, z));
+      only = record { low = λ q l. refl; high = λ q l. refl };
+      memory = λ p K limit few m. m;
+      before = λ z. absurd (omega (arith, z));
+      older = λ c b n l x. (x, refl, refl);
+    }
 
     -- a table that is put behind those that are kept
     module _ {was mid : List ℕ} {taken v : ℕ} (b : Before h was t) (e : getD was (takenAt h) 0 ≡ taken) (fits : v ≤ 255) (copied : PartCopied (set was (tablesAt h + h .block * taken) (t .nodes)) mid (t .rows) (tablesAt h + h .block * taken + 1) (t .nodes * t .width)) (is : v ≡ taken + (t .nodes * t .width / h .block + 1)) where
@@ -338,36 +336,93 @@ module _ (h : Context) where
             let x : keptAt h (taken + 1) + 1 + q ≡ tablesAt h + h .block * taken + 1 + q = omega (arith, b .laid .room) in
             ap (λ (q : ℕ). getD last q 0) x ∙ getD-set-other mid (takenAt h) (tablesAt h + h .block * taken + 1 + q) v 0 (λ z. omega (arith, z)) ∙ copied .part q l ∙ getD-set-other was (tablesAt h + h .block * taken) (t .rows + q) (t .nodes) 0 (λ z. omega (arith, z, l, b .before)) ∙ sym (below (t .rows + q) (λ z. omega (arith, z, l, b .before)) (omega (arith, l, b .before)))
 
-        pub stored-new : Stored h t was last (taken + 1)
-        stored-new = record {
+        new-wider : Wider h was last
+        new-wider = record { taken = omega (arith, new-taken, is, e); within = λ l. omega (arith, ap (λ (k : ℕ). h .block * k) new-taken, new-room); tables = λ q low high. below q (λ z. omega (arith, z, low)) (omega (arith, high, ap (λ (k : ℕ). h .block * k) e)) }
+
+        new-heads : (b : ℕ) → b < 127 → getD last (headsAt h + b) 0 ≡ getD was (headsAt h + b) 0
+        new-heads b l = below (headsAt h + b) (λ z. omega (arith, z)) (omega (arith, l))
+
+        new-links : (m : ℕ) → m < 256 → getD last (linksAt h + m) 0 ≡ getD was (linksAt h + m) 0
+        new-links m l = below (linksAt h + m) (λ z. omega (arith, z)) (omega (arith, l))
+
+        pub placed-new : Placed h t was last (taken + 1)
+        placed-new = record {
           small = omega (arith, fits, is);
-          named = λ z. kept-as (before-now (length-set mid (takenAt h) v ∙ long) b) (taken + 1) (omega arith) (omega (arith, ap (λ (k : ℕ). h .block * k) new-taken, new-end)) new-count new-byte;
+          alike = λ z. kept-as (before-now (length-set mid (takenAt h) v ∙ long) b) (taken + 1) (omega arith) (omega (arith, ap (λ (k : ℕ). h .block * k) new-taken, new-end)) new-count new-byte;
           only = record { low = λ q l. below q (λ z. omega (arith, z, l)) (omega (arith, l)); high = λ q l. above q (omega (arith, l, new-end, new-room)) };
-          memory = λ p K limit few m. memory-quiet (record { taken = omega (arith, new-taken, is, e); within = λ l. omega (arith, ap (λ (k : ℕ). h .block * k) new-taken, new-room); tables = λ q low high. below q (λ z. omega (arith, z, low)) (omega (arith, high, ap (λ (k : ℕ). h .block * k) e)) }) (λ q l. below q (λ z. omega (arith, z, l, few)) (omega (arith, l, few))) (λ q low high. below q (λ z. omega (arith, z, high)) (omega (arith, high))) (λ q low high. below q (λ z. omega (arith, z, low)) (omega (arith, high))) m;
+          memory = λ p K limit few m. memory-quiet (grown-same h new-wider new-heads new-links) (λ q l. below q (λ z. omega (arith, z, l, few)) (omega (arith, l, few))) (λ q low high. below q (λ z. omega (arith, z, high)) (omega (arith, high))) (λ q low high. below q (λ z. omega (arith, z, low)) (omega (arith, high))) m;
+          before = λ z c b l. let same = new-heads b l in omega (arith, same, c .heads b l, e);
+          older = λ c b n l x.
+              let on = chain-back h new-wider new-heads new-links b n l x in
+              let k = c .tables b n l on .0 in
+              (on, inside-count h new-wider k, inside-table h new-wider k);
         }
 
     -- all else is forgotten first
-    pub stored-anew : {was mid cleared now : List ℕ} {r : ℕ} → Laid h → Only h was mid → Cleared mid cleared (h .memory) 4404 → Stored h t (set cleared (h .memory + 49) 1) now r → Stored h t was now r
-    stored-anew {was} {mid} {cleared} {now} laid o c x =
+    pub placed-anew : {was mid cleared now : List ℕ} {r : ℕ} → Laid h → Only h was mid → Cleared mid cleared (h .memory) 4276 → Placed h t (set cleared (h .memory + 49) 1) now r → Placed h t was now r
+    placed-anew {was} {mid} {cleared} {now} laid o c x =
         let other : (q : ℕ) → q ≢ h .memory + 49 → getD (set cleared (h .memory + 49) 1) q 0 ≡ getD cleared q 0 = λ q n. getD-set-other cleared (h .memory + 49) q 1 0 n in
+        let heads : (q : ℕ) → headsAt h ≤ q → q < stepsAt h → getD (set cleared (h .memory + 49) 1) q 0 ≡ 0 = λ q l g. other q (λ z. omega (arith, z, l)) ∙ emptied h c q (omega (arith, l)) (omega (arith, g)) in
         record {
           small = x .small;
-          named = x .named;
+          alike = x .alike;
           only = record { low = λ q l. x .only .low q l ∙ other q (λ z. omega (arith, z, l)) ∙ c .low q l ∙ o .low q l; high = λ q l. x .only .high q l ∙ other q (λ z. omega (arith, z, l, laid .room)) ∙ c .high q (omega (arith, l, laid .room)) ∙ o .high q l };
           memory = λ p K limit few m. x .memory p K limit few (memory-unasked {was = cleared} (record { low = λ q l. other q (λ z. omega (arith, z, l)); high = λ q l. other q (λ z. omega (arith, z, l)) }) few (memory-clear (m .laid) (emptied h c)));
+          before = λ z _. x .before z (chained-none h heads);
+          older = λ _ b n l y. absurd (chain-none h (heads (headsAt h + b) (omega arith) (omega (arith, l))) (x .older (chained-none h heads) b n l y .0));
         }
 
-    -- an id found by a hash
-    pub stored-hashed : {was mid : List ℕ} {r q : ℕ} (v : ℕ) → Before h mid t → Stored h t was mid r → h .memory + 52 ≤ q → q < stepsAt h → Stored h t was (set mid q v) r
-    stored-hashed {was} {mid} {r} {q} v b x low high =
-        let other : (a : ℕ) → a ≢ q → getD (set mid q v) a 0 ≡ getD mid a 0 = λ a n. getD-set-other mid q a v 0 n in
-        let g : Grown h mid (set mid q v) = grown-by (other (takenAt h) (λ z. omega (arith, z, low))) (λ a l. other a (λ z. omega (arith, z, l, high))) in
-        record {
-          small = x .small;
-          named = λ z. named-grown g refl (before-same (set mid q v) b (λ a l. other a (λ z. omega (arith, z, l, low)))) (x .named z);
-          only = record { low = λ a l. other a (λ z. omega (arith, z, l, low)) ∙ x .only .low a l; high = λ a l. other a (λ z. omega (arith, z, l, high)) ∙ x .only .high a l };
-          memory = λ p K limit few m. memory-quiet g (λ a l. other a (λ z. omega (arith, z, l, few, low))) (λ a _ l. other a (λ z. omega (arith, z, l, low))) (λ a l _. other a (λ z. omega (arith, z, l, high))) (x .memory p K limit few m);
-        }
+    -- there is no room for it, and it is kept nowhere
+    pub stored-none : {was mid : List ℕ} {at : ℕ} → Before h was t → at ≡ headAt h was (t .rows) (t .nodes * t .width) → FoundOn h was t at 0 → Placed h t was mid 0 → Stored h t was mid 0
+    stored-none b here f x = record { small = x .small; named = λ z. absurd (omega (arith, z)); exact = found-exact h b here f; only = x .only; memory = x .memory }
+
+    -- a table that is kept from now on, its id in front of its chain
+    module _ {was mid now : List ℕ} {at r : ℕ} (b : Before h was t) (long : length mid ≡ length was) (long′ : length now ≡ length mid) (here : at ≡ headAt h was (t .rows) (t .nodes * t .width)) (f : FoundOn h was t at 0) (some : 0 < r) (x : Placed h t was mid r) (l : Linked h at r mid now) where
+      abbrev mark : ℕ
+      mark = sumOf was (t .rows) (t .nodes * t .width) % 127
+
+      mark-few : mark < 127
+      mark-few = mod-lt (sumOf was (t .rows) (t .nodes * t .width)) (omega arith)
+
+      linked-low : (q : ℕ) → q < headsAt h → getD now q 0 ≡ getD mid q 0
+      linked-low q g = l .others q (λ z. omega (arith, z, g, here)) (λ z. omega (arith, z, g))
+
+      linked-high : (q : ℕ) → tablesAt h ≤ q → getD now q 0 ≡ getD mid q 0
+      linked-high q g = l .others q (λ z. omega (arith, z, g, here, mark-few)) (λ z. omega (arith, z, g, x .small))
+
+      rows-mid : tableOf t mid ≡ tableOf t was
+      rows-mid = before-same mid b (λ q g. x .only .low q g)
+
+      rows-now : tableOf t now ≡ tableOf t mid
+      rows-now = before-same now (before-now long b) (λ q g. linked-low q (omega (arith, g)))
+
+      new-alike : Alike h now t r
+      new-alike = alike-grown h (linked-wider h mark-few here (x .small) some l) refl rows-now (x .alike some)
+
+      before₁ : Before h now t
+      before₁ = before-now (long′ ∙ long) b
+
+      hash-now : sumOf now (t .rows) (t .nodes * t .width) % 127 ≡ mark
+      hash-now = ap (λ (s : ℕ). s % 127) (sum-same was now (t .rows) (t .rows) (t .nodes * t .width) (λ q g. linked-low (t .rows + q) (omega (arith, g, b .before)) ∙ x .only .low (t .rows + q) (omega (arith, g, b .before))))
+
+      pub stored-linked : Stored h t was now r
+      stored-linked = record {
+        small = x .small;
+        named = λ _. record {
+          kept = record {
+            inside = new-alike .inside;
+            listed = subst (λ (a : ℕ). OnChain h now a r) (here ∙ ap (λ (b : ℕ). headsAt h + b) (sym hash-now ∙ sym (alike-hash h before₁ r (new-alike .count) (new-alike .same))))
+                (record { some = some; low = omega (arith, l .head, x .small); links = 0; behind = subst (Behind h now r 0) (sym (l .head)) (behind-here h now r) });
+          };
+          count = new-alike .count;
+          same = new-alike .same;
+        };
+        exact = λ c n y. absurd (f .none refl n (subst (λ (a : ℕ). OnChain h was a n) (sym here) (id-listed h b y)) (record { inside = y .kept .inside; count = y .count; same = y .same }));
+        only = record { low = λ q g. linked-low q (omega (arith, g)) ∙ x .only .low q g; high = λ q g. linked-high q (omega (arith, g, b .laid .room)) ∙ x .only .high q g };
+        memory = λ p K limit few m.
+            let grown = linked-grown h mark-few here (x .small) some l (x .before some (m .chains)) before₁ (rows-now ∙ rows-mid) new-alike hash-now (f .none refl) (m .chains) (x .older (m .chains)) in
+            memory-quiet grown (λ q g. linked-low q (omega (arith, g, few))) (λ q _ g. linked-low q (omega (arith, g))) (λ q g u. l .others q (λ z. omega (arith, z, g, here, mark-few)) (λ z. omega (arith, z, u))) (x .memory p K limit few m);
+      }
 
     -- where the id of a table in a slot stands
     slot-id-at : {work : List ℕ} {limit : ℕ} → (x : InSlot h work t limit) → idAt h (t .rows) ≡ idAt h (h .stride * x .number + 1)
@@ -381,7 +436,7 @@ module _ (h : Context) where
         subst (HasId h was t) e′ (record { kept = y .kept; count = y .count ∙ x .counted; same = y .same ∙ slot-table b x })
 
     pub naming-known : {was : List ℕ} {r : ℕ} → Before h was t → r < 256 → 0 < r → slotId h was t ≡ r → Interning h t was was r
-    naming-known b small some e = record { small = small; stands = e; kept = λ _. some; only = record { low = λ q l. refl; high = λ q l. refl }; told = λ p K limit few x m. (m, slot-named b e x m) }
+    naming-known b small some e = record { small = small; stands = e; kept = λ _. some; only = record { low = λ q l. refl; high = λ q l. refl }; told = λ p K limit few x m. (m, slot-named b e x m); exact = λ p K limit x m n y. id-once h b (m .chains) (slot-named b e x m some) y }
 
     -- and is from now on
     module _ {was mid : List ℕ} {r : ℕ} (long : length mid ≡ length was) (b : Before h was t) (x : Stored h t was mid r) where
@@ -395,7 +450,7 @@ module _ (h : Context) where
       other q n = getD-set-other mid at q r 0 n
 
       grown : Grown h mid now
-      grown = grown-by (other (takenAt h) (λ z. omega (arith, z))) (λ q l. other q (λ z. omega (arith, z, l)))
+      grown = grown-by h (other (takenAt h) (λ z. omega (arith, z))) (λ q l _. other q (λ z. omega (arith, z, l))) (λ q l. other q (λ z. omega (arith, z, l)))
 
       kept-now : tableOf t now ≡ tableOf t mid
       kept-now = before-same now (before-now long b) (λ q l. other q (λ z. omega (arith, z, l)))
@@ -432,6 +487,7 @@ module _ (h : Context) where
         known = λ z. absurd (omega (arith, z, unknown));
         only = slot-only;
         told = λ p K limit few s m. (slot-memory few s m, named);
+        exact = λ p K limit s m. x .exact (m .chains);
       }
 
       pub naming-new : (Fits h t → 0 < r) → Interning h t was now r
@@ -441,11 +497,12 @@ module _ (h : Context) where
         stands = slot-stands;
         only = slot-only;
         told = λ p K limit few s m. (slot-memory few s m, named);
+        exact = λ p K limit s m. x .exact (m .chains);
       }
 
     -- an id that is kept is one that is looked for
     pub sought : {was now : List ℕ} {r : ℕ} → Interning h t was now r → (0 < slotId h was t → now ≡ was) → Sought h t was now r
-    sought x known = record { small = x .small; stands = x .stands; known = known; only = x .only; told = x .told }
+    sought x known = record { small = x .small; stands = x .stands; known = known; only = x .only; told = x .told; exact = x .exact }
 
     -- what is known by an id is known of the table
     pub named-rows : {work : List ℕ} {n : ℕ} → Before h work t → HasId h work t n → stateOf (keptTable h work n) work ≡ stateOf t work
@@ -501,7 +558,7 @@ module _ (h : Context) where
         abbrev noted : List ℕ
         noted = set put (a + 6) r
 
-        bounds : (factsAt h ≤ a) × (a + 7 ≤ tablesAt h)
+        bounds : (factsAt h ≤ a) × (a + 7 ≤ linksAt h)
         bounds = (omega (arith, place .is), omega (arith, place .is, place .few))
 
         low : (q : ℕ) → q < a → getD noted q 0 ≡ getD mid q 0
@@ -514,7 +571,7 @@ module _ (h : Context) where
         kept d l = getD-set-other put (a + 6) (a + d) r 0 (λ z. omega (arith, z, l))
 
         put-grown : Grown h mid noted
-        put-grown = grown-by (low (takenAt h) (omega (arith, bounds))) (λ q l. high q (omega (arith, l, bounds)))
+        put-grown = grown-by h (low (takenAt h) (omega (arith, bounds))) (λ q _ l. low q (omega (arith, l, bounds))) (λ q l. high q (omega (arith, l, bounds)))
 
         entry : FactRead noted a r k m
         entry = record {
@@ -553,7 +610,7 @@ module _ (h : Context) where
         }
 
 -- two bytes that nothing is asked of
-pub unasked-two : (h : Context) (was : List ℕ) {a b : ℕ} (v u : ℕ) → h .memory + 49 ≤ a → a < stepsAt h → h .memory + 49 ≤ b → b < stepsAt h → Unasked h was (set (set was a v) b u)
+pub unasked-two : (h : Context) (was : List ℕ) {a b : ℕ} (v u : ℕ) → h .memory + 49 ≤ a → a < headsAt h → h .memory + 49 ≤ b → b < headsAt h → Unasked h was (set (set was a v) b u)
 unasked-two h was {a} {b} v u la ha lb hb =
     let other : (q : ℕ) → q ≢ a → q ≢ b → getD (set (set was a v) b u) q 0 ≡ getD was q 0 = λ q n m. getD-set-other (set was a v) b q u 0 m ∙ getD-set-other was a q v 0 n in
     record { low = λ q l. other q (λ z. omega (arith, z, l, la)) (λ z. omega (arith, z, l, lb)); high = λ q l. other q (λ z. omega (arith, z, l, ha)) (λ z. omega (arith, z, l, hb)) }
@@ -629,7 +686,7 @@ module _ (h : Context) where
     step-bounds = (omega (arith, place .is), omega (arith, place .is, place .few))
 
     step-kept : Grown h was now
-    step-kept = grown-by (put .low (takenAt h) (omega (arith, step-bounds))) (λ q l. put .high q (omega (arith, l, step-bounds)))
+    step-kept = grown-by h (put .low (takenAt h) (omega (arith, step-bounds))) (λ q _ l. put .low q (omega (arith, l, step-bounds))) (λ q l. put .high q (omega (arith, l, step-bounds)))
 
     new-step : {p : Theory} → StepFact p h was id root a next → StepEntry p h now at
     new-step {p} x z =
@@ -658,6 +715,7 @@ module _ (h : Context) where
   memory-more {now = now} n e m x = record {
     laid = m .laid;
     within = m .within;
+    chains = m .chains;
     slots = λ i l. by-cases (ℕ-discrete i n) (λ z. subst (SlotEntry h now) (sym z) x) (λ z. m .slots i (by-cases (decLe (i + 1) n) (λ k. omega (arith, e, stride-on (h .stride) {i = i} {j = n} (omega (arith, k)))) (λ k. absurd (omega (arith, l, e, z, k, m .laid .wide, stride-on (h .stride) {i = n} {j = i} (omega (arith, k, z)))))));
     steps = m .steps;
     facts = m .facts;
@@ -691,7 +749,7 @@ module _ (h : Context) where
 
     pub memory-nameless : {p : Theory} {K : ℕ} → Memory p K h slot was → Memory p K h (slot + h .stride) nameless
     memory-nameless m = memory-more (s .number) (s .is)
-        (memory-but h (grown-by (nameless-other (takenAt h) (λ z. omega (arith, z))) (λ q l. nameless-other q (λ z. omega (arith, z, l)))) (λ q l. nameless-other q (λ z. omega (arith, z, l, s .before)))
+        (memory-but h (grown-by h (nameless-other (takenAt h) (λ z. omega (arith, z))) (λ q l _. nameless-other q (λ z. omega (arith, z, l))) (λ q l. nameless-other q (λ z. omega (arith, z, l)))) (λ q l. nameless-other q (λ z. omega (arith, z, l, s .before)))
         (λ i l. inl (nameless-other (idAt h (h .stride * i + 1)) (slot-other s i l))) (λ i l. inl (λ q g u. nameless-other q (λ z. omega (arith, z, g)))) (λ i l. inl (λ q g u. nameless-other q (λ z. omega (arith, z, g)))) m)
         (λ z. let e : getD nameless (idAt h (h .stride * s .number + 1)) 0 ≡ 0 = ap (λ (q : ℕ). getD nameless q 0) (sym (slot-index s)) ∙ getD-set-same was (idAt h (slot + 1)) 0 0 (omega (arith, s .before, s .laid .room, s .room)) in absurd (omega (arith, e, z)))
 
@@ -701,7 +759,7 @@ module _ (h : Context) where
     again = set mid (idAt h (slot + 1)) next
 
     again-size : 1 + getD was (keptAt h next) 0 * width ≤ h .stride
-    again-size = let most : getD was (keptAt h next) 0 * width ≤ 32 * width = mul-le-mul-right width (k .few) in omega (arith, most, s .laid .wide)
+    again-size = let most : getD was (keptAt h next) 0 * width ≤ 32 * width = mul-le-mul-right width (k .inside .few) in omega (arith, most, s .laid .wide)
 
     again-other : (q : ℕ) → q ≢ idAt h (slot + 1) → getD again q 0 ≡ getD mid q 0
     again-other q n = getD-set-other mid (idAt h (slot + 1)) q next 0 n
@@ -716,7 +774,7 @@ module _ (h : Context) where
     again-high q l = again-other q (λ z. omega (arith, z, l)) ∙ copied .high q (omega (arith, l, s .before, again-size))
 
     again-grown : Grown h was again
-    again-grown = grown-by (again-high (takenAt h) (omega arith)) (λ q l. again-high q (omega (arith, l)))
+    again-grown = grown-by h (again-high (takenAt h) (omega arith)) (λ q l _. again-high q (omega (arith, l))) (λ q l. again-high q (omega (arith, l)))
 
     again-byte : (i : ℕ) → i < 1 + getD was (keptAt h next) 0 * width → getD again (slot + i) 0 ≡ getD was (keptAt h next + i) 0
     again-byte i l = again-other (slot + i) (λ z. omega (arith, z, l, s .before, again-size)) ∙ copied .part i l
@@ -738,7 +796,7 @@ module _ (h : Context) where
       refused = λ z. absurd (z refl);
       named = λ _. again-here;
       others = λ q l n. again-other q n ∙ copied .high q (omega (arith, l, s .before, again-size));
-      played = λ z. (k .some, again-table, omega (arith, again-count, k .few));
+      played = λ z. (k .inside .some, again-table, omega (arith, again-count, k .inside .few));
       low = again-low;
       high = λ q l. again-high q (omega (arith, l));
       memory = λ p K m. (

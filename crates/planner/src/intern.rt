@@ -1,13 +1,14 @@
 // A transposition table, behind the slots. Tables of states are interned in it: each is kept once, under a
 // number that is its id, by which what is known of steps and of lists is found.
 //
-// An id is the number of the table's first block, from 1 on. A table is held byte for byte against the one that its
-// hash leads to, so nothing proved depends on the hash. Where there is no room, all is forgotten. A state is handed on
-// as the slot that its table stands in.
+// An id is the number of the table's first block, from 1 on. Those of tables with the same hash stand on a chain, and a
+// table is held byte for byte against each of them, so one that is kept is found under its id, and under no other.
+// Where there is no room, all is forgotten. A state is handed on as the slot that its table stands in.
 use crate::limits::Context;
 use crate::regions::BLOCKS;
 use crate::regions::ENOUGH;
-use crate::regions::HASHED;
+use crate::regions::HEADS;
+use crate::regions::LINKS;
 use crate::regions::OVERFLOWED;
 use crate::regions::SLOTS;
 use crate::regions::TABLES;
@@ -19,13 +20,14 @@ use pack::number::wide;
 use pack::table::Table;
 ghost use mathlib.Core.Path.{_≡_};
 ghost use mathlib.Core.Bool.{true, false};
-ghost use Prim.Native.Nat.{_+_, _*_, _/_, _<_, _≤_};
+ghost use Prim.Native.Nat.{_+_, _*_, _/_, _%_, _<_, _≤_};
 ghost use lib.ListN.{length, getD};
 ghost use Rattle.chart.specs.Call.{workRoom};
 ghost use Rattle.transition.specs.Contracts.Stage.{scratchAt};
 ghost use Rattle.planner.specs.Inner.Lists.{slotTable};
-ghost use Rattle.planner.specs.Inner.Memory.{takenAt, stepsAt, slotId, Roomy, Before, HasId, Fits, Stored};
-ghost use Rattle.planner.specs.Inner.Memory.{Interning, Identified, Sought};
+ghost use Rattle.planner.specs.Inner.Memory.{takenAt, headAt, linksAt, slotId, sumOf, Roomy, Before, Alike};
+ghost use Rattle.planner.specs.Inner.Memory.{Fits, FoundOn, Linked, Placed, Stored, Interning};
+ghost use Rattle.planner.specs.Inner.Memory.{Identified, Sought};
 
 // The table in a slot.
 pub fn table_in(work: &[u8], p: Context, slot: usize) -> Table
@@ -61,10 +63,10 @@ pub fn has_overflowed(work: &[u8], p: Context) -> bool
     0 < work[p.memory + OVERFLOWED]
 }
 
-// A number below 241 made of n bytes. Nothing depends on which.
+// A number below 127 made of n bytes.
 pub fn hash(work: &[u8], from: usize, n: usize) -> usize
     requires { ⌜ from + n ≤ length (now work) ⌝ }
-    ensures { λ r. ⌜ r < 241 ⌝ }
+    ensures { λ r. ⌜ r ≡ sumOf (now (work .entry)) from n % 127 ⌝ }
 {
     let mut h = 0;
     let mut i = 0;
@@ -72,14 +74,14 @@ pub fn hash(work: &[u8], from: usize, n: usize) -> usize
         h = (h * 5 + wide(work[from + i])) % 4294967296;
         i += 1;
     }
-    h % 241
+    h % 127
 }
 
-// Whether a table is the one that is kept under an id.
+// Whether a table is the one at the block of an id.
 pub fn has_id(work: &[u8], p: Context, t: Table, id: usize) -> bool
     requires { ⌜ Before p (now work) t × (id < 256) ⌝ }
-    ensures { λ r. ⌜ (r ≡ true → HasId p (now (work .entry)) t id)
-        × (r ≡ false → ¬ HasId p (now (work .entry)) t id) ⌝ }
+    ensures { λ r. ⌜ (r ≡ true → Alike p (now (work .entry)) t id)
+        × (r ≡ false → ¬ Alike p (now (work .entry)) t id) ⌝ }
 {
     if id == 0 {
         return false;
@@ -95,10 +97,10 @@ pub fn has_id(work: &[u8], p: Context, t: Table, id: usize) -> bool
     n <= first_other(work, t.rows, at + 1, n)
 }
 
-// Keeps a table where there is room: its id, or 0.
+// Puts a table behind those that are kept, where there is room: its id, or 0.
 pub fn store(work: &mut [u8], p: Context, t: Table) -> usize
     requires { ⌜ Before p (now work) t ⌝ }
-    ensures { λ r. ⌜ Stored p t (now (work .entry)) (now (work .exit)) r
+    ensures { λ r. ⌜ Placed p t (now (work .entry)) (now (work .exit)) r
         × (getD (now (work .entry)) (takenAt p) 0 + t .nodes * t .width / p .block < 255 → 0 < r) ⌝ }
 {
     let n = t.nodes * t.width;
@@ -114,38 +116,54 @@ pub fn store(work: &mut [u8], p: Context, t: Table) -> usize
     taken + 1
 }
 
-// Keeps a table; where there is no room, all else is forgotten first.
+// The same; where there is no room, all else is forgotten first.
 pub fn keep(work: &mut [u8], p: Context, t: Table) -> usize
     requires { ⌜ Before p (now work) t ⌝ }
-    ensures { λ r. ⌜ Stored p t (now (work .entry)) (now (work .exit)) r × (Fits p t → 0 < r) ⌝ }
+    ensures { λ r. ⌜ Placed p t (now (work .entry)) (now (work .exit)) r × (Fits p t → 0 < r) ⌝ }
 {
     let id = store(work, p, t);
     if id != 0 {
         return id;
     }
-    clear(work, p.memory, TABLES);
+    clear(work, p.memory, LINKS);
     work[p.memory + OVERFLOWED] = 1;
     store(work, p, t)
 }
 
-// Where the id of a table is found by its hash.
-pub fn bucket(work: &[u8], p: Context, t: Table) -> usize
+// The head of the chain on which a table is looked for.
+pub fn head_of(work: &[u8], p: Context, t: Table) -> usize
     requires { ⌜ Before p (now work) t ⌝ }
-    ensures { λ r. ⌜ (p .memory + 52 ≤ r) × (r < stepsAt p) ⌝ }
+    ensures { λ r. ⌜ r ≡ headAt p (now (work .entry)) (t .rows) (t .nodes * t .width) ⌝ }
 {
-    p.memory + HASHED + hash(work, t.rows, t.nodes * t.width)
+    p.memory + HEADS + hash(work, t.rows, t.nodes * t.width)
 }
 
-// The id at a place, if the table is the one that is kept under it; or 0.
-pub fn id_at(work: &[u8], p: Context, t: Table, at: usize) -> usize
+// The id on the chain from a place on under which a table is kept; or 0. Links lead to lower ids, so it ends.
+pub fn find(work: &[u8], p: Context, t: Table, at: usize) -> usize
     requires { ⌜ Before p (now work) t × (at < length (now work)) ⌝ }
-    ensures { λ r. ⌜ (r < 256) × (0 < r → HasId p (now (work .entry)) t r) ⌝ }
+    ensures { λ r. ⌜ FoundOn p (now (work .entry)) t at r ⌝ }
 {
-    let known = wide(work[at]);
-    if has_id(work, p, t, known) {
-        return known;
+    let mut id = wide(work[at]);
+    while 0 < id {
+        if has_id(work, p, t, id) {
+            return id;
+        }
+        let next = wide(work[p.memory + LINKS + id]);
+        if id <= next {
+            return 0;
+        }
+        id = next;
     }
     0
+}
+
+// Puts an id in front of the chain at a place.
+pub fn link(work: &mut [u8], p: Context, at: usize, id: usize)
+    requires { ⌜ (p .memory ≤ scratchAt) × (workRoom ≤ length (now work)) × (at < linksAt p) × (id < 256) ⌝ }
+    ensures { λ _. ⌜ Linked p at id (now (work .entry)) (now (work .exit)) ⌝ }
+{
+    work[p.memory + LINKS + id] = work[at];
+    work[at] = id as u8;
 }
 
 // The id of a table, which is kept if it is not yet; or 0.
@@ -153,13 +171,15 @@ pub fn intern(work: &mut [u8], p: Context, t: Table) -> usize
     requires { ⌜ Before p (now work) t ⌝ }
     ensures { λ r. ⌜ Stored p t (now (work .entry)) (now (work .exit)) r × (Fits p t → 0 < r) ⌝ }
 {
-    let at = bucket(work, p, t);
-    let known = id_at(work, p, t, at);
+    let at = head_of(work, p, t);
+    let known = find(work, p, t, at);
     if known != 0 {
         return known;
     }
     let id = keep(work, p, t);
-    work[at] = id as u8;
+    if id != 0 {
+        link(work, p, at, id);
+    }
     id
 }
 
@@ -193,8 +213,8 @@ pub fn find_slot(work: &mut [u8], p: Context, slot: usize) -> usize
     ensures { λ r. ⌜ Sought p (slotTable p (now (work .entry)) slot) (now (work .entry)) (now (work .exit)) r ⌝ }
 {
     let t = table_in(work, p, slot);
-    let at = bucket(work, p, t);
-    let id = id_at(work, p, t, at);
+    let at = head_of(work, p, t);
+    let id = find(work, p, t, at);
     work[p.memory + (slot + 1) % SLOTS] = id as u8;
     id
 }

@@ -23,7 +23,7 @@ use crate::limits::searchable;
 use crate::prune::Hope;
 use crate::prune::next_promising;
 use crate::reach::within_reach;
-use crate::regions::TABLES;
+use crate::regions::LINKS;
 use crate::steps::known_step;
 use crate::steps::steps_made;
 use chart::bytes::clear;
@@ -271,7 +271,7 @@ pub fn lay_start(pack: &[u8], first: usize, nodes: usize, p: Context, work: &mut
     let rows = merge_table(work, nodes, width, p.fluents, p.characters);
     work[0] = rows as u8;
     copy_part(work, MERGED, 1, rows * width);
-    clear(work, p.memory, TABLES);
+    clear(work, p.memory, LINKS);
 }
 
 // The search from what node 0 means of the nodes that are read from `first` on. The work buffer is cleared.

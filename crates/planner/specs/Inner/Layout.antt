@@ -17,5 +17,5 @@ laidOut c k slots =
       foresight = k;
       stride = slotRoom (c .fluents + c .characters);
       memory = slots * slotRoom (c .fluents + c .characters);
-      block = (scratchAt - 4404 - slots * slotRoom (c .fluents + c .characters)) / 255;
+      block = (scratchAt - 4532 - slots * slotRoom (c .fluents + c .characters)) / 255;
     }

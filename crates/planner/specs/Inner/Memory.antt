@@ -3,7 +3,7 @@
 use mathlib.Core.Path.{_≡_}
 use mathlib.Core.Logic.{_≢_}
 use mathlib.Core.List.{List}
-use Prim.Native.Nat.{ℕ, suc, _+_, _*_, _-_, _/_, _%_, _<_, _≤_}
+use Prim.Native.Nat.{ℕ, zero, suc, _+_, _*_, _-_, _/_, _%_, _<_, _≤_}
 use lib.ListN.{length, getD}
 use Rattle.pack.specs.Syntax.{Theory}
 use Rattle.pack.specs.State.{State}
@@ -27,11 +27,11 @@ pub record Laid (h : Context) : Type 0 where
   pub some : 1 < h .stride
   pub few : h .memory ≤ 30 * h .stride
   pub blocks : 0 < h .block
-  pub room : h .memory + 4404 + 255 * h .block ≤ scratchAt
+  pub room : h .memory + 4532 + 255 * h .block ≤ scratchAt
 
 -- it begins with the id of the table in each slot, found by where its rows begin: slot after slot the remainder is one
--- more; then how many blocks are taken; behind that is whether all has been forgotten once, ids found by a hash, and
--- how many steps were made, of which nothing is asked; then steps, lists and tables
+-- more; then how many blocks are taken; whether all has been forgotten once, and how many steps were made, of which
+-- nothing is asked; then the heads of chains, steps, lists, the links of chains, and tables
 abbrev pub idAt : Context → (rows : ℕ) → ℕ
 idAt h rows = h .memory + rows % 32
 
@@ -42,34 +42,83 @@ takenAt h = h .memory + 48
 abbrev pub Roomy : Context → List ℕ → Type 0
 Roomy h work = getD work (h .memory + 49) 0 ≡ 0
 
+abbrev pub headsAt : Context → ℕ
+headsAt h = h .memory + 52
+
 abbrev pub stepsAt : Context → ℕ
-stepsAt h = h .memory + 308
+stepsAt h = h .memory + 180
 
 abbrev pub factsAt : Context → ℕ
-factsAt h = h .memory + 820
+factsAt h = h .memory + 692
+
+abbrev pub linksAt : Context → ℕ
+linksAt h = h .memory + 4276
 
 abbrev pub tablesAt : Context → ℕ
-tablesAt h = h .memory + 4404
+tablesAt h = h .memory + 4532
 
 -- the table of an id begins with a block, that of 1 with the first
 abbrev pub keptAt : Context → ℕ → ℕ
-keptAt h n = h .memory + 4404 - h .block + h .block * n
+keptAt h n = h .memory + 4532 - h .block + h .block * n
 
 abbrev pub keptTable : Context → List ℕ → ℕ → Table
 keptTable h work n = slotTable h work (keptAt h n)
 
--- it lies within the blocks that are taken
-pub record Kept (h : Context) (work : List ℕ) (n : ℕ) : Type 0 where
+-- a table lies at the block n, within the blocks that are taken
+pub record Inside (h : Context) (work : List ℕ) (n : ℕ) : Type 0 where
   pub some : 0 < n
   pub few : getD work (keptAt h n) 0 ≤ 32
   pub inside : keptAt h n + 1 + getD work (keptAt h n) 0 * (h .fluents + h .characters)
       ≤ tablesAt h + h .block * getD work (takenAt h) 0
+
+-- the n bytes from a on as one number of 32 bits
+unfoldable pub sumOf : List ℕ → (a n : ℕ) → ℕ
+sumOf work a zero = 0
+sumOf work a (suc n) = (sumOf work a n * 5 + getD work (a + n) 0) % 4294967296
+
+-- the head of the chain on which a table of n bytes from a on is looked for
+abbrev pub headAt : Context → List ℕ → (a n : ℕ) → ℕ
+headAt h work a n = headsAt h + sumOf work a n % 127
+
+-- n is met k links behind m; each link leads to a lower id
+unfoldable pub Behind : Context → List ℕ → (n k m : ℕ) → Type 0
+Behind h work n zero m = m ≡ n
+Behind h work n (suc k) m = (getD work (linksAt h + m) 0 < m) × Behind h work n k (getD work (linksAt h + m) 0)
+
+-- n stands on the chain that begins at a place
+pub record OnChain (h : Context) (work : List ℕ) (at n : ℕ) : Type 0 where
+  pub some : 0 < n
+  pub low : getD work at 0 < 256
+  pub links : ℕ
+  pub behind : Behind h work n links (getD work at 0)
+
+-- n is the id of a table that is kept: it stands on the chain of its table
+pub record Kept (h : Context) (work : List ℕ) (n : ℕ) : Type 0 where
+  pub inside : Inside h work n
+  pub listed : OnChain h work
+      (headAt h work (keptAt h n + 1) (getD work (keptAt h n) 0 * (h .fluents + h .characters))) n
+
+-- a table is the one at the block n
+pub record Alike (h : Context) (work : List ℕ) (t : Table) (n : ℕ) : Type 0 where
+  pub inside : Inside h work n
+  pub count : getD work (keptAt h n) 0 ≡ t .nodes
+  pub same : table.tableOf (keptTable h work n) work ≡ table.tableOf t work
 
 -- n is the id of a table
 pub record HasId (h : Context) (work : List ℕ) (t : Table) (n : ℕ) : Type 0 where
   pub kept : Kept h work n
   pub count : getD work (keptAt h n) 0 ≡ t .nodes
   pub same : table.tableOf (keptTable h work n) work ≡ table.tableOf t work
+
+-- chains are in order: each begins within the blocks that are taken; on it stand ids of tables of its hash, and no
+-- table twice
+pub record Chained (h : Context) (work : List ℕ) : Type 0 where
+  pub heads : (b : ℕ) → b < 127 → getD work (headsAt h + b) 0 ≤ getD work (takenAt h) 0
+  pub tables : (b n : ℕ) → b < 127 → OnChain h work (headsAt h + b) n
+      → Inside h work n
+      × (sumOf work (keptAt h n + 1) (getD work (keptAt h n) 0 * (h .fluents + h .characters)) % 127 ≡ b)
+  pub once : (b m n : ℕ) → b < 127 → OnChain h work (headsAt h + b) m → OnChain h work (headsAt h + b) n
+      → table.tableOf (keptTable h work m) work ≡ table.tableOf (keptTable h work n) work → m ≡ n
 
 -- what an action leaves of a row of the table of an id: nothing, or what the table of another id starts with
 pub record StepFact (p : Theory) (h : Context) (work : List ℕ) (n root a next : ℕ) : Type 0 where
@@ -131,6 +180,7 @@ FactEntry p foresight h work a =
 pub record Memory (p : Theory) (foresight : ℕ) (h : Context) (limit : ℕ) (work : List ℕ) : Type 0 where
   pub laid : Laid h
   pub within : tablesAt h + h .block * getD work (takenAt h) 0 ≤ scratchAt
+  pub chains : Chained h work
   pub slots : (i : ℕ) → h .stride * i + h .stride ≤ limit → SlotEntry h work i
   pub steps : (i : ℕ) → i < 128 → StepEntry p h work (stepsAt h + 4 * i)
   pub facts : (i : ℕ) → i < 512 → FactEntry p foresight h work (factsAt h + 7 * i)
@@ -182,17 +232,46 @@ pub record Only (h : Context) (was now : List ℕ) : Type 0 where
 -- only what nothing is asked of changes
 pub record Unasked (h : Context) (was now : List ℕ) : Type 0 where
   pub low : table.Below was now (h .memory + 49)
-  pub high : table.Above was now (stepsAt h)
+  pub high : table.Above was now (headsAt h)
 
--- r is an id of the table, or 0, and what is known stays true
+-- r is the id on a chain under which the table is kept, or 0 where it is kept under none of those
+pub record FoundOn (h : Context) (work : List ℕ) (t : Table) (at r : ℕ) : Type 0 where
+  pub small : r < 256
+  pub alike : 0 < r → Alike h work t r
+  pub listed : 0 < r → OnChain h work at r
+  pub none : r ≡ 0 → (n : ℕ) → OnChain h work at n → ¬ Alike h work t n
+
+-- an id is put in front of a chain
+pub record Linked (h : Context) (at id : ℕ) (was now : List ℕ) : Type 0 where
+  pub head : getD now at 0 ≡ id
+  pub link : getD now (linksAt h + id) 0 ≡ getD was at 0
+  pub others : (q : ℕ) → q ≢ at → q ≢ linksAt h + id → getD now q 0 ≡ getD was q 0
+
+-- a table is put behind those that are kept, at the block r, or r is 0; what is known stays true. It stands on no chain
+-- yet, all chains begin before it, and none has got longer
+pub record Placed (h : Context) (t : Table) (was now : List ℕ) (r : ℕ) : Type 0 where
+  pub small : r < 256
+  pub alike : 0 < r → Alike h now t r
+  pub only : Only h was now
+  pub memory : (p : Theory) (foresight limit : ℕ) → limit ≤ h .memory → Memory p foresight h limit was
+      → Memory p foresight h limit now
+  pub before : 0 < r → Chained h was → (b : ℕ) → b < 127 → getD now (headsAt h + b) 0 < r
+  pub older : Chained h was → (b n : ℕ) → b < 127 → OnChain h now (headsAt h + b) n
+      → OnChain h was (headsAt h + b) n
+      × (getD now (keptAt h n) 0 ≡ getD was (keptAt h n) 0)
+      × (table.tableOf (keptTable h now n) now ≡ table.tableOf (keptTable h was n) was)
+
+-- r is the id of the table, or 0, and what is known stays true; where the table is kept under an id, it is that one
 pub record Stored (h : Context) (t : Table) (was now : List ℕ) (r : ℕ) : Type 0 where
   pub small : r < 256
   pub named : 0 < r → HasId h now t r
+  pub exact : Chained h was → (n : ℕ) → HasId h was t n → r ≡ n
   pub only : Only h was now
   pub memory : (p : Theory) (foresight limit : ℕ) → limit ≤ h .memory → Memory p foresight h limit was
       → Memory p foresight h limit now
 
--- the same of a table in a slot, where what is known is true; r is the slot's id from then on, and one where it fits
+-- the same of a table in a slot, where what is known is true; r is the slot's id from then on, one where it fits, and
+-- the one under which the table is kept already
 pub record Interning (h : Context) (t : Table) (was now : List ℕ) (r : ℕ) : Type 0 where
   pub small : r < 256
   pub stands : slotId h now t ≡ r
@@ -201,6 +280,8 @@ pub record Interning (h : Context) (t : Table) (was now : List ℕ) (r : ℕ) : 
   pub told : (p : Theory) (foresight limit : ℕ) → limit ≤ h .memory → InSlot h was t limit
       → Memory p foresight h limit was
       → Memory p foresight h limit now × (0 < r → HasId h now t r)
+  pub exact : (p : Theory) (foresight limit : ℕ) → InSlot h was t limit → Memory p foresight h limit was
+      → (n : ℕ) → HasId h was t n → r ≡ n
 
 -- and where the slot has an id, it is that one
 pub record Identified (h : Context) (t : Table) (was now : List ℕ) (r : ℕ) : Type 0 where
@@ -216,6 +297,8 @@ pub record Sought (h : Context) (t : Table) (was now : List ℕ) (r : ℕ) : Typ
   pub told : (p : Theory) (foresight limit : ℕ) → limit ≤ h .memory → InSlot h was t limit
       → Memory p foresight h limit was
       → Memory p foresight h limit now × (0 < r → HasId h now t r)
+  pub exact : (p : Theory) (foresight limit : ℕ) → InSlot h was t limit → Memory p foresight h limit was
+      → (n : ℕ) → HasId h was t n → r ≡ n
 
 -- an id is one, and each number of the key fits a byte or two
 pub record Storable (id : ℕ) (k : Key) : Type 0 where

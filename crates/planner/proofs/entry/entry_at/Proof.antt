@@ -26,4 +26,4 @@ entry-at-spec =
     omega (arith, start .pre))
     (λ c.
     let start = c .before .before .before .before in
-    (refl, placed 512 (omega arith) (start .args .p .memory + 820) 7 _)))
+    (refl, placed 512 (omega arith) (start .args .p .memory + 692) 7 _)))

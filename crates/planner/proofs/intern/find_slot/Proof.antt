@@ -18,10 +18,11 @@ find-slot-spec =
     let start = at-table-in .before .before .before in
     subst (Before (start .args .p) (start .args .work .now)) (sym (at-table-in .table-in .ensures)) (start .pre .0))
     (λ c κs.
-    let at-bucket = c .before in
-    let at-table-in = at-bucket .before .before in
+    let at-head-of = c .before in
+    let at-table-in = at-head-of .before .before in
     let start = at-table-in .before .before .before in
-    (subst (Before (start .args .p) (start .args .work .now)) (sym (at-table-in .table-in .ensures)) (start .pre .0), omega (arith, at-bucket .bucket .ensures, start .pre .0 .laid .room, start .pre .0 .room)))
+    let b = subst (Before (start .args .p) (start .args .work .now)) (sym (at-table-in .table-in .ensures)) (start .pre .0) in
+    (b, omega (arith, at-head-of .head-of .ensures, b .laid .room, b .room)))
     (λ c. search needs)
     (λ c. search needs)
     (λ c.
@@ -32,7 +33,9 @@ find-slot-spec =
     omega (arith, start .pre .0 .laid .room, start .pre .0 .room))
     (λ c. search needs)
     (λ c.
-    let at-id-at = c .before in
-    let at-table-in = at-id-at .before .before .before .before in
+    let at-find = c .before in
+    let at-head-of = at-find .before .before in
+    let at-table-in = at-head-of .before .before in
     let start = at-table-in .before .before .before in
-    naming-found (start .args .p) refl (start .pre .0) (subst (λ (t : Table). Stored (start .args .p) t (start .args .work .now) (start .args .work .now) (at-id-at .id-at .result)) (at-table-in .table-in .ensures) (stored-found (start .args .p) (at-id-at .id-at .ensures .0) (at-id-at .id-at .ensures .1))) (start .pre .1)))
+    let b = subst (Before (start .args .p) (start .args .work .now)) (sym (at-table-in .table-in .ensures)) (start .pre .0) in
+    naming-found (start .args .p) refl (start .pre .0) (subst (λ (t : Table). Stored (start .args .p) t (start .args .work .now) (start .args .work .now) (at-find .find .result)) (at-table-in .table-in .ensures) (stored-found (start .args .p) b (at-head-of .head-of .ensures) (at-find .find .ensures))) (start .pre .1)))

@@ -13,7 +13,7 @@ pub has-id-spec : {M : Type 1} → statement M
 has-id-spec =
     tie.close
     (tie.spec
-    (λ c. (unset, λ e x. omega (arith, x .kept .some, c .if1 .taken)))
+    (λ c. (unset, λ e x. omega (arith, x .inside .some, c .if1 .taken)))
     (λ c. search needs)
     (λ c.
     let start = c .before .before .before .before in
@@ -44,7 +44,7 @@ has-id-spec =
     let a = start .args in
     let b = start .pre .0 in
     let wide : a .p .fluents + a .p .characters ≡ a .t .width = ap (λ (f : ℕ). f + a .p .characters) (b .fluents) ∙ ap (λ (c : ℕ). a .t .fluents + c) (b .characters) ∙ b .wide in
-    (unset, λ e x. omega (arith, x .kept .inside, ap (λ (k : ℕ). k * (a .p .fluents + a .p .characters)) (x .count), ap (λ (k : ℕ). a .t .nodes * k) wide, c .if2 .taken, ap (λ (k : ℕ). start .args .p .block * k) (at-wide .wide .ensures), b .laid .room)))
+    (unset, λ e x. omega (arith, x .inside .inside, ap (λ (k : ℕ). k * (a .p .fluents + a .p .characters)) (x .count), ap (λ (k : ℕ). a .t .nodes * k) wide, c .if2 .taken, ap (λ (k : ℕ). start .args .p .block * k) (at-wide .wide .ensures), b .laid .room)))
     (λ c.
     let start = c .before .before .before .before .before .before .before .before .before .before .before in
     omega (arith, start .pre .0 .laid .room))
@@ -88,5 +88,5 @@ has-id-spec =
     let n = a .t .nodes * a .t .width in (
       λ e. kept-as (a .p) (start .pre .0) (a .id) (omega (arith, at-if1 .if1 .left)) (omega (arith, at-if2 .if2 .left, ap (λ (k : ℕ). start .args .p .block * k) (at-wide .wide .ensures))) (omega (arith, at-wide2 .wide2 .ensures, at-if3 .if3 .left))
           (λ q l. sym (f .ensures .before q (omega (arith, l, leb-true (a .t .nodes * a .t .width) (f .result) e)))),
-      λ e x. f .ensures .here (omega (arith, leb-false n (f .result) e)) (named-bytes (a .p) (start .pre .0) x (f .result) (omega (arith, leb-false n (f .result) e))),
+      λ e x. f .ensures .here (omega (arith, leb-false n (f .result) e)) (named-bytes (a .p) (a .id) (start .pre .0) (x .count) (x .same) (f .result) (omega (arith, leb-false n (f .result) e))),
     )))

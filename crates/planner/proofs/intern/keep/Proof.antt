@@ -4,7 +4,7 @@ use mathlib.Core.Path.{_≡_, _∙_}
 use native.Mathlib.Omega.{arith}
 use lib.ListN.{getD, set, length-set}
 use lib.Seq.{getD-set-other}
-use Rattle.planner.proofs.TrueMemory.{before-now, stored-anew}
+use Rattle.planner.proofs.TrueMemory.{before-now, placed-anew}
 use borrow.Author.Needs.{needs}
 use Rattle.planner.proofs.intern.keep.Statement.{statement}
 use Rattle.planner.proofs.intern.keep.Tie as tie
@@ -47,4 +47,4 @@ keep-spec =
     let at-store = at-clear .before .before .before .before .before in
     let start = at-store .before .before .before in
     let none : getD (set (at-clear .clear .last .0) (start .args .p .memory + 49) 1) (start .args .p .memory + 48) 0 ≡ 0 = getD-set-other (at-clear .clear .last .0) (start .args .p .memory + 49) (start .args .p .memory + 48) 1 0 (λ z. omega (arith, z)) ∙ at-clear .clear .ensures .clear 48 (omega arith) in
-    (stored-anew (start .args .p) (start .pre .laid) (at-store .store .ensures .0 .only) (at-clear .clear .ensures) (at-store2 .store2 .ensures .0), λ f. at-store2 .store2 .ensures .1 (omega (arith, f, none)))))
+    (placed-anew (start .args .p) (start .pre .laid) (at-store .store .ensures .0 .only) (at-clear .clear .ensures) (at-store2 .store2 .ensures .0), λ f. at-store2 .store2 .ensures .1 (omega (arith, f, none)))))

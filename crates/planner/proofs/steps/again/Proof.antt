@@ -6,7 +6,8 @@ use native.Mathlib.Omega.{arith}
 use lib.ListN.{getD}
 use Rattle.chart.specs.Contracts.Put.{PartCopied}
 use Rattle.chart.specs.Laws.Cells.{rows-most}
-use Rattle.planner.proofs.TrueMemory.{copied-again, refused-again, blocks-most, kept-from}
+use Rattle.planner.proofs.Chains.{kept-from}
+use Rattle.planner.proofs.TrueMemory.{copied-again, refused-again, blocks-most}
 use borrow.Author.Needs.{needs}
 use Rattle.planner.proofs.steps.again.Statement.{statement}
 use Rattle.planner.proofs.steps.again.Tie as tie
@@ -34,19 +35,19 @@ again-spec =
     let at-if1 = c .before .before .before .before in
     let at-slice-known = at-if1 .before in
     let start = at-slice-known .before in
-    let k = start .pre .2 (omega (arith, at-if1 .if1 .left)) in omega (arith, k .inside, blocks-most (start .args .p) (start .pre .0 .laid) (getD (start .args .work .now) (start .args .p .memory + 48) 0) (omega (arith, at-slice-known .slice-known .given (start .args .p .memory + 48))), start .pre .0 .room))
+    let k = start .pre .2 (omega (arith, at-if1 .if1 .left)) in omega (arith, k .inside .inside, blocks-most (start .args .p) (start .pre .0 .laid) (getD (start .args .work .now) (start .args .p .memory + 48) 0) (omega (arith, at-slice-known .slice-known .given (start .args .p .memory + 48))), start .pre .0 .room))
     (λ c κs. search needs)
     (λ c. search needs)
     (λ c.
     let at-wide = c .before .before in
     let at-if1 = at-wide .before .before .before .before .before in
     let start = at-if1 .before .before in
-    let k = start .pre .2 (omega (arith, at-if1 .if1 .left)) in omega (arith, rows-most {n = at-wide .wide .result} {k = 32} (omega (arith, k .few, at-wide .wide .ensures)) (start .pre .0 .laid .narrow)))
+    let k = start .pre .2 (omega (arith, at-if1 .if1 .left)) in omega (arith, rows-most {n = at-wide .wide .result} {k = 32} (omega (arith, k .inside .few, at-wide .wide .ensures)) (start .pre .0 .laid .narrow)))
     (λ c.
     let at-wide = c .before .before in
     let at-if1 = at-wide .before .before .before .before .before in
     let start = at-if1 .before .before in
-    let k = start .pre .2 (omega (arith, at-if1 .if1 .left)) in omega (arith, rows-most {n = at-wide .wide .result} {k = 32} (omega (arith, k .few, at-wide .wide .ensures)) (start .pre .0 .laid .narrow)))
+    let k = start .pre .2 (omega (arith, at-if1 .if1 .left)) in omega (arith, rows-most {n = at-wide .wide .result} {k = 32} (omega (arith, k .inside .few, at-wide .wide .ensures)) (start .pre .0 .laid .narrow)))
     (λ c κs.
     let at-wide = c .before .before in
     let at-if1 = at-wide .before .before .before .before .before in
@@ -55,10 +56,10 @@ again-spec =
     let k = start .pre .2 (omega (arith, at-if1 .if1 .left)) in
     let p = start .args .p in
     let s = start .pre .0 in
-    let most : at-wide .wide .result * (p .fluents + p .characters) ≤ 32 * (p .fluents + p .characters) = mul-le-mul-right (p .fluents + p .characters) (omega (arith, k .few, at-wide .wide .ensures)) in
+    let most : at-wide .wide .result * (p .fluents + p .characters) ≤ 32 * (p .fluents + p .characters) = mul-le-mul-right (p .fluents + p .characters) (omega (arith, k .inside .few, at-wide .wide .ensures)) in
     let size = ap (λ (n : ℕ). n * (p .fluents + p .characters)) (at-wide .wide .ensures) in
     let taken = blocks-most (start .args .p) (start .pre .0 .laid) (getD (start .args .work .now) (start .args .p .memory + 48) 0) (omega (arith, at-slice-known .slice-known .given (start .args .p .memory + 48))) in
-    (omega (arith, kept-from p (start .args .next) (k .some), s .before, most, s .laid .wide), omega (arith, k .inside, size, taken, s .room), omega (arith, s .before, s .room, most, s .laid .wide, s .laid .room)))
+    (omega (arith, kept-from p (start .args .next) (k .inside .some), s .before, most, s .laid .wide), omega (arith, k .inside .inside, size, taken, s .room), omega (arith, s .before, s .room, most, s .laid .wide, s .laid .room)))
     (λ c. search needs)
     (λ c.
     let start = c .before .before .before .before .before .before .before .before .before .before .before .before in
@@ -80,4 +81,4 @@ again-spec =
     let k = start .pre .2 (omega (arith, at-if1 .if1 .left)) in
     let a = start .args in
     let copied = at-copy-part .copy-part in
-    copied-again (a .p) (start .pre .0) (omega (arith, at-slice-known .slice-known .given (start .args .p .memory + 48))) k (subst (λ (n : ℕ). PartCopied (a .work .now) (copied .last .0) (a .p .memory + 4404 - a .p .block + a .p .block * a .next) (a .slot) (1 + n * (a .p .fluents + a .p .characters))) (sym (at-wide .wide .ensures)) (copied .ensures)) (copied .kept .0)))
+    copied-again (a .p) (start .pre .0) (omega (arith, at-slice-known .slice-known .given (start .args .p .memory + 48))) k (subst (λ (n : ℕ). PartCopied (a .work .now) (copied .last .0) (a .p .memory + 4532 - a .p .block + a .p .block * a .next) (a .slot) (1 + n * (a .p .fluents + a .p .characters))) (sym (at-wide .wide .ensures)) (copied .ensures)) (copied .kept .0)))

@@ -24,4 +24,4 @@ step-at-spec =
     omega (arith, start .pre))
     (λ c.
     let start = c .before in
-    (refl, placed 128 (omega arith) (start .args .p .memory + 308) 4 _)))
+    (refl, placed 128 (omega arith) (start .args .p .memory + 180) 4 _)))
