@@ -63,47 +63,59 @@ pub struct Ended {
     pub after: usize,
 }
 
-// The author's utility at the end of the earliest list of exactly `left` actions, from the state in the slot behind
-// `done` others, that leads to a goal; the list is put down from `done` on. Or 0.
+// The actions of the author's list that are ahead: how many are done before them, how many are left, and which goal
+// they are to lead to.
+pub struct Ahead {
+    pub done: usize,
+    pub left: usize,
+    pub goal: Goal,
+}
+
+// The author's utility at the end of the earliest list of exactly as many actions as are left, from the state in the
+// slot behind `done` others, that leads to the goal; the list is put down from `done` on. Or 0.
 pub fn completes(
     pack: &[u8],
     places: &[u16],
     p: Context,
     work: &mut [u8],
     list: &mut [u8],
-    done: usize,
-    g: Goal,
-    left: usize,
+    ahead: Ahead,
 ) -> usize
-    requires { ⌜ Underway (g .nesting .0) (g .base) (now pack) (now places) p (now work) done left
-        × (0 < p .foresight .0) × (p .foresight .0 ≤ 6)
-        × Free p (done * p .stride) (1 + left + (1 + p .foresight .0) * g .nesting .0)
-        × (done + left ≤ length (now list)) ⌝ }
-    ensures { λ r. ⌜ Finds (g .nesting .0) (g .base) (now (pack .entry)) (now (places .entry)) p done left
-        (now (list .entry)) (now (list .exit)) (now (work .entry)) (now (work .exit)) r
-        (λ th. Ends th (p .foresight .0) (g .nesting .0) (g .base)) ⌝ }
+    requires { ⌜ Underway (ahead .goal .nesting .0) (ahead .goal .base) (now pack) (now places) p (now work)
+        (ahead .done) (ahead .left) × (0 < p .foresight .0) × (p .foresight .0 ≤ 6)
+        × Free p (ahead .done * p .stride) (1 + ahead .left + (1 + p .foresight .0) * ahead .goal .nesting .0)
+        × (ahead .done + ahead .left ≤ length (now list)) ⌝ }
+    ensures { λ r. ⌜ Finds (ahead .goal .nesting .0) (ahead .goal .base) (now (pack .entry)) (now (places .entry)) p
+        (ahead .done) (ahead .left) (now (list .entry)) (now (list .exit)) (now (work .entry)) (now (work .exit)) r
+        (λ th. Ends th (p .foresight .0) (ahead .goal .nesting .0) (ahead .goal .base)) ⌝ }
 {
-    let slot = done * p.stride;
-    if left == 0 {
-        return ends(pack, places, p, work, slot, g.base);
+    let slot = ahead.done * p.stride;
+    let goal = ahead.goal;
+    if ahead.left == 0 {
+        return ends(pack, places, p, work, slot, goal.base);
     }
-    if repeats(work, p, slot, done) {
+    if repeats(work, p, slot, ahead.done) {
         return 0;
     }
     let hope = Hope {
         whose: 0,
-        left,
-        base: g.base,
+        left: ahead.left,
+        base: goal.base,
     };
     if !within_reach(pack, places, p, work, slot, hope) {
         return 0;
     }
-    let key = goal_key(g, left);
+    let key = goal_key(goal, ahead.left);
     if recall(work, p, slot, key) == 3 {
         return 0;
     }
     let since = steps_made(work, p);
-    let after = completes_after(pack, places, p, work, list, done, g, left - 1);
+    let fewer = Ahead {
+        done: ahead.done,
+        left: ahead.left - 1,
+        goal,
+    };
+    let after = completes_after(pack, places, p, work, list, fewer);
     if after == 0 {
         remember_worth(work, p, slot, 3, key, since);
     }
@@ -145,28 +157,26 @@ pub fn completes_after(
     p: Context,
     work: &mut [u8],
     list: &mut [u8],
-    done: usize,
-    g: Goal,
-    left: usize,
+    ahead: Ahead,
 ) -> usize
-    requires { ⌜ Underway (g .nesting .0) (g .base) (now pack) (now places) p (now work) done (suc left)
-        × (0 < p .foresight .0) × (p .foresight .0 ≤ 6)
-        × Free p (done * p .stride) (2 + left + (1 + p .foresight .0) * g .nesting .0)
-        × (done + suc left ≤ length (now list)) ⌝ }
-    ensures { λ r. ⌜ Finds (g .nesting .0) (g .base) (now (pack .entry)) (now (places .entry)) p done (suc left)
-        (now (list .entry)) (now (list .exit)) (now (work .entry)) (now (work .exit)) r
-        (λ th. Ends th (p .foresight .0) (g .nesting .0) (g .base)) ⌝ }
+    requires { ⌜ Underway (ahead .goal .nesting .0) (ahead .goal .base) (now pack) (now places) p (now work)
+        (ahead .done) (suc (ahead .left)) × (0 < p .foresight .0) × (p .foresight .0 ≤ 6)
+        × Free p (ahead .done * p .stride) (2 + ahead .left + (1 + p .foresight .0) * ahead .goal .nesting .0)
+        × (ahead .done + suc (ahead .left) ≤ length (now list)) ⌝ }
+    ensures { λ r. ⌜ Finds (ahead .goal .nesting .0) (ahead .goal .base) (now (pack .entry)) (now (places .entry)) p
+        (ahead .done) (suc (ahead .left)) (now (list .entry)) (now (list .exit)) (now (work .entry))
+        (now (work .exit)) r (λ th. Ends th (p .foresight .0) (ahead .goal .nesting .0) (ahead .goal .base)) ⌝ }
 {
-    let slot = done * p.stride;
+    let slot = ahead.done * p.stride;
     let actions = p.actions;
     let hope = Hope {
         whose: 0,
-        left,
-        base: g.base,
+        left: ahead.left,
+        base: ahead.goal.base,
     };
     let mut x = next_promising(pack, places, p, work, slot, 0, hope);
     while x < actions {
-        let after = completes_by(pack, places, p, work, list, done, x, g, left);
+        let after = completes_by(pack, places, p, work, list, ahead, x);
         if after != 0 {
             return after;
         }
@@ -193,21 +203,21 @@ pub fn completes_by(
     p: Context,
     work: &mut [u8],
     list: &mut [u8],
-    done: usize,
+    ahead: Ahead,
     x: usize,
-    g: Goal,
-    left: usize,
 ) -> usize
-    requires { ⌜ Underway (g .nesting .0) (g .base) (now pack) (now places) p (now work) done (suc left)
-        × (x < p .actions) × (0 < p .foresight .0) × (p .foresight .0 ≤ 6)
-        × Free p (done * p .stride) (2 + left + (1 + p .foresight .0) * g .nesting .0)
-        × (done + suc left ≤ length (now list)) ⌝ }
-    ensures { λ r. ⌜ Finds (g .nesting .0) (g .base) (now (pack .entry)) (now (places .entry)) p done (suc left)
-        (now (list .entry)) (now (list .exit)) (now (work .entry)) (now (work .exit)) r
-        (λ th. EndsBy th (p .foresight .0) (g .nesting .0) (g .base) x) ⌝ }
+    requires { ⌜ Underway (ahead .goal .nesting .0) (ahead .goal .base) (now pack) (now places) p (now work)
+        (ahead .done) (suc (ahead .left)) × (x < p .actions) × (0 < p .foresight .0) × (p .foresight .0 ≤ 6)
+        × Free p (ahead .done * p .stride) (2 + ahead .left + (1 + p .foresight .0) * ahead .goal .nesting .0)
+        × (ahead .done + suc (ahead .left) ≤ length (now list)) ⌝ }
+    ensures { λ r. ⌜ Finds (ahead .goal .nesting .0) (ahead .goal .base) (now (pack .entry)) (now (places .entry)) p
+        (ahead .done) (suc (ahead .left)) (now (list .entry)) (now (list .exit)) (now (work .entry))
+        (now (work .exit)) r (λ th. EndsBy th (p .foresight .0) (ahead .goal .nesting .0) (ahead .goal .base) x) ⌝ }
 {
+    let done = ahead.done;
     let slot = done * p.stride;
-    let nesting = g.nesting;
+    let goal = ahead.goal;
+    let nesting = goal.nesting;
     let deed = Deed {
         who: p.characters,
         nesting,
@@ -221,7 +231,12 @@ pub fn completes_by(
     if number != 0 {
         return 0;
     }
-    let after = completes(pack, places, p, work, list, done + 1, g, left);
+    let next = Ahead {
+        done: done + 1,
+        left: ahead.left,
+        goal,
+    };
+    let after = completes(pack, places, p, work, list, next);
     if after != 0 {
         list[done] = x as u8;
     }
@@ -250,7 +265,12 @@ pub fn deepen(
     }
     let mut n = 1;
     while n <= most {
-        let after = completes(pack, places, p, work, list, 0, g, n);
+        let ahead = Ahead {
+            done: 0,
+            left: n,
+            goal: g,
+        };
+        let after = completes(pack, places, p, work, list, ahead);
         if after != 0 {
             return Ended { count: n, after };
         }
