@@ -16,6 +16,7 @@ use crate::explain::allowed;
 use crate::intern::table_in;
 use crate::limits::Context;
 use crate::limits::Foresight;
+use crate::limits::Limits;
 use crate::limits::Nesting;
 use crate::limits::Story;
 use crate::limits::laid_out;
@@ -69,6 +70,12 @@ pub struct Ahead {
     pub done: usize,
     pub left: usize,
     pub goal: Goal,
+}
+
+// The nodes of a pack: where the first is read, and how many there are.
+pub struct Nodes {
+    pub first: usize,
+    pub count: usize,
 }
 
 // The author's utility at the end of the earliest list of exactly as many actions as are left, from the state in the
@@ -279,47 +286,56 @@ pub fn deepen(
     Ended { count: 0, after: 0 }
 }
 
-// Lays the nodes that are read from `first` on out in the first slot, merged, and empties the memory behind the slots,
-// in which the nodes may have been merged.
-pub fn lay_start(pack: &[u8], first: usize, nodes: usize, p: Context, work: &mut [u8])
-    requires { ⌜ Layable (now pack) first nodes p (now work) ⌝ }
-    ensures { λ _. ⌜ ((T : List Node) → Laying T (now (pack .entry)) first nodes p (now (work .entry))
+// Lays the nodes out in the first slot, merged, and empties the memory behind the slots, in which they may have been
+// merged.
+pub fn lay_start(pack: &[u8], nodes: Nodes, p: Context, work: &mut [u8])
+    requires { ⌜ Layable (now pack) (nodes .first) (nodes .count) p (now work) ⌝ }
+    ensures { λ _. ⌜ ((T : List Node)
+        → Laying T (now (pack .entry)) (nodes .first) (nodes .count) p (now (work .entry))
         → LaidStart T p (now (work .entry)) (now (work .exit))) ⌝ }
 {
-    copy_table(pack, first, nodes, work, 0, p.fluents, p.characters);
+    copy_table(
+        pack,
+        nodes.first,
+        nodes.count,
+        work,
+        0,
+        p.fluents,
+        p.characters,
+    );
     let width = p.fluents + p.characters;
-    let rows = merge_table(work, nodes, width, p.fluents, p.characters);
+    let rows = merge_table(work, nodes.count, width, p.fluents, p.characters);
     work[0] = rows as u8;
     copy_part(work, MERGED, 1, rows * width);
     clear(work, p.memory, TABLES);
 }
 
-// The search from what node 0 means of the nodes that are read from `first` on. The work buffer is cleared.
+// The search from what the first of the nodes means. The work buffer is cleared.
 pub fn search_nodes(
     pack: &[u8],
     places: &[u16],
     p: Context,
-    first: usize,
-    nodes: usize,
-    s: Story,
-    e: Nesting,
+    nodes: Nodes,
+    limits: Limits,
     list: &mut [u8],
     work: &mut [u8],
 ) -> Found
-    requires { ⌜ Seekable (now pack) (now places) p first nodes (s .0) (p .foresight .0) (e .0) (now list)
-        (now work) ⌝ }
-    ensures { λ r. ⌜ SearchPutFrom (now (pack .entry)) (now (places .entry)) p first nodes (s .0) (p .foresight .0)
-        (e .0) (now (list .entry)) (now (list .exit)) (now (work .entry)) (now (work .exit)) r ⌝ }
+    requires { ⌜ Seekable (now pack) (now places) p (nodes .first) (nodes .count) (limits .story .0)
+        (p .foresight .0) (limits .nesting .0) (now list) (now work) ⌝ }
+    ensures { λ r. ⌜ SearchPutFrom (now (pack .entry)) (now (places .entry)) p (nodes .first) (nodes .count)
+        (limits .story .0) (p .foresight .0) (limits .nesting .0) (now (list .entry)) (now (list .exit))
+        (now (work .entry)) (now (work .exit)) r ⌝ }
 {
-    lay_start(pack, first, nodes, p, work);
+    lay_start(pack, nodes, p, work);
     let t = table_in(work, p, 0);
     let base = utility(pack, places[UTILITIES] as usize, work, t, 0);
+    let nesting = limits.nesting;
     let goal = Goal {
         who: AUTHOR,
-        nesting: e,
+        nesting,
         base,
     };
-    let found = deepen(pack, places, p, work, list, goal, s.0);
+    let found = deepen(pack, places, p, work, list, goal, limits.story.0);
     clear(work, 0, WORK_ROOM);
     if found.count == 0 {
         return Found::Refused(NO_ENDING, 0);
@@ -350,7 +366,15 @@ pub fn search(
         Number::Refused(number, at) => Found::Refused(number, at),
         Number::Is(_, _) => {
             let context = laid_out(p, k, 1 + t.0 + (1 + k.0) * e.0);
-            search_nodes(pack, &places, context, p.first, p.nodes, t, e, list, work)
+            let start = Nodes {
+                first: p.first,
+                count: p.nodes,
+            };
+            let limits = Limits {
+                story: t,
+                nesting: e,
+            };
+            search_nodes(pack, &places, context, start, limits, list, work)
         }
     }
 }
