@@ -37,6 +37,12 @@ ghost use lib.ListN.{getD};
 ghost use Rattle.planner.specs.Inner.Explain.{Prepared, Free, Answers, AnswersOf};
 ghost use Rattle.planner.specs.Inner.Lists.{ExplainedBy};
 
+// A character's goal, and how many more actions may lead to it.
+pub struct Quest {
+    pub goal: Goal,
+    pub left: usize,
+}
+
 // Whether a deed is explained: not where there can be no reason for it, else by what is believed.
 pub fn explained(
     pack: &[u8],
@@ -129,50 +135,55 @@ pub fn explains(
         nesting,
         base,
     };
-    extends(pack, places, p, work, next, goal, p.foresight.0 - 1)
+    let quest = Quest {
+        goal,
+        left: p.foresight.0 - 1,
+    };
+    extends(pack, places, p, work, next, quest)
 }
 
-// Whether some list of at most `left` actions leads to a goal from the state in a slot.
+// Whether some list of at most as many actions as are left leads to the goal from the state in a slot.
 pub fn extends(
     pack: &[u8],
     places: &[u16],
     p: Context,
     work: &mut [u8],
     slot: usize,
-    g: Goal,
-    left: usize,
+    quest: Quest,
 ) -> bool
     requires { ⌜ Prepared (now pack) (now places) p (now work) (slotTable p (now work) slot) (slot + p .stride)
-        × (g .who < p .characters) × (0 < p .foresight .0) × (p .foresight .0 ≤ 6)
-        × Free p slot (1 + left + (1 + p .foresight .0) * g .nesting .0) ⌝ }
+        × (quest .goal .who < p .characters) × (0 < p .foresight .0) × (p .foresight .0 ≤ 6)
+        × Free p slot (1 + quest .left + (1 + p .foresight .0) * quest .goal .nesting .0) ⌝ }
     ensures { λ r. ⌜ Answers (now (pack .entry)) (now (places .entry)) p slot (now (work .entry))
         (now (work .exit)) r
-        (λ th s. Above th (p .foresight .0) (g .nesting .0) (g .who) (g .base) (suc left) s) ⌝ }
+        (λ th s. Above th (p .foresight .0) (quest .goal .nesting .0) (quest .goal .who) (quest .goal .base)
+        (suc (quest .left)) s) ⌝ }
 {
+    let goal = quest.goal;
     let t = table_in(work, p, slot);
     let worth = utility(
         pack,
-        places[CHARACTER_UTILITIES + g.who] as usize,
+        places[CHARACTER_UTILITIES + goal.who] as usize,
         work,
         t,
         0,
     );
-    if g.base < worth {
+    if goal.base < worth {
         return true;
     }
-    if left == 0 {
+    if quest.left == 0 {
         return false;
     }
-    let whose = g.who + 1;
+    let whose = goal.who + 1;
     let hope = Hope {
         whose,
-        left,
-        base: g.base,
+        left: quest.left,
+        base: goal.base,
     };
     if !within_reach(pack, places, p, work, slot, hope) {
         return false;
     }
-    let key = goal_key(g, left);
+    let key = goal_key(goal, quest.left);
     let known = recall_list(work, p, slot, key);
     if known == 1 {
         return false;
@@ -180,7 +191,11 @@ pub fn extends(
     if known == 2 {
         return true;
     }
-    let found = extends_by(pack, places, p, work, slot, g, left - 1);
+    let fewer = Quest {
+        goal,
+        left: quest.left - 1,
+    };
+    let found = extends_by(pack, places, p, work, slot, fewer);
     remember_list(work, p, slot, mark_of(found), key);
     found
 }
@@ -199,25 +214,25 @@ pub fn extends_by(
     p: Context,
     work: &mut [u8],
     slot: usize,
-    g: Goal,
-    left: usize,
+    quest: Quest,
 ) -> bool
     requires { ⌜ Prepared (now pack) (now places) p (now work) (slotTable p (now work) slot) (slot + p .stride)
-        × (g .who < p .characters) × (0 < p .foresight .0) × (p .foresight .0 ≤ 6)
-        × Free p slot (2 + left + (1 + p .foresight .0) * g .nesting .0) ⌝ }
+        × (quest .goal .who < p .characters) × (0 < p .foresight .0) × (p .foresight .0 ≤ 6)
+        × Free p slot (2 + quest .left + (1 + p .foresight .0) * quest .goal .nesting .0) ⌝ }
     ensures { λ r. ⌜ Answers (now (pack .entry)) (now (places .entry)) p slot (now (work .entry))
         (now (work .exit)) r
-        (λ th s. AboveBySome th (p .foresight .0) (g .nesting .0) (g .who) (g .base) (suc left) s) ⌝ }
+        (λ th s. AboveBySome th (p .foresight .0) (quest .goal .nesting .0) (quest .goal .who) (quest .goal .base)
+        (suc (quest .left)) s) ⌝ }
 {
-    let whose = g.who + 1;
+    let whose = quest.goal.who + 1;
     let hope = Hope {
         whose,
-        left,
-        base: g.base,
+        left: quest.left,
+        base: quest.goal.base,
     };
     let mut x = next_promising(pack, places, p, work, slot, 0, hope);
     while x < p.actions {
-        let found = via(pack, places, p, work, slot, x, g, left);
+        let found = via(pack, places, p, work, slot, x, quest);
         if found {
             return true;
         }
@@ -234,19 +249,19 @@ pub fn via(
     work: &mut [u8],
     slot: usize,
     x: usize,
-    g: Goal,
-    left: usize,
+    quest: Quest,
 ) -> bool
     requires { ⌜ Prepared (now pack) (now places) p (now work) (slotTable p (now work) slot) (slot + p .stride)
-        × (g .who < p .characters) × (x < p .actions) × (0 < p .foresight .0) × (p .foresight .0 ≤ 6)
-        × Free p slot (2 + left + (1 + p .foresight .0) * g .nesting .0) ⌝ }
+        × (quest .goal .who < p .characters) × (x < p .actions) × (0 < p .foresight .0) × (p .foresight .0 ≤ 6)
+        × Free p slot (2 + quest .left + (1 + p .foresight .0) * quest .goal .nesting .0) ⌝ }
     ensures { λ r. ⌜ Answers (now (pack .entry)) (now (places .entry)) p slot (now (work .entry))
         (now (work .exit)) r
-        (λ th s. AboveBy th (p .foresight .0) (g .nesting .0) (g .who) (g .base) (suc left) x s) ⌝ }
+        (λ th s. AboveBy th (p .foresight .0) (quest .goal .nesting .0) (quest .goal .who) (quest .goal .base)
+        (suc (quest .left)) x s) ⌝ }
 {
-    let nesting = g.nesting;
+    let nesting = quest.goal.nesting;
     let deed = Deed {
-        who: g.who,
+        who: quest.goal.who,
         nesting,
         action: x,
     };
@@ -258,7 +273,7 @@ pub fn via(
     if number != 0 {
         return false;
     }
-    extends(pack, places, p, work, slot + p.stride, g, left)
+    extends(pack, places, p, work, slot + p.stride, quest)
 }
 
 // Whether the deed's action is explained to each of its consenters other than the one whose deed it is.

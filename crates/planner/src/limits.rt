@@ -19,6 +19,12 @@ pub struct Foresight(pub usize);
 // The nesting limit E: how often an explanation may rest on another, 0 to 3.
 pub struct Nesting(pub usize);
 
+// The limits of a search that its context does not hold: on the author's list, and on explanations within others.
+pub struct Limits {
+    pub story: Story,
+    pub nesting: Nesting,
+}
+
 // What stays the same through a call: a pack's counts, the foresight limit, how many bytes a slot of the work buffer
 // takes, where the memory begins behind the slots, and how many bytes a block takes, of which tables are kept in it.
 pub struct Context {

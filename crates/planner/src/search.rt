@@ -16,6 +16,7 @@ use crate::explain::allowed;
 use crate::intern::table_in;
 use crate::limits::Context;
 use crate::limits::Foresight;
+use crate::limits::Limits;
 use crate::limits::Nesting;
 use crate::limits::Story;
 use crate::limits::laid_out;
@@ -63,47 +64,65 @@ pub struct Ended {
     pub after: usize,
 }
 
-// The author's utility at the end of the earliest list of exactly `left` actions, from the state in the slot behind
-// `done` others, that leads to a goal; the list is put down from `done` on. Or 0.
+// The actions of the author's list that are ahead: how many are done before them, how many are left, and which goal
+// they are to lead to.
+pub struct Ahead {
+    pub done: usize,
+    pub left: usize,
+    pub goal: Goal,
+}
+
+// The nodes of a pack: where the first is read, and how many there are.
+pub struct Nodes {
+    pub first: usize,
+    pub count: usize,
+}
+
+// The author's utility at the end of the earliest list of exactly as many actions as are left, from the state in the
+// slot behind `done` others, that leads to the goal; the list is put down from `done` on. Or 0.
 pub fn completes(
     pack: &[u8],
     places: &[u16],
     p: Context,
     work: &mut [u8],
     list: &mut [u8],
-    done: usize,
-    g: Goal,
-    left: usize,
+    ahead: Ahead,
 ) -> usize
-    requires { ⌜ Underway (g .nesting .0) (g .base) (now pack) (now places) p (now work) done left
-        × (0 < p .foresight .0) × (p .foresight .0 ≤ 6)
-        × Free p (done * p .stride) (1 + left + (1 + p .foresight .0) * g .nesting .0)
-        × (done + left ≤ length (now list)) ⌝ }
-    ensures { λ r. ⌜ Finds (g .nesting .0) (g .base) (now (pack .entry)) (now (places .entry)) p done left
-        (now (list .entry)) (now (list .exit)) (now (work .entry)) (now (work .exit)) r
-        (λ th. Ends th (p .foresight .0) (g .nesting .0) (g .base)) ⌝ }
+    requires { ⌜ Underway (ahead .goal .nesting .0) (ahead .goal .base) (now pack) (now places) p (now work)
+        (ahead .done) (ahead .left) × (0 < p .foresight .0) × (p .foresight .0 ≤ 6)
+        × Free p (ahead .done * p .stride) (1 + ahead .left + (1 + p .foresight .0) * ahead .goal .nesting .0)
+        × (ahead .done + ahead .left ≤ length (now list)) ⌝ }
+    ensures { λ r. ⌜ Finds (ahead .goal .nesting .0) (ahead .goal .base) (now (pack .entry)) (now (places .entry)) p
+        (ahead .done) (ahead .left) (now (list .entry)) (now (list .exit)) (now (work .entry)) (now (work .exit)) r
+        (λ th. Ends th (p .foresight .0) (ahead .goal .nesting .0) (ahead .goal .base)) ⌝ }
 {
-    let slot = done * p.stride;
-    if left == 0 {
-        return ends(pack, places, p, work, slot, g.base);
+    let slot = ahead.done * p.stride;
+    let goal = ahead.goal;
+    if ahead.left == 0 {
+        return ends(pack, places, p, work, slot, goal.base);
     }
-    if repeats(work, p, slot, done) {
+    if repeats(work, p, slot, ahead.done) {
         return 0;
     }
     let hope = Hope {
         whose: 0,
-        left,
-        base: g.base,
+        left: ahead.left,
+        base: goal.base,
     };
     if !within_reach(pack, places, p, work, slot, hope) {
         return 0;
     }
-    let key = goal_key(g, left);
+    let key = goal_key(goal, ahead.left);
     if recall(work, p, slot, key) == 3 {
         return 0;
     }
     let since = steps_made(work, p);
-    let after = completes_after(pack, places, p, work, list, done, g, left - 1);
+    let fewer = Ahead {
+        done: ahead.done,
+        left: ahead.left - 1,
+        goal,
+    };
+    let after = completes_after(pack, places, p, work, list, fewer);
     if after == 0 {
         remember_worth(work, p, slot, 3, key, since);
     }
@@ -145,28 +164,26 @@ pub fn completes_after(
     p: Context,
     work: &mut [u8],
     list: &mut [u8],
-    done: usize,
-    g: Goal,
-    left: usize,
+    ahead: Ahead,
 ) -> usize
-    requires { ⌜ Underway (g .nesting .0) (g .base) (now pack) (now places) p (now work) done (suc left)
-        × (0 < p .foresight .0) × (p .foresight .0 ≤ 6)
-        × Free p (done * p .stride) (2 + left + (1 + p .foresight .0) * g .nesting .0)
-        × (done + suc left ≤ length (now list)) ⌝ }
-    ensures { λ r. ⌜ Finds (g .nesting .0) (g .base) (now (pack .entry)) (now (places .entry)) p done (suc left)
-        (now (list .entry)) (now (list .exit)) (now (work .entry)) (now (work .exit)) r
-        (λ th. Ends th (p .foresight .0) (g .nesting .0) (g .base)) ⌝ }
+    requires { ⌜ Underway (ahead .goal .nesting .0) (ahead .goal .base) (now pack) (now places) p (now work)
+        (ahead .done) (suc (ahead .left)) × (0 < p .foresight .0) × (p .foresight .0 ≤ 6)
+        × Free p (ahead .done * p .stride) (2 + ahead .left + (1 + p .foresight .0) * ahead .goal .nesting .0)
+        × (ahead .done + suc (ahead .left) ≤ length (now list)) ⌝ }
+    ensures { λ r. ⌜ Finds (ahead .goal .nesting .0) (ahead .goal .base) (now (pack .entry)) (now (places .entry)) p
+        (ahead .done) (suc (ahead .left)) (now (list .entry)) (now (list .exit)) (now (work .entry))
+        (now (work .exit)) r (λ th. Ends th (p .foresight .0) (ahead .goal .nesting .0) (ahead .goal .base)) ⌝ }
 {
-    let slot = done * p.stride;
+    let slot = ahead.done * p.stride;
     let actions = p.actions;
     let hope = Hope {
         whose: 0,
-        left,
-        base: g.base,
+        left: ahead.left,
+        base: ahead.goal.base,
     };
     let mut x = next_promising(pack, places, p, work, slot, 0, hope);
     while x < actions {
-        let after = completes_by(pack, places, p, work, list, done, x, g, left);
+        let after = completes_by(pack, places, p, work, list, ahead, x);
         if after != 0 {
             return after;
         }
@@ -193,21 +210,21 @@ pub fn completes_by(
     p: Context,
     work: &mut [u8],
     list: &mut [u8],
-    done: usize,
+    ahead: Ahead,
     x: usize,
-    g: Goal,
-    left: usize,
 ) -> usize
-    requires { ⌜ Underway (g .nesting .0) (g .base) (now pack) (now places) p (now work) done (suc left)
-        × (x < p .actions) × (0 < p .foresight .0) × (p .foresight .0 ≤ 6)
-        × Free p (done * p .stride) (2 + left + (1 + p .foresight .0) * g .nesting .0)
-        × (done + suc left ≤ length (now list)) ⌝ }
-    ensures { λ r. ⌜ Finds (g .nesting .0) (g .base) (now (pack .entry)) (now (places .entry)) p done (suc left)
-        (now (list .entry)) (now (list .exit)) (now (work .entry)) (now (work .exit)) r
-        (λ th. EndsBy th (p .foresight .0) (g .nesting .0) (g .base) x) ⌝ }
+    requires { ⌜ Underway (ahead .goal .nesting .0) (ahead .goal .base) (now pack) (now places) p (now work)
+        (ahead .done) (suc (ahead .left)) × (x < p .actions) × (0 < p .foresight .0) × (p .foresight .0 ≤ 6)
+        × Free p (ahead .done * p .stride) (2 + ahead .left + (1 + p .foresight .0) * ahead .goal .nesting .0)
+        × (ahead .done + suc (ahead .left) ≤ length (now list)) ⌝ }
+    ensures { λ r. ⌜ Finds (ahead .goal .nesting .0) (ahead .goal .base) (now (pack .entry)) (now (places .entry)) p
+        (ahead .done) (suc (ahead .left)) (now (list .entry)) (now (list .exit)) (now (work .entry))
+        (now (work .exit)) r (λ th. EndsBy th (p .foresight .0) (ahead .goal .nesting .0) (ahead .goal .base) x) ⌝ }
 {
+    let done = ahead.done;
     let slot = done * p.stride;
-    let nesting = g.nesting;
+    let goal = ahead.goal;
+    let nesting = goal.nesting;
     let deed = Deed {
         who: p.characters,
         nesting,
@@ -221,7 +238,12 @@ pub fn completes_by(
     if number != 0 {
         return 0;
     }
-    let after = completes(pack, places, p, work, list, done + 1, g, left);
+    let next = Ahead {
+        done: done + 1,
+        left: ahead.left,
+        goal,
+    };
+    let after = completes(pack, places, p, work, list, next);
     if after != 0 {
         list[done] = x as u8;
     }
@@ -250,7 +272,12 @@ pub fn deepen(
     }
     let mut n = 1;
     while n <= most {
-        let after = completes(pack, places, p, work, list, 0, g, n);
+        let ahead = Ahead {
+            done: 0,
+            left: n,
+            goal: g,
+        };
+        let after = completes(pack, places, p, work, list, ahead);
         if after != 0 {
             return Ended { count: n, after };
         }
@@ -259,47 +286,56 @@ pub fn deepen(
     Ended { count: 0, after: 0 }
 }
 
-// Lays the nodes that are read from `first` on out in the first slot, merged, and empties the memory behind the slots,
-// in which the nodes may have been merged.
-pub fn lay_start(pack: &[u8], first: usize, nodes: usize, p: Context, work: &mut [u8])
-    requires { ⌜ Layable (now pack) first nodes p (now work) ⌝ }
-    ensures { λ _. ⌜ ((T : List Node) → Laying T (now (pack .entry)) first nodes p (now (work .entry))
+// Lays the nodes out in the first slot, merged, and empties the memory behind the slots, in which they may have been
+// merged.
+pub fn lay_start(pack: &[u8], nodes: Nodes, p: Context, work: &mut [u8])
+    requires { ⌜ Layable (now pack) (nodes .first) (nodes .count) p (now work) ⌝ }
+    ensures { λ _. ⌜ ((T : List Node)
+        → Laying T (now (pack .entry)) (nodes .first) (nodes .count) p (now (work .entry))
         → LaidStart T p (now (work .entry)) (now (work .exit))) ⌝ }
 {
-    copy_table(pack, first, nodes, work, 0, p.fluents, p.characters);
+    copy_table(
+        pack,
+        nodes.first,
+        nodes.count,
+        work,
+        0,
+        p.fluents,
+        p.characters,
+    );
     let width = p.fluents + p.characters;
-    let rows = merge_table(work, nodes, width, p.fluents, p.characters);
+    let rows = merge_table(work, nodes.count, width, p.fluents, p.characters);
     work[0] = rows as u8;
     copy_part(work, MERGED, 1, rows * width);
     clear(work, p.memory, LINKS);
 }
 
-// The search from what node 0 means of the nodes that are read from `first` on. The work buffer is cleared.
+// The search from what the first of the nodes means. The work buffer is cleared.
 pub fn search_nodes(
     pack: &[u8],
     places: &[u16],
     p: Context,
-    first: usize,
-    nodes: usize,
-    s: Story,
-    e: Nesting,
+    nodes: Nodes,
+    limits: Limits,
     list: &mut [u8],
     work: &mut [u8],
 ) -> Found
-    requires { ⌜ Seekable (now pack) (now places) p first nodes (s .0) (p .foresight .0) (e .0) (now list)
-        (now work) ⌝ }
-    ensures { λ r. ⌜ SearchPutFrom (now (pack .entry)) (now (places .entry)) p first nodes (s .0) (p .foresight .0)
-        (e .0) (now (list .entry)) (now (list .exit)) (now (work .entry)) (now (work .exit)) r ⌝ }
+    requires { ⌜ Seekable (now pack) (now places) p (nodes .first) (nodes .count) (limits .story .0)
+        (p .foresight .0) (limits .nesting .0) (now list) (now work) ⌝ }
+    ensures { λ r. ⌜ SearchPutFrom (now (pack .entry)) (now (places .entry)) p (nodes .first) (nodes .count)
+        (limits .story .0) (p .foresight .0) (limits .nesting .0) (now (list .entry)) (now (list .exit))
+        (now (work .entry)) (now (work .exit)) r ⌝ }
 {
-    lay_start(pack, first, nodes, p, work);
+    lay_start(pack, nodes, p, work);
     let t = table_in(work, p, 0);
     let base = utility(pack, places[UTILITIES] as usize, work, t, 0);
+    let nesting = limits.nesting;
     let goal = Goal {
         who: AUTHOR,
-        nesting: e,
+        nesting,
         base,
     };
-    let found = deepen(pack, places, p, work, list, goal, s.0);
+    let found = deepen(pack, places, p, work, list, goal, limits.story.0);
     clear(work, 0, WORK_ROOM);
     if found.count == 0 {
         return Found::Refused(NO_ENDING, 0);
@@ -330,7 +366,15 @@ pub fn search(
         Number::Refused(number, at) => Found::Refused(number, at),
         Number::Is(_, _) => {
             let context = laid_out(p, k, 1 + t.0 + (1 + k.0) * e.0);
-            search_nodes(pack, &places, context, p.first, p.nodes, t, e, list, work)
+            let start = Nodes {
+                first: p.first,
+                count: p.nodes,
+            };
+            let limits = Limits {
+                story: t,
+                nesting: e,
+            };
+            search_nodes(pack, &places, context, start, limits, list, work)
         }
     }
 }

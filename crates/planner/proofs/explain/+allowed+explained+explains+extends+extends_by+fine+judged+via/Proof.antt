@@ -81,10 +81,10 @@ abbrev μ-explains : Measures 3 explains-kinds.ps ℕ
 μ-explains κs a = 1000 * a .1 .1 .1 .1 .1 .0 .nesting .0
 
 abbrev μ-extends : Measures 3 extends-kinds.ps ℕ
-μ-extends κs a = 1000 * a .1 .1 .1 .1 .1 .0 .nesting .0 + 4 + 3 * a .1 .1 .1 .1 .1 .1 .0
+μ-extends κs a = 1000 * a .1 .1 .1 .1 .1 .0 .goal .nesting .0 + 4 + 3 * a .1 .1 .1 .1 .1 .0 .left
 
 abbrev μ-extends-by : Measures 3 extends-by-kinds.ps ℕ
-μ-extends-by κs a = 1000 * a .1 .1 .1 .1 .1 .0 .nesting .0 + 6 + 3 * a .1 .1 .1 .1 .1 .1 .0
+μ-extends-by κs a = 1000 * a .1 .1 .1 .1 .1 .0 .goal .nesting .0 + 6 + 3 * a .1 .1 .1 .1 .1 .0 .left
 
 abbrev μ-fine : Measures 3 fine-kinds.ps ℕ
 μ-fine κs a = 1000 * a .1 .1 .1 .1 .1 .1 .0 .nesting .0 + 3
@@ -93,7 +93,7 @@ abbrev μ-judged : Measures 3 judged-kinds.ps ℕ
 μ-judged κs a = 1000 * a .1 .1 .1 .1 .1 .0 .nesting .0 + 1
 
 abbrev μ-via : Measures 3 via-kinds.ps ℕ
-μ-via κs a = 1000 * a .1 .1 .1 .1 .1 .1 .0 .nesting .0 + 5 + 3 * a .1 .1 .1 .1 .1 .1 .1 .0
+μ-via κs a = 1000 * a .1 .1 .1 .1 .1 .1 .0 .goal .nesting .0 + 5 + 3 * a .1 .1 .1 .1 .1 .1 .0 .left
 
 abbrev allowed-at : ℕ → In 3 allowed-kinds.ps
 allowed-at t = and 3 allowed-kinds.ps (is 3 allowed-kinds.ps μ-allowed t) allowed.Pre
@@ -568,14 +568,14 @@ explains-utility-requires t c κs =
     let (z, inside) = explains-stays t at-known-step y mem in
     rules-in _ _ _ (start .args .q) (at-table-in .table-in .ensures) (stage-rules z _ _ (P .1) inside .0)
 
-explains-sub-t19 : (t : ℕ) → explains-lts.Need-sub-t19 (explains-calls t) (explains-at t) explains.Post
-explains-sub-t19 t c =
+explains-sub-nesting : (t : ℕ) → explains-lts.Need-sub-t20 (explains-calls t) (explains-at t) explains.Post
+explains-sub-nesting t c =
     let start = c .before .before .before .before .before .before .before .before .before .before .before .before .before .before .before .before in
     omega (arith, start .pre .1 .6)
 
-explains-sub-extends : (t : ℕ) → explains-lts.Need-sub-extends (explains-calls t) (explains-at t) explains.Post
-explains-sub-extends t c =
-    let start = c .before .before .before .before .before .before .before .before .before .before .before .before .before .before .before .before .before .before in
+explains-sub-left : (t : ℕ) → explains-lts.Need-sub-t24 (explains-calls t) (explains-at t) explains.Post
+explains-sub-left t c =
+    let start = c .before .before .before .before .before .before .before .before .before .before .before .before .before .before .before .before .before in
     omega (arith, start .pre .1 .3)
 
 explains-extends-requires : (t : ℕ) → explains-lts.Need-extends-requires (explains-calls t) (explains-at t) explains.Post
@@ -628,37 +628,37 @@ explains-returns-2 t c =
 
 extends-table-in-requires : (t : ℕ) → extends-lts.Need-table-in-requires (extends-calls t) (extends-at t) extends.Post
 extends-table-in-requires t c κs =
-    let start = c .before .before .before .before in
+    let start = c .before .before .before .before .before in
     let (th, (T, (y, mem))) = start .pre .1 .0 in
     (omega (arith, start .pre .1 .4, y .room), omega (arith, small (y .tabled)))
 
 extends-add-utility : (t : ℕ) → extends-lts.Need-add-utility (extends-calls t) (extends-at t) extends.Post
 extends-add-utility t c =
-    let start = c .before .before .before .before .before .before in
+    let start = c .before .before .before .before .before .before .before in
     let (th, (T, (y, mem))) = start .pre .1 .0 in
     omega (arith, small (y .tabled), start .pre .1 .1)
 
 extends-mul-utility : (t : ℕ) → extends-lts.Need-mul-utility (extends-calls t) (extends-at t) extends.Post
 extends-mul-utility t c =
-    let start = c .before .before .before .before .before .before in
+    let start = c .before .before .before .before .before .before .before in
     let (th, (T, (y, mem))) = start .pre .1 .0 in
     omega (arith, small (y .tabled), start .pre .1 .1)
 
 extends-shared-slice-read-utility : (t : ℕ) → extends-lts.Need-shared-slice-read-utility (extends-calls t) (extends-at t) extends.Post
 extends-shared-slice-read-utility t c =
-    let start = c .before .before .before .before .before .before .before in
+    let start = c .before .before .before .before .before .before .before .before in
     let (th, (T, (y, mem))) = start .pre .1 .0 in
     omega (arith, y .theorized .marked, small (y .tabled), start .pre .1 .1)
 
 extends-cast-utility : (t : ℕ) → extends-lts.Need-cast-utility (extends-calls t) (extends-at t) extends.Post
 extends-cast-utility t c =
-    let start = c .before .before .before .before .before .before .before in
-    omega (arith, c .shared-slice-known3 .given (321 + start .args .g .who))
+    let start = c .before .before .before .before .before .before .before .before in
+    omega (arith, c .shared-slice-known3 .given (321 + start .args .quest .goal .who))
 
 extends-utility-requires : (t : ℕ) → extends-lts.Need-utility-requires (extends-calls t) (extends-at t) extends.Post
 extends-utility-requires t c κs =
     let at-table-in = c .before .before .before in
-    let start = at-table-in .before .before .before .before .before in
+    let start = at-table-in .before .before .before .before .before .before in
     let P = start .pre .1 in
     let (th, (T, (y, mem))) = P .0 in
     rules-in _ _ _ 0 (at-table-in .table-in .ensures) (stage-rules y _ 0 (P .1) (y .tabled .some) .0)
@@ -670,39 +670,39 @@ extends-returns : (t : ℕ) → extends-lts.Need-returns (extends-calls t) (exte
 extends-returns t c =
     let at-utility = c .before .before in
     let at-table-in = at-utility .before .before .before .before in
-    let start = at-table-in .before .before .before .before .before in
+    let start = at-table-in .before .before .before .before .before .before in
     let P = start .pre .1 in
     let a = start .args in
-    λ th T y mem. told-yes (λ q l. refl) (λ q l. refl) mem (reach-here th (a .p .foresight .0) (a .g .nesting .0) (a .g .who) (a .g .base) (a .left) (meaning (a .p .characters) T 0) (omega (arith, stage-utility y (a .g .who) 0 (P .1) (utility-in (a .pack .now) (getD (a .places .now) (321 + a .g .who) 0) (a .work .now) 0 (at-utility .utility .result) (at-table-in .table-in .ensures) (at-utility .utility .ensures)), c .if1 .taken)))
+    λ th T y mem. told-yes (λ q l. refl) (λ q l. refl) mem (reach-here th (a .p .foresight .0) (a .quest .goal .nesting .0) (a .quest .goal .who) (a .quest .goal .base) (a .quest .left) (meaning (a .p .characters) T 0) (omega (arith, stage-utility y (a .quest .goal .who) 0 (P .1) (utility-in (a .pack .now) (getD (a .places .now) (321 + a .quest .goal .who) 0) (a .work .now) 0 (at-utility .utility .result) (at-table-in .table-in .ensures) (at-utility .utility .ensures)), c .if1 .taken)))
 
 extends-same-length-2 : (t : ℕ) → extends-lts.Need-same-length-2 (extends-calls t) (extends-at t) extends.Post
 extends-same-length-2 t c = search needs
 
 extends-returns-2 : (t : ℕ) → extends-lts.Need-returns-2 (extends-calls t) (extends-at t) extends.Post
 extends-returns-2 t c =
-    let at-utility = c .before .before .before in
+    let at-utility = c .before .before .before .before in
     let at-table-in = at-utility .before .before .before .before in
-    let start = at-table-in .before .before .before .before .before in
+    let start = at-table-in .before .before .before .before .before .before in
     let P = start .pre .1 in
     let a = start .args in
-    let none : 1 ≡ suc (a .left) = omega (arith, c .if2 .taken) in
-    λ th T y mem. told-none _ mem (λ z. reach-no-more th (a .p .foresight .0) (a .g .nesting .0) (a .g .who) (a .g .base) (meaning (a .p .characters) T 0) (λ b. omega (arith, stage-utility y (a .g .who) 0 (P .1) (utility-in (a .pack .now) (getD (a .places .now) (321 + a .g .who) 0) (a .work .now) 0 (at-utility .utility .result) (at-table-in .table-in .ensures) (at-utility .utility .ensures)), c .before .if1 .left)) (subst (λ (n : ℕ). inner.Above th (a .p .foresight .0) (a .g .nesting .0) (a .g .who) (a .g .base) n (meaning (a .p .characters) T 0)) (sym none) z))
+    let none : 1 ≡ suc (a .quest .left) = omega (arith, c .if2 .taken) in
+    λ th T y mem. told-none _ mem (λ z. reach-no-more th (a .p .foresight .0) (a .quest .goal .nesting .0) (a .quest .goal .who) (a .quest .goal .base) (meaning (a .p .characters) T 0) (λ b. omega (arith, stage-utility y (a .quest .goal .who) 0 (P .1) (utility-in (a .pack .now) (getD (a .places .now) (321 + a .quest .goal .who) 0) (a .work .now) 0 (at-utility .utility .result) (at-table-in .table-in .ensures) (at-utility .utility .ensures)), c .before .before .if1 .left)) (subst (λ (n : ℕ). inner.Above th (a .p .foresight .0) (a .quest .goal .nesting .0) (a .quest .goal .who) (a .quest .goal .base) n (meaning (a .p .characters) T 0)) (sym none) z))
 
 extends-add-whose : (t : ℕ) → extends-lts.Need-add-whose (extends-calls t) (extends-at t) extends.Post
 extends-add-whose t c =
-    let at-table-in = c .before .before .before .before .before .before .before .before in
-    let start = at-table-in .before .before .before .before .before in
+    let at-table-in = c .before .before .before .before .before .before .before .before .before in
+    let start = at-table-in .before .before .before .before .before .before in
     let (th, (T, (y, mem))) = start .pre .1 .0 in
     omega (arith, small (y .tabled), start .pre .1 .1)
 
 extends-within-reach-requires : (t : ℕ) → extends-lts.Need-within-reach-requires (extends-calls t) (extends-at t) extends.Post
 extends-within-reach-requires t c κs =
-    let at-table-in = c .before .before .before .before .before .before .before .before .before in
-    let start = at-table-in .before .before .before .before .before in
+    let at-table-in = c .before .before .before .before .before .before .before .before .before .before in
+    let start = at-table-in .before .before .before .before .before .before in
     let P = start .pre .1 in
     let a = start .args in
     let (th, (T, (y, mem))) = P .0 in
-    let wanted = 1 + a .left + (1 + a .p .foresight .0) * a .g .nesting .0 in
+    let wanted = 1 + a .quest .left + (1 + a .p .foresight .0) * a .quest .goal .nesting .0 in
     let few = free-few (a .p) (a .slot) wanted (y .laid) (P .4) in
     (((th, (T, y)), free-fewer (a .p) (a .slot) wanted 1 (omega arith) (P .4), omega (arith, P .1)), omega (arith, few))
 
@@ -712,18 +712,18 @@ extends-same-length-3 t c = search needs
 extends-returns-3 : (t : ℕ) → extends-lts.Need-returns-3 (extends-calls t) (extends-at t) extends.Post
 extends-returns-3 t c =
     let at-within-reach = c .before in
-    let at-table-in = at-within-reach .before .before .before .before .before .before .before .before .before .before in
-    let start = at-table-in .before .before .before .before .before in
+    let at-table-in = at-within-reach .before .before .before .before .before .before .before .before .before .before .before in
+    let start = at-table-in .before .before .before .before .before .before in
     let a = start .args in
-    λ th T y mem. told-none _ mem (above-beyond th (a .p .foresight .0) (a .g .nesting .0) (a .g .who) (a .g .base) (a .left) (meaning (a .p .characters) T 0) (at-within-reach .within-reach .ensures (not-true _ (c .if3 .taken)) th T y))
+    λ th T y mem. told-none _ mem (above-beyond th (a .p .foresight .0) (a .quest .goal .nesting .0) (a .quest .goal .who) (a .quest .goal .base) (a .quest .left) (meaning (a .p .characters) T 0) (at-within-reach .within-reach .ensures (not-true _ (c .if3 .taken)) th T y))
 
 extends-goal-key-requires : (t : ℕ) → extends-lts.Need-goal-key-requires (extends-calls t) (extends-at t) extends.Post
 extends-goal-key-requires t c κs = search needs
 
 extends-recall-list-requires : (t : ℕ) → extends-lts.Need-recall-list-requires (extends-calls t) (extends-at t) extends.Post
 extends-recall-list-requires t c κs =
-    let at-table-in = c .before .before .before .before .before .before .before .before .before .before .before .before .before in
-    let start = at-table-in .before .before .before .before .before in
+    let at-table-in = c .before .before .before .before .before .before .before .before .before .before .before .before .before .before in
+    let start = at-table-in .before .before .before .before .before .before in
     let P = start .pre .1 in
     let (th, (T, (y, mem))) = P .0 in
     stage-before y (omega (arith, P .4))
@@ -735,8 +735,8 @@ extends-returns-4 : (t : ℕ) → extends-lts.Need-returns-4 (extends-calls t) (
 extends-returns-4 t c =
     let at-recall = c .before .before .before in
     let key = at-recall .before .before .goal-key .ensures in
-    let at-table-in = at-recall .before .before .before .before .before .before .before .before .before .before .before .before .before .before in
-    let start = at-table-in .before .before .before .before .before in
+    let at-table-in = at-recall .before .before .before .before .before .before .before .before .before .before .before .before .before .before .before in
+    let start = at-table-in .before .before .before .before .before .before in
     let P = start .pre .1 in
     let a = start .args in
     let r = at-recall .recall-list in
@@ -751,8 +751,8 @@ extends-returns-5 : (t : ℕ) → extends-lts.Need-returns-5 (extends-calls t) (
 extends-returns-5 t c =
     let at-recall = c .before .before .before .before in
     let key = at-recall .before .before .goal-key .ensures in
-    let at-table-in = at-recall .before .before .before .before .before .before .before .before .before .before .before .before .before .before in
-    let start = at-table-in .before .before .before .before .before in
+    let at-table-in = at-recall .before .before .before .before .before .before .before .before .before .before .before .before .before .before .before in
+    let start = at-table-in .before .before .before .before .before .before in
     let P = start .pre .1 in
     let a = start .args in
     let r = at-recall .recall-list in
@@ -760,22 +760,22 @@ extends-returns-5 t c =
     let (m, fact) = r .ensures .0 .told th (a .p .foresight .0) (a .slot + a .p .stride) (omega (arith, P .4)) (y .slotted) mem in
     told-yes (λ q l. r .ensures .0 .only .low q (omega (arith, l, P .4))) (r .ensures .0 .only .high) m (known y key fact .yes (c .if5 .taken))
 
-extends-sub-extends-by : (t : ℕ) → extends-lts.Need-sub-extends-by (extends-calls t) (extends-at t) extends.Post
-extends-sub-extends-by t c =
+extends-sub-left : (t : ℕ) → extends-lts.Need-sub-t18 (extends-calls t) (extends-at t) extends.Post
+extends-sub-left t c =
     let at-if2 = c .before .before .before .before .before .before .before .before .before .before .before .before in
     omega (arith, at-if2 .if2 .left)
 
 extends-extends-by-requires : (t : ℕ) → extends-lts.Need-extends-by-requires (extends-calls t) (extends-at t) extends.Post
 extends-extends-by-requires t c κs =
-    let at-recall = c .before .before .before .before .before in
+    let at-recall = c .before .before .before .before .before .before in
     let at-if2 = at-recall .before .before .before .before .before .before .before in
-    let at-table-in = at-if2 .before .before .before .before .before .before .before in
-    let start = at-table-in .before .before .before .before .before in
+    let at-table-in = at-if2 .before .before .before .before .before .before .before .before in
+    let start = at-table-in .before .before .before .before .before .before in
     let (m, P) = start .pre in
     let a = start .args in
     let (th, (T, (y, mem))) = P .0 in
     let r = at-recall .recall-list in
-    (omega (arith, m, at-if2 .if2 .left), ((th, (T, (slot-same (a .slot) y (λ q l. r .ensures .0 .only .low q (omega (arith, l, P .4))) (r .kept .0), r .ensures .0 .told th (a .p .foresight .0) (a .slot + a .p .stride) (omega (arith, P .4)) (y .slotted) mem .0))), P .1, P .2, P .3, free-fewer (a .p) (a .slot) (1 + a .left + (1 + a .p .foresight .0) * a .g .nesting .0) (2 + (a .left - 1) + (1 + a .p .foresight .0) * a .g .nesting .0) (omega (arith, at-if2 .if2 .left)) (P .4)))
+    (omega (arith, m, at-if2 .if2 .left), ((th, (T, (slot-same (a .slot) y (λ q l. r .ensures .0 .only .low q (omega (arith, l, P .4))) (r .kept .0), r .ensures .0 .told th (a .p .foresight .0) (a .slot + a .p .stride) (omega (arith, P .4)) (y .slotted) mem .0))), P .1, P .2, P .3, free-fewer (a .p) (a .slot) (1 + a .quest .left + (1 + a .p .foresight .0) * a .quest .goal .nesting .0) (2 + (a .quest .left - 1) + (1 + a .p .foresight .0) * a .quest .goal .nesting .0) (omega (arith, at-if2 .if2 .left)) (P .4)))
 
 extends-mark-of-requires : (t : ℕ) → extends-lts.Need-mark-of-requires (extends-calls t) (extends-at t) extends.Post
 extends-mark-of-requires t c κs = search needs
@@ -783,9 +783,9 @@ extends-mark-of-requires t c κs = search needs
 extends-remember-list-requires : (t : ℕ) → extends-lts.Need-remember-list-requires (extends-calls t) (extends-at t) extends.Post
 extends-remember-list-requires t c κs =
     let at-extends-by = c .before .before .before .before in
-    let at-recall = at-extends-by .before .before .before .before .before .before in
-    let at-table-in = at-recall .before .before .before .before .before .before .before .before .before .before .before .before .before .before in
-    let start = at-table-in .before .before .before .before .before in
+    let at-recall = at-extends-by .before .before .before .before .before .before .before in
+    let at-table-in = at-recall .before .before .before .before .before .before .before .before .before .before .before .before .before .before .before in
+    let start = at-table-in .before .before .before .before .before .before in
     let P = start .pre .1 in
     let a = start .args in
     let (th, (T, (y, mem))) = P .0 in
@@ -798,7 +798,7 @@ extends-same-length-6 : (t : ℕ) → extends-lts.Need-same-length-6 (extends-ca
 extends-same-length-6 t c =
     let at-remember = c .before .before in
     let at-extends-by = at-remember .before .before .before .before .before in
-    let at-recall = at-extends-by .before .before .before .before .before .before in
+    let at-recall = at-extends-by .before .before .before .before .before .before .before in
     at-remember .remember-list .kept .0 ∙ at-extends-by .extends-by .kept .1 .1 .1 .0 ∙ at-recall .recall-list .kept .0
 
 extends-returns-6 : (t : ℕ) → extends-lts.Need-returns-6 (extends-calls t) (extends-at t) extends.Post
@@ -806,39 +806,39 @@ extends-returns-6 t c =
     let at-remember = c .before .before in
     let at-mark-of = at-remember .before in
     let at-extends-by = at-mark-of .before .before .before .before in
-    let at-recall = at-extends-by .before .before .before .before .before .before in
+    let at-recall = at-extends-by .before .before .before .before .before .before .before in
     let key = at-recall .before .before .goal-key .ensures in
     let at-if2 = at-recall .before .before .before .before .before .before .before in
-    let at-if1 = at-if2 .before in
+    let at-if1 = at-if2 .before .before in
     let at-utility = at-if1 .before .before in
     let at-table-in = at-utility .before .before .before .before in
-    let start = at-table-in .before .before .before .before .before in
+    let start = at-table-in .before .before .before .before .before .before in
     let P = start .pre .1 in
     let a = start .args in
-    let some : 0 < a .left = omega (arith, at-if2 .if2 .left) in
+    let some : 0 < a .quest .left = omega (arith, at-if2 .if2 .left) in
     let rem = at-remember .remember-list .ensures .0 in
     let r = at-recall .recall-list in
     let x = at-extends-by .extends-by in
     λ th T y mem.
     let s = meaning (a .p .characters) T in
     let told = x .ensures th T (slot-same (a .slot) y (λ q l. r .ensures .0 .only .low q (omega (arith, l, P .4))) (r .kept .0)) (r .ensures .0 .told th (a .p .foresight .0) (a .slot + a .p .stride) (omega (arith, P .4)) (y .slotted) mem .0) in
-    let here : a .g .base < utilityTo th (a .g .who) (s 0) → ⊥ = (λ b. omega (arith, stage-utility y (a .g .who) 0 (P .1) (utility-in (a .pack .now) (getD (a .places .now) (321 + a .g .who) 0) (a .work .now) 0 (at-utility .utility .result) (at-table-in .table-in .ensures) (at-utility .utility .ensures)), at-if1 .if1 .left, b)) in
-    let whole = extended th (a .p .foresight .0) (a .g .nesting .0) (a .g .who) (a .g .base) (a .left) s some here told in
+    let here : a .quest .goal .base < utilityTo th (a .quest .goal .who) (s 0) → ⊥ = (λ b. omega (arith, stage-utility y (a .quest .goal .who) 0 (P .1) (utility-in (a .pack .now) (getD (a .places .now) (321 + a .quest .goal .who) 0) (a .work .now) 0 (at-utility .utility .result) (at-table-in .table-in .ensures) (at-utility .utility .ensures)), at-if1 .if1 .left, b)) in
+    let whole = extended th (a .p .foresight .0) (a .quest .goal .nesting .0) (a .quest .goal .who) (a .quest .goal .base) (a .quest .left) s some here told in
     let z′ = slot-same (a .slot) (slot-same {now = r .last .0} (a .slot) y (λ q l. r .ensures .0 .only .low q (omega (arith, l, P .4))) (r .kept .0)) (told .low) (x .kept .1 .1 .1 .0) in
     record {
       sound = whole .sound;
       complete = whole .complete;
       low = λ q l. rem .only .low q (omega (arith, l, P .4)) ∙ told .low q l ∙ r .ensures .0 .only .low q (omega (arith, l, P .4));
       high = λ q l. rem .only .high q l ∙ told .high q l ∙ r .ensures .0 .only .high q l;
-      memory = rem .memory th (a .p .foresight .0) (a .slot + a .p .stride) (omega (arith, P .4)) (z′ .slotted) (told .memory) (note z′ key (noted th (a .p .foresight .0) (a .g .nesting .0) (a .g .who) (a .g .base) (a .left) s some here told (at-mark-of .mark-of .ensures)));
+      memory = rem .memory th (a .p .foresight .0) (a .slot + a .p .stride) (omega (arith, P .4)) (z′ .slotted) (told .memory) (note z′ key (noted th (a .p .foresight .0) (a .quest .goal .nesting .0) (a .quest .goal .who) (a .quest .goal .base) (a .quest .left) s some here told (at-mark-of .mark-of .ensures)));
     }
 
 abbrev extends-by-Inv-loop : extends-by-lts.InvT-loop
-extends-by-Inv-loop pack places p work₀ slot g left whose hope x₀ work x = (length work ≡ length work₀) × Below work₀ work (slot + p .stride) × Above work₀ work workRoom
-    × ((th : Theory) (T : List Node) → Stage th T pack places p work₀ (slotTable p work₀ slot) (slot + p .stride) → Memory th (p .foresight .0) p (slot + p .stride) work₀ → Memory th (p .foresight .0) p (slot + p .stride) work × ((y : ℕ) → y < x → AboveBy th (p .foresight .0) (g .nesting .0) (g .who) (g .base) (suc left) y (meaning (p .characters) T 0) → ⊥))
+extends-by-Inv-loop pack places p work₀ slot quest whose hope x₀ work x = (length work ≡ length work₀) × Below work₀ work (slot + p .stride) × Above work₀ work workRoom
+    × ((th : Theory) (T : List Node) → Stage th T pack places p work₀ (slotTable p work₀ slot) (slot + p .stride) → Memory th (p .foresight .0) p (slot + p .stride) work₀ → Memory th (p .foresight .0) p (slot + p .stride) work × ((y : ℕ) → y < x → AboveBy th (p .foresight .0) (quest .goal .nesting .0) (quest .goal .who) (quest .goal .base) (suc (quest .left)) y (meaning (p .characters) T 0) → ⊥))
 
 abbrev extends-by-μ-loop : extends-by-lts.MeasureT-loop
-extends-by-μ-loop pack places p work₀ slot g left whose hope x₀ work x = p .actions - x
+extends-by-μ-loop pack places p work₀ slot quest whose hope x₀ work x = p .actions - x
 
 extends-by-add-whose : (t : ℕ) → extends-by-lts.Need-add-whose (extends-by-calls t) (extends-by-at t) extends-by.Post extends-by-Inv-loop extends-by-μ-loop
 extends-by-add-whose t c =
@@ -859,7 +859,7 @@ extends-by-loop-holds t c =
     let start = c .before .before .before .before .before .before in
     let P = start .pre .1 in
     let a = start .args in
-    (refl, λ q l. refl, λ q l. refl, λ th T y mem. (mem, λ j l. by-hopeless th (a .p .foresight .0) (a .g .nesting .0) (a .g .who) (a .g .base) (a .left) j (meaning (a .p .characters) T 0) (stage-skipped y (omega (arith, P .4)) (c .next-promising .ensures) j (omega arith) l)))
+    (refl, λ q l. refl, λ q l. refl, λ th T y mem. (mem, λ j l. by-hopeless th (a .p .foresight .0) (a .quest .goal .nesting .0) (a .quest .goal .who) (a .quest .goal .base) (a .quest .left) j (meaning (a .p .characters) T 0) (stage-skipped y (omega (arith, P .4)) (c .next-promising .ensures) j (omega arith) l)))
 
 extends-by-via-requires : (t : ℕ) → extends-by-lts.Need-via-requires (extends-by-calls t) (extends-by-at t) extends-by.Post extends-by-Inv-loop extends-by-μ-loop
 extends-by-via-requires t c κs =
@@ -934,9 +934,9 @@ extends-by-loop-again t c =
           let told = v .ensures th T (slot-same (a .slot) y low long) (rest th T y mem .0) in
           let z = slot-same (a .slot) y (λ q l. told .low q l ∙ low q l) (v .kept .1 .1 .1 .0 ∙ long) in (
             told .memory,
-            below-far (λ x. AboveBy th (a .p .foresight .0) (a .g .nesting .0) (a .g .who) (a .g .base) (suc (a .left)) x (meaning (a .p .characters) T 0) → ⊥)
-                (below-more (λ x. AboveBy th (a .p .foresight .0) (a .g .nesting .0) (a .g .who) (a .g .base) (suc (a .left)) x (meaning (a .p .characters) T 0) → ⊥) (at-loop .loop .x) (rest th T y mem .1) (told .complete (at-if2 .if2 .left)))
-                (λ j f l. by-hopeless th (a .p .foresight .0) (a .g .nesting .0) (a .g .who) (a .g .base) (a .left) j (meaning (a .p .characters) T 0) (stage-skipped z (omega (arith, P .4)) (c .next-promising2 .ensures) j f l)),
+            below-far (λ x. AboveBy th (a .p .foresight .0) (a .quest .goal .nesting .0) (a .quest .goal .who) (a .quest .goal .base) (suc (a .quest .left)) x (meaning (a .p .characters) T 0) → ⊥)
+                (below-more (λ x. AboveBy th (a .p .foresight .0) (a .quest .goal .nesting .0) (a .quest .goal .who) (a .quest .goal .base) (suc (a .quest .left)) x (meaning (a .p .characters) T 0) → ⊥) (at-loop .loop .x) (rest th T y mem .1) (told .complete (at-if2 .if2 .left)))
+                (λ j f l. by-hopeless th (a .p .foresight .0) (a .quest .goal .nesting .0) (a .quest .goal .who) (a .quest .goal .base) (a .quest .left) j (meaning (a .p .characters) T 0) (stage-skipped z (omega (arith, P .4)) (c .next-promising2 .ensures) j f l)),
           ),
     )
 
@@ -1075,8 +1075,8 @@ via-returns-3 t c =
     let played = s .ensures .0 th T z′ (told .memory) in
     let plays = next-plays z′ 0 played f long zero in
     told-by (omega arith) (memory-fewer (a .p) (omega arith)) (λ q l. played .low q l ∙ told .low q l) (λ q l. played .high q l ∙ told .high q l) (at-extends .extends .ensures th (nextTable z′ 0 played f long zero) (next-stage z′ 0 played f long zero) (played .further zero))
-    (λ g. by-from th (a .p .foresight .0) (a .g .nesting .0) (a .g .who) (a .g .base) (suc (a .left)) (a .x) (meaning (a .p .characters) T 0) _ plays (told .sound (not-false (w .result) (at-if1 .if1 .left))) g)
-    (λ g. by-to th (a .p .foresight .0) (a .g .nesting .0) (a .g .who) (a .g .base) (suc (a .left)) (a .x) (meaning (a .p .characters) T 0) _ plays g)
+    (λ g. by-from th (a .p .foresight .0) (a .quest .goal .nesting .0) (a .quest .goal .who) (a .quest .goal .base) (suc (a .quest .left)) (a .x) (meaning (a .p .characters) T 0) _ plays (told .sound (not-false (w .result) (at-if1 .if1 .left))) g)
+    (λ g. by-to th (a .p .foresight .0) (a .quest .goal .nesting .0) (a .quest .goal .who) (a .quest .goal .base) (suc (a .quest .left)) (a .x) (meaning (a .p .characters) T 0) _ plays g)
 
 pub +allowed+explained+explains+extends+extends-by+fine+judged+via-spec : {M : Type 1} → statement M
 +allowed+explained+explains+extends+extends-by+fine+judged+via-spec =
@@ -1125,8 +1125,8 @@ pub +allowed+explained+explains+extends+extends-by+fine+judged+via-spec : {M : T
     (explains-shared-slice-read-utility t)
     (explains-cast-utility t)
     (explains-utility-requires t)
-    (explains-sub-t19 t)
-    (explains-sub-extends t)
+    (explains-sub-nesting t)
+    (explains-sub-left t)
     (explains-extends-requires t)
     (explains-same-length-2 t)
     (explains-returns-2 t))
@@ -1153,7 +1153,7 @@ pub +allowed+explained+explains+extends+extends-by+fine+judged+via-spec : {M : T
     (extends-returns-4 t)
     (extends-same-length-5 t)
     (extends-returns-5 t)
-    (extends-sub-extends-by t)
+    (extends-sub-left t)
     (extends-extends-by-requires t)
     (extends-mark-of-requires t)
     (extends-remember-list-requires t)
