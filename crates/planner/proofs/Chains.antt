@@ -167,11 +167,11 @@ module _ (h : Context) where
         };
       }
 
-  -- what stays below the heads and from the links on
-  pub grown-by : {was now : List ℕ} → getD now (takenAt h) 0 ≡ getD was (takenAt h) 0 → ((q : ℕ) → headsAt h ≤ q → q < stepsAt h → getD now q 0 ≡ getD was q 0) → ((q : ℕ) → linksAt h ≤ q → getD now q 0 ≡ getD was q 0) → Grown h was now
+  -- chains and tables stay
+  pub grown-by : {was now : List ℕ} → getD now (takenAt h) 0 ≡ getD was (takenAt h) 0 → ((q : ℕ) → headsAt h ≤ q → q < stepsAt h → getD now q 0 ≡ getD was q 0) → ((q : ℕ) → tablesAt h ≤ q → getD now q 0 ≡ getD was q 0) → Grown h was now
   grown-by e f g =
-      grown-same (record { taken = omega (arith, e); within = λ l. omega (arith, ap (λ (k : ℕ). h .block * k) e, l); tables = λ q l _. g q (omega (arith, l)) })
-      (λ b l. f (headsAt h + b) (omega arith) (omega (arith, l))) (λ m l. g (linksAt h + m) (omega arith))
+      grown-same (record { taken = omega (arith, e); within = λ l. omega (arith, ap (λ (k : ℕ). h .block * k) e, l); tables = λ q l _. g q l })
+      (λ b l. f (headsAt h + b) (omega arith) (omega (arith, l))) (λ m l. f (linksAt h + m) (omega arith) (omega (arith, l)))
 
   -- where nothing is known no chain has an id
   pub chained-none : {now : List ℕ} → ((q : ℕ) → headsAt h ≤ q → q < stepsAt h → getD now q 0 ≡ 0) → Chained h now

@@ -82,7 +82,7 @@ module _ {th : Theory} {T : List Node} {pack places : List ℕ} {h : Context} {c
     }
 
     -- the memory is empty then
-    module _ {then : List ℕ} (cl : Cleared mid then (h .memory) 4276) (long : length then ≡ length mid) where
+    module _ {then : List ℕ} (cl : Cleared mid then (h .memory) (436 + 9 * h .lists)) (long : length then ≡ length mid) where
       pub judge-ready : Stage th T pack places h then (slotTable h then 0) (0 + h .stride)
       judge-ready = subst (λ (n : ℕ). Stage th T pack places h then (slots.counted h 0 n) (0 + h .stride)) (sym (cl .low 0 (omega (arith, judge-first, x .laid .some)) ∙ y .count)) (stage-same judge-stage (λ q l. cl .low q (omega (arith, l, judge-first))) long)
 

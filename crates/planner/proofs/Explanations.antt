@@ -1,5 +1,5 @@
 -- Explanations over the slots of the work buffer: what each function is told by those it calls. Assumes nothing.
-use Prim.Native.Nat.{ℕ, zero, suc, _+_, _*_, _-_, _<_, _≤_}
+use Prim.Native.Nat.{ℕ, zero, suc, _+_, _*_, _-_, _/_, _<_, _≤_}
 use mathlib.Core.Path.{_≡_, refl, sym, ap, _∙_, subst}
 use mathlib.Core.Bool.{Bool, true, false}
 use mathlib.Core.Logic.{_≢_}
@@ -183,7 +183,7 @@ module _ {th : Theory} {T : List Node} {pack places : List ℕ} {h : Context} {w
   same-rows now = ap (λ (f : ℕ). rowsBy now (f + h .characters) f (h .characters)) (x .same-fluents) ∙ ap (λ (c : ℕ). rowsBy now (t .fluents + c) (t .fluents) c) (x .same-characters) ∙ ap (λ (w : ℕ). rowsBy now w (t .fluents) (t .characters)) (x .tabled .fits .wide)
 
   -- it is known
-  module _ {K : ℕ} {mid : List ℕ} {id next a at : ℕ} (n : Interning h t was mid id) (long : length mid ≡ length was) (read : StepRead mid at id root a) (place : Place 128 (stepsAt h) 4 at) (e : getD mid (at + 3) 0 ≡ next) (m : Memory th K h slot was) where
+  module _ {K : ℕ} {mid : List ℕ} {id next a at : ℕ} (n : Interning h t was mid id) (long : length mid ≡ length was) (read : StepRead mid at id root a) (place : Place (h .lists / 2) (stepsAt h) 4 at) (e : getD mid (at + 3) 0 ≡ next) (m : Memory th K h slot was) where
     abbrev mid-memory : Memory th K h slot mid × (0 < id → HasId h mid t id)
     mid-memory = n .told th K slot (omega (arith, bound)) (x .slotted) m
 

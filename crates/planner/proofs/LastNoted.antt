@@ -5,7 +5,7 @@ use mathlib.Core.Path.{_≡_, sym, ap, _∙_, subst}
 use mathlib.Core.Logic.{_≢_, _↔_, by-cases}
 use mathlib.Core.List.{List}
 use native.Mathlib.Decide.{decLt}
-use native.Mathlib.Nat.{div-add-mod, mod-lt, mul-le-mul-left, mul-le-mul-right}
+use native.Mathlib.Nat.{div-add-mod, mod-lt, mul-le-mul-left}
 use native.Mathlib.Omega.{arith}
 use lib.ListN.{length, getD}
 use Rattle.pack.specs.Syntax.{Node, Theory}
@@ -16,27 +16,27 @@ use Rattle.chart.specs.Chart.{Written}
 use Rattle.chart.specs.Laws.Unique.{unique}
 use Rattle.pack.specs.declared.contents.Contents.{Contents}
 use Rattle.pack.specs.declared.table.Table.{Table}
-use Rattle.transition.specs.Contracts.Stage.{slotRoom, scratchAt}
 use Rattle.planner.specs.declared.limits.Context.{Context}
 use Rattle.planner.specs.declared.limits.Foresight.{Foresight}
 use Rattle.planner.specs.declared.entry.Key.{Key}
-use Rattle.planner.specs.Inner.Layout.{laidOut}
+use Rattle.planner.specs.Inner.Layout.{entries, roomBehind, laidOut}
 use Rattle.planner.specs.Inner.Lists.{slotTable}
 use Rattle.planner.specs.Inner.Memory.{idAt, stepsAt, keptTable, slotId, HasId, Chained, Memory, entryAt, stepAt, Place, Before, InSlot, Fits, Identified, Storable, FactRead, FactKnown, Recalls, Notes, StepRead, StepKnown, Noted, Slot, Again, LeftNoted, StepOnce}
 use Rattle.planner.proofs.Chains.{id-once}
+use Rattle.planner.proofs.Slots.{entries-fit, room-left}
 use Rattle.planner.proofs.TrueMemory.{table-size, key-same, row-apart, step-here, step-there}
 
 -- as a call lays the work buffer out, every table fits
-pub tables-fit : (c : Contents) (k : Foresight) (slots : ℕ) {work : List ℕ} {t : Table} → (c .fluents ≤ 24) × (c .characters ≤ 6) × (slots ≤ 36) → Before (laidOut c k slots) work t → Fits (laidOut c k slots) t
+pub tables-fit : (c : Contents) (k : Foresight) (slots : ℕ) {work : List ℕ} {t : Table} → (c .fluents ≤ 24) × (c .characters ≤ 6) × (slots ≤ 30) → Before (laidOut c k slots) work t → Fits (laidOut c k slots) t
 tables-fit c k slots {work} {t} (fluents, characters, few) b =
-    let size = slotRoom (c .fluents + c .characters) in
     let block = laidOut c k slots .block in
     let n = t .nodes * t .width in
-    let room = scratchAt - 4532 - slots * size in
-    let most : slots * size ≤ 36 * size = mul-le-mul-right size few in
-    let all = div-add-mod room 255 in
-    let rest : room % 255 < 255 = mod-lt room (omega arith) in
-    let wide : 4 ≤ block = omega (arith, most, all, rest) in
+    let room = roomBehind c slots in
+    let left = room - 436 - 9 * entries (c .actions) room in
+    let fits = entries-fit (c .actions) room (room-left c k slots (fluents, characters, few)) in
+    let all = div-add-mod left 255 in
+    let rest : left % 255 < 255 = mod-lt left (omega arith) in
+    let wide : 4 ≤ block = omega (arith, fits, all, rest) in
     by-cases (decLt (n / block) 255) (λ l. l)
     (λ l.
     let over : 255 ≤ n / block = omega (arith, l) in
@@ -100,7 +100,7 @@ module _ (h : Context) where
     stood {next} k = step-here h (x .interning .stands) here (subst (λ (work : List ℕ). StepKnown h work t root a next) (sym (x .known (k .entry .some))) k)
 
     -- it is there
-    pub once-again : {now : List ℕ} {slot next r : ℕ} → Place 128 (stepsAt h) 4 at → Slot h was slot → InSlot h was t slot → StepRead mid at id root a → getD mid (at + 3) 0 ≡ next → Again h next slot mid now r → StepOnce h t root a slot was now r
+    pub once-again : {now : List ℕ} {slot next r : ℕ} → Place (h .lists / 2) (stepsAt h) 4 at → Slot h was slot → InSlot h was t slot → StepRead mid at id root a → getD mid (at + 3) 0 ≡ next → Again h next slot mid now r → StepOnce h t root a slot was now r
     once-again {now} {slot} {next} {r} place s i read e y =
         let last : (q : ℕ) → at ≤ q → getD now q 0 ≡ getD mid q 0 = λ q l. y .others q (omega (arith, l, place .is)) (λ z. omega (arith, z, l, place .is)) in
         let same : slotId h now t ≡ id = y .others (idAt h (t .rows)) (omega arith) (row-apart h s i) ∙ x .interning .stands in

@@ -45,7 +45,7 @@ module _ {T : List Node} {pack : List ℕ} {first nodes : ℕ} {h : Context} {wo
       lay-down = let room = length-set mid′ 0 r ∙ long ∙ y .long in (omega (arith, merged-size), omega (arith, merged-size, room, x .room), omega (arith, merged-size, room, x .room))
 
       -- the memory is emptied
-      module _ {now then : List ℕ} (c : PartCopied (set mid′ 0 r) now 2400 1 (r * w)) (whole : Cleared now then (h .memory) 4276) where
+      module _ {now then : List ℕ} (c : PartCopied (set mid′ 0 r) now 2400 1 (r * w)) (whole : Cleared now then (h .memory) (436 + 9 * h .lists)) where
         low : (q : ℕ) → q < h .memory → getD then q 0 ≡ getD now q 0
         low = whole .low
 

@@ -112,8 +112,12 @@ part-most n d l = let one : 1 ≤ d = omega (arith, l) in omega (arith, div-add-
 pub placed : (count : ℕ) → 0 < count → (first size x : ℕ) → Place count first size (first + size * (x % count))
 placed count some first size x = record { number = x % count; few = mod-lt x some; is = refl }
 
+-- so many bytes stand before the tables
+pub fixed : {h : Context} → Laid h → h .tables - h .memory ≡ 436 + 9 * h .lists
+fixed laid = omega (arith, laid .tabled)
+
 -- ids, steps and facts that are forgotten
-pub emptied : (h : Context) {was now : List ℕ} → Cleared was now (h .memory) 4276 → (q : ℕ) → h .memory ≤ q → q < linksAt h → getD now q 0 ≡ 0
+pub emptied : (h : Context) {was now : List ℕ} → Cleared was now (h .memory) (436 + 9 * h .lists) → (q : ℕ) → h .memory ≤ q → q < tablesAt h → getD now q 0 ≡ 0
 emptied h {was} {now} x q low high = let y : q ≡ h .memory + (q - (h .memory)) = omega (arith, low) in ap (λ (q : ℕ). getD now q 0) y ∙ x .clear (q - (h .memory)) (omega (arith, low, high))
 
 module _ (h : Context) where
@@ -213,8 +217,8 @@ module _ (h : Context) where
     -- the memory where tables that are kept and all but some entries stay
     pub memory-but : {th : Theory} {K limit : ℕ} → ((q : ℕ) → q < limit → getD now q 0 ≡ getD was q 0)
         → ((i : ℕ) → h .stride * i + h .stride ≤ limit → (getD now (idAt h (h .stride * i + 1)) 0 ≡ getD was (idAt h (h .stride * i + 1)) 0) ⊎ SlotEntry h now i)
-        → ((i : ℕ) → i < 128 → ((q : ℕ) → stepsAt h + 4 * i ≤ q → q < stepsAt h + 4 * i + 4 → getD now q 0 ≡ getD was q 0) ⊎ StepEntry th h now (stepsAt h + 4 * i))
-        → ((i : ℕ) → i < 512 → ((q : ℕ) → factsAt h + 7 * i ≤ q → q < factsAt h + 7 * i + 7 → getD now q 0 ≡ getD was q 0) ⊎ FactEntry th K h now (factsAt h + 7 * i)) → Memory th K h limit was → Memory th K h limit now
+        → ((i : ℕ) → i < h .lists / 2 → ((q : ℕ) → stepsAt h + 4 * i ≤ q → q < stepsAt h + 4 * i + 4 → getD now q 0 ≡ getD was q 0) ⊎ StepEntry th h now (stepsAt h + 4 * i))
+        → ((i : ℕ) → i < h .lists → ((q : ℕ) → factsAt h + 7 * i ≤ q → q < factsAt h + 7 * i + 7 → getD now q 0 ≡ getD was q 0) ⊎ FactEntry th K h now (factsAt h + 7 * i)) → Memory th K h limit was → Memory th K h limit now
     memory-but low a b c m = record {
       laid = m .laid;
       within = g .wider .within (m .within);
@@ -225,7 +229,7 @@ module _ (h : Context) where
     }
 
     -- entries all stay
-    pub memory-quiet : {th : Theory} {K limit : ℕ} → ((q : ℕ) → q < limit → getD now q 0 ≡ getD was q 0) → ((q : ℕ) → h .memory ≤ q → q < takenAt h → getD now q 0 ≡ getD was q 0) → ((q : ℕ) → stepsAt h ≤ q → q < linksAt h → getD now q 0 ≡ getD was q 0) → Memory th K h limit was → Memory th K h limit now
+    pub memory-quiet : {th : Theory} {K limit : ℕ} → ((q : ℕ) → q < limit → getD now q 0 ≡ getD was q 0) → ((q : ℕ) → h .memory ≤ q → q < takenAt h → getD now q 0 ≡ getD was q 0) → ((q : ℕ) → stepsAt h ≤ q → q < tablesAt h → getD now q 0 ≡ getD was q 0) → Memory th K h limit was → Memory th K h limit now
     memory-quiet low ids mid = memory-but low (λ i l. inl (ids (idAt h (h .stride * i + 1)) (omega arith) (omega arith))) (λ i l. inl (λ q a b. mid q (omega (arith, a)) (omega (arith, b, l)))) (λ i l. inl (λ q a b. mid q (omega (arith, a)) (omega (arith, b, l))))
 
   -- only slots and the scratch change
@@ -240,7 +244,7 @@ module _ (h : Context) where
       low (λ q l g. mid q l (omega (arith, g, room))) (λ q l g. mid q (omega (arith, l)) (omega (arith, g, room))) m
 
   -- nothing is known
-  pub memory-clear : {th : Theory} {K limit : ℕ} {now : List ℕ} → Laid h → ((q : ℕ) → h .memory ≤ q → q < linksAt h → getD now q 0 ≡ 0) → Memory th K h limit now
+  pub memory-clear : {th : Theory} {K limit : ℕ} {now : List ℕ} → Laid h → ((q : ℕ) → h .memory ≤ q → q < tablesAt h → getD now q 0 ≡ 0) → Memory th K h limit now
   memory-clear laid f = record {
     laid = laid;
     within = omega (arith, ap (λ (k : ℕ). h .block * k) (f (takenAt h) (omega arith) (omega arith)), laid .room);
@@ -359,7 +363,7 @@ module _ (h : Context) where
         }
 
     -- all else is forgotten first
-    pub placed-anew : {was mid cleared now : List ℕ} {r : ℕ} → Laid h → Only h was mid → Cleared mid cleared (h .memory) 4276 → Placed h t (set cleared (h .memory + 49) 1) now r → Placed h t was now r
+    pub placed-anew : {was mid cleared now : List ℕ} {r : ℕ} → Laid h → Only h was mid → Cleared mid cleared (h .memory) (436 + 9 * h .lists) → Placed h t (set cleared (h .memory + 49) 1) now r → Placed h t was now r
     placed-anew {was} {mid} {cleared} {now} laid o c x =
         let other : (q : ℕ) → q ≢ h .memory + 49 → getD (set cleared (h .memory + 49) 1) q 0 ≡ getD cleared q 0 = λ q n. getD-set-other cleared (h .memory + 49) q 1 0 n in
         let heads : (q : ℕ) → headsAt h ≤ q → q < stepsAt h → getD (set cleared (h .memory + 49) 1) q 0 ≡ 0 = λ q l g. other q (λ z. omega (arith, z, l)) ∙ emptied h c q (omega (arith, l)) (omega (arith, g)) in
@@ -527,7 +531,7 @@ module _ (h : Context) where
       pub recalled-nothing : {k : Key} → Recalled h t k was was 0
       recalled-nothing = record { only = record { low = λ q l. refl; high = λ q l. refl }; told = λ p K limit few s m. (m, fact-none p K _ _) }
 
-      recalled-true : {mid : List ℕ} {k : Key} {r a : ℕ} → length mid ≡ length was → Sought h t was mid r → 0 < r → Place 512 (factsAt h) 7 a → getD mid (a + 6) 0 ≡ r → keyAt mid a ≡ k → Recalled h t k was mid (getD mid a 0)
+      recalled-true : {mid : List ℕ} {k : Key} {r a : ℕ} → length mid ≡ length was → Sought h t was mid r → 0 < r → Place (h .lists) (factsAt h) 7 a → getD mid (a + 6) 0 ≡ r → keyAt mid a ≡ k → Recalled h t k was mid (getD mid a 0)
       recalled-true {mid} {k} {r} {a} long x some place e key = record {
         only = x .only;
         told = λ p K limit few s m.
@@ -538,7 +542,7 @@ module _ (h : Context) where
             (m′, fact-same p K refl key (rows-mean (h .characters) (ap (λ (n : ℕ). tableOf (keptTable h mid n) mid) e) ∙ named-rows (before-now long b) (named some) ∙ rows-mean (t .characters) (before-same mid b (x .only .low))) here);
       }
 
-      pub recalled : {mid : List ℕ} {k : Key} {r a : ℕ} → length mid ≡ length was → Sought h t was mid r → 0 < r → a ≡ entryAt h r k → Place 512 (factsAt h) 7 a → getD mid (a + 6) 0 ≡ r → keyAt mid a ≡ k → Recalled h t k was mid (getD mid a 0) × Recalls h t k was mid (getD mid a 0)
+      pub recalled : {mid : List ℕ} {k : Key} {r a : ℕ} → length mid ≡ length was → Sought h t was mid r → 0 < r → a ≡ entryAt h r k → Place (h .lists) (factsAt h) 7 a → getD mid (a + 6) 0 ≡ r → keyAt mid a ≡ k → Recalled h t k was mid (getD mid a 0) × Recalls h t k was mid (getD mid a 0)
       recalled {mid} {k} {r} {a} long x some at place e key = (
         recalled-true long x some place e key,
         record { found = λ m f. fact-here x at f .marked; none = λ f. absurd (f (getD mid a 0) (fact-there x at (record { some = some; marked = refl; key = key; read = e }))); same = x .known },
@@ -554,11 +558,11 @@ module _ (h : Context) where
       pub remembered-nothing : {m : ℕ} {k : Key} → Remembered h t m k was was
       remembered-nothing = record { only = record { low = λ q l. refl; high = λ q l. refl }; memory = λ p K limit few s y f. y }
 
-      module _ {mid put : List ℕ} {m r a : ℕ} {k : Key} (long : length mid ≡ length was) (long′ : length put ≡ length mid) (x : Identified h t was mid r) (some : 0 < r) (at : a ≡ entryAt h r k) (place : Place 512 (factsAt h) 7 a) (key : KeyPut mid put a m k) where
+      module _ {mid put : List ℕ} {m r a : ℕ} {k : Key} (long : length mid ≡ length was) (long′ : length put ≡ length mid) (x : Identified h t was mid r) (some : 0 < r) (at : a ≡ entryAt h r k) (place : Place (h .lists) (factsAt h) 7 a) (key : KeyPut mid put a m k) where
         abbrev noted : List ℕ
         noted = set put (a + 6) r
 
-        bounds : (factsAt h ≤ a) × (a + 7 ≤ linksAt h)
+        bounds : (factsAt h ≤ a) × (a + 7 ≤ tablesAt h)
         bounds = (omega (arith, place .is), omega (arith, place .is, place .few))
 
         low : (q : ℕ) → q < a → getD noted q 0 ≡ getD mid q 0
@@ -681,7 +685,7 @@ module _ (h : Context) where
   noted-none e = record { stands = λ z. absurd (omega (arith, e, z)); ids = λ q l. refl; only = record { low = λ q l. refl; high = λ q l. refl }; memory = λ p K limit few s m f. m }
 
   -- a step put down
-  module _ {t : Table} {was now : List ℕ} {id root a next at : ℕ} (b : Before h was t) (e : slotId h was t ≡ id) (some : 0 < id) (here : at ≡ stepAt h id root a) (place : Place 128 (stepsAt h) 4 at) (put : StepPut was now at id root a next) where
+  module _ {t : Table} {was now : List ℕ} {id root a next at : ℕ} (b : Before h was t) (e : slotId h was t ≡ id) (some : 0 < id) (here : at ≡ stepAt h id root a) (place : Place (h .lists / 2) (stepsAt h) 4 at) (put : StepPut was now at id root a next) where
     step-bounds : (stepsAt h ≤ at) × (at + 4 ≤ factsAt h)
     step-bounds = (omega (arith, place .is), omega (arith, place .is, place .few))
 

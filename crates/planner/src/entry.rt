@@ -5,7 +5,8 @@ use crate::intern::id_of;
 use crate::intern::known_id;
 use crate::limits::Context;
 use crate::limits::Nesting;
-use crate::regions::LISTS;
+use crate::limits::remainder;
+use crate::regions::STEPS;
 use crate::regions::WORTH;
 use crate::steps::steps_made;
 use pack::number::wide;
@@ -13,9 +14,8 @@ ghost use mathlib.Core.Path.{_≡_};
 ghost use mathlib.Core.Bool.{true, false};
 ghost use Prim.Native.Nat.{_+_, _*_, _<_, _≤_};
 ghost use lib.ListN.{length};
-ghost use Rattle.transition.specs.Contracts.Stage.{scratchAt};
 ghost use Rattle.planner.specs.Inner.Lists.{slotTable};
-ghost use Rattle.planner.specs.Inner.Memory.{Before, Place, Storable, KeyPut};
+ghost use Rattle.planner.specs.Inner.Memory.{Laid, Before, Place, Storable, KeyPut};
 ghost use Rattle.planner.specs.Inner.Memory.{Recalled, Recalls, Remembered, Notes, Roomy};
 ghost use Rattle.planner.specs.Inner.Memory.{factsAt, entryAt, goalKey, deedKey, keyAt};
 
@@ -71,11 +71,11 @@ pub fn deed_key(d: Deed, row: usize) -> Key
 
 // The place of the entry for an id and a key.
 pub fn entry_at(p: Context, id: usize, k: Key) -> usize
-    requires { ⌜ (p .memory ≤ scratchAt) × (id < 256) ⌝ }
-    ensures { λ r. ⌜ (r ≡ entryAt p id k) × Place 512 (factsAt p) 7 r ⌝ }
+    requires { ⌜ Laid p × (id < 256) ⌝ }
+    ensures { λ r. ⌜ (r ≡ entryAt p id k) × Place (p .lists) (factsAt p) 7 r ⌝ }
 {
     let h = id * 11 + k.who % 8 * 37 + k.number % 32 * 5 + k.nesting % 4;
-    p.memory + LISTS + 7 * (h % 512)
+    p.memory + STEPS + 2 * p.lists + 7 * remainder(h, p.lists)
 }
 
 // Whether an entry has a key.

@@ -11,7 +11,6 @@ use crate::regions::HEADS;
 use crate::regions::LINKS;
 use crate::regions::OVERFLOWED;
 use crate::regions::SLOTS;
-use crate::regions::TABLES;
 use crate::regions::TAKEN;
 use chart::bytes::clear;
 use chart::bytes::copy_part;
@@ -90,7 +89,7 @@ pub fn has_id(work: &[u8], p: Context, t: Table, id: usize) -> bool
     if p.block * wide(work[p.memory + TAKEN]) + p.block <= p.block * id + n {
         return false;
     }
-    let at = p.memory + TABLES - p.block + p.block * id;
+    let at = p.tables - p.block + p.block * id;
     if wide(work[at]) != t.nodes {
         return false;
     }
@@ -109,7 +108,7 @@ pub fn store(work: &mut [u8], p: Context, t: Table) -> usize
     if BLOCKS < taken + more {
         return 0;
     }
-    let at = p.memory + TABLES + p.block * taken;
+    let at = p.tables + p.block * taken;
     work[at] = t.nodes as u8;
     copy_part(work, t.rows, at + 1, n);
     work[p.memory + TAKEN] = (taken + more) as u8;
@@ -125,7 +124,7 @@ pub fn keep(work: &mut [u8], p: Context, t: Table) -> usize
     if id != 0 {
         return id;
     }
-    clear(work, p.memory, LINKS);
+    clear(work, p.memory, p.tables - p.memory);
     work[p.memory + OVERFLOWED] = 1;
     store(work, p, t)
 }

@@ -1,13 +1,15 @@
 // The limits: separate counters with one meaning each, and a type each, so that none is passed as another.
 use crate::regions::BLOCKS;
-use crate::regions::TABLES;
+use crate::regions::STEPS;
 use chart::call::both_at_most;
 use pack::contents::Contents;
 use transition::regions::NUMBERS;
 ghost use mathlib.Core.Path.{_≡_};
 ghost use mathlib.Core.Bool.{_&&_};
-ghost use Prim.Native.Nat.{_≤_};
-ghost use Rattle.planner.specs.Inner.Layout.{laidOut};
+ghost use mathlib.Core.Logic.{_⊎_};
+ghost use Prim.Native.Nat.{_%_, _≤_};
+ghost use Rattle.planner.specs.Inner.Memory.{Sized};
+ghost use Rattle.planner.specs.Inner.Layout.{entries, laidOut};
 ghost use Rattle.planner.specs.Replies.{storyLimit, foresightLimit, nestingLimit};
 
 // The story limit T: how many actions an ending may have, 1 to 8.
@@ -26,7 +28,8 @@ pub struct Limits {
 }
 
 // What stays the same through a call: a pack's counts, the foresight limit, how many bytes a slot of the work buffer
-// takes, where the memory begins behind the slots, and how many bytes a block takes, of which tables are kept in it.
+// takes, where the memory begins behind the slots, how many entries it has for what is known of lists (and half as many
+// for steps), where its tables begin, and how many bytes a block takes, of which they are kept in.
 pub struct Context {
     pub actions: usize,
     pub triggers: usize,
@@ -35,7 +38,36 @@ pub struct Context {
     pub foresight: Foresight,
     pub stride: usize,
     pub memory: usize,
+    pub lists: usize,
+    pub tables: usize,
     pub block: usize,
+}
+
+// How many entries there are: few for packs of few actions, of which little is known, since the entries are emptied at
+// the start; many where there is room. Nothing that is answered depends on it.
+pub fn entries(actions: usize, room: usize) -> usize
+    ensures { λ r. ⌜ r ≡ entries actions room ⌝ }
+{
+    if actions < 12 {
+        return 256;
+    }
+    if room < 24000 {
+        return 512;
+    }
+    1024
+}
+
+// The remainder of a number by so many entries, each of which may be a power of two.
+pub fn remainder(h: usize, count: usize) -> usize
+    requires { ⌜ (count ≡ 128) ⊎ Sized count ⌝ }
+    ensures { λ r. ⌜ r ≡ h % count ⌝ }
+{
+    match count {
+        128 => h % 128,
+        256 => h % 256,
+        512 => h % 512,
+        _ => h % 1024,
+    }
 }
 
 // The context of a call that wants so many slots: each has room for a count and for 32 rows of the pack's width. The
@@ -46,7 +78,9 @@ pub fn laid_out(c: Contents, k: Foresight, slots: usize) -> Context
 {
     let stride = 1 + 32 * (c.fluents + c.characters);
     let memory = slots * stride;
-    let block = (NUMBERS - TABLES - memory) / BLOCKS;
+    let room = NUMBERS - memory;
+    let lists = entries(c.actions, room);
+    let block = (room - STEPS - 9 * lists) / BLOCKS;
     Context {
         actions: c.actions,
         triggers: c.triggers,
@@ -55,6 +89,8 @@ pub fn laid_out(c: Contents, k: Foresight, slots: usize) -> Context
         foresight: k,
         stride,
         memory,
+        lists,
+        tables: memory + STEPS + 9 * lists,
         block,
     }
 }

@@ -17,18 +17,12 @@ pub const MADE_SINCE: usize = 50;
 // The heads of chains, a byte for each hash: the id of the table that was kept last of those with that hash.
 pub const HEADS: usize = 52;
 
-// What is known of steps, 128 entries of 4 bytes.
-pub const STEPS: usize = 180;
+// The links of chains, a byte for each id: the id of the table that was kept before it of those with its hash.
+pub const LINKS: usize = 180;
 
-// What is known of lists, 512 entries of 7 bytes.
-pub const LISTS: usize = 692;
-
-// The links of chains, a byte for each id: the id of the table that was kept before it of those with its hash. Where
-// nothing is known all before them is empty; a link is written before its id stands on a chain.
-pub const LINKS: usize = 4276;
-
-// The tables that are kept, in blocks: so many bytes stand before them.
-pub const TABLES: usize = 4532;
+// What is known of steps, entries of 4 bytes; then what is known of lists, twice as many entries of 7 bytes; then the
+// tables that are kept, in blocks. `limits::laid_out` says how many entries there are.
+pub const STEPS: usize = 436;
 
 // How many blocks there are, as many as an id of one byte can tell apart.
 pub const BLOCKS: usize = 255;

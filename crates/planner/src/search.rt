@@ -24,7 +24,6 @@ use crate::limits::searchable;
 use crate::prune::Hope;
 use crate::prune::next_promising;
 use crate::reach::within_reach;
-use crate::regions::LINKS;
 use crate::steps::known_step;
 use crate::steps::steps_made;
 use chart::bytes::clear;
@@ -307,7 +306,7 @@ pub fn lay_start(pack: &[u8], nodes: Nodes, p: Context, work: &mut [u8])
     let rows = merge_table(work, nodes.count, width, p.fluents, p.characters);
     work[0] = rows as u8;
     copy_part(work, MERGED, 1, rows * width);
-    clear(work, p.memory, LINKS);
+    clear(work, p.memory, p.tables - p.memory);
 }
 
 // The search from what the first of the nodes means. The work buffer is cleared.

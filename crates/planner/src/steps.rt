@@ -5,10 +5,10 @@ use crate::intern::id_of;
 use crate::intern::intern_slot;
 use crate::intern::table_in;
 use crate::limits::Context;
+use crate::limits::remainder;
 use crate::regions::MADE_SINCE;
 use crate::regions::SLOTS;
 use crate::regions::STEPS;
-use crate::regions::TABLES;
 use chart::bytes::copy_part;
 use pack::number::wide;
 use pack::refusal::CONDITION;
@@ -17,21 +17,21 @@ use transition::step::Move;
 use transition::step::step_slot;
 ghost use mathlib.Core.Path.{_≡_};
 ghost use mathlib.Core.Bool.{true, false};
-ghost use Prim.Native.Nat.{_+_, _*_, _<_, _≤_};
+ghost use Prim.Native.Nat.{_+_, _*_, _/_, _<_, _≤_};
 ghost use lib.ListN.{length, getD};
 ghost use Rattle.chart.specs.Call.{workRoom};
 ghost use Rattle.planner.specs.Inner.Lists.{slotTable};
-ghost use Rattle.planner.specs.Inner.Memory.{stepsAt, stepAt, Before, Kept, Place, StepRead, StepPut};
+ghost use Rattle.planner.specs.Inner.Memory.{Laid, stepsAt, stepAt, Before, Kept, Place, StepRead, StepPut};
 ghost use Rattle.planner.specs.Inner.Memory.{Noted, Slot, Again, LeftNoted, StepOnce, Unasked, Roomy};
 ghost use Rattle.planner.specs.Inner.Explain.{Steppable, Advances};
 ghost use Rattle.transition.specs.Contracts.Stage.{scratchAt};
 
 // The place of the entry for an action in a row of the table of an id.
 pub fn step_at(p: Context, id: usize, root: usize, action: usize) -> usize
-    requires { ⌜ (p .memory ≤ scratchAt) × (id < 256) × (root < 256) × (action < 256) ⌝ }
-    ensures { λ r. ⌜ (r ≡ stepAt p id root action) × Place 128 (stepsAt p) 4 r ⌝ }
+    requires { ⌜ Laid p × (id < 256) × (root < 256) × (action < 256) ⌝ }
+    ensures { λ r. ⌜ (r ≡ stepAt p id root action) × Place (p .lists / 2) (stepsAt p) 4 r ⌝ }
 {
-    p.memory + STEPS + 4 * ((id * 11 + root * 5 + action) % 128)
+    p.memory + STEPS + 4 * remainder(id * 11 + root * 5 + action, p.lists / 2)
 }
 
 // Whether an entry is that one.
@@ -83,7 +83,7 @@ pub fn again(work: &mut [u8], p: Context, next: usize, slot: usize) -> u8
     if next == 0 {
         return CONDITION;
     }
-    let from = p.memory + TABLES - p.block + p.block * next;
+    let from = p.tables - p.block + p.block * next;
     let nodes = wide(work[from]);
     copy_part(work, from, slot, 1 + nodes * (p.fluents + p.characters));
     work[p.memory + (slot + 1) % SLOTS] = next as u8;

@@ -7,7 +7,6 @@ use crate::limits::Foresight;
 use crate::limits::Nesting;
 use crate::limits::explainable;
 use crate::limits::laid_out;
-use crate::regions::LINKS;
 use chart::bytes::clear;
 use chart::call::WORK_ROOM;
 use chart::call::check_lent;
@@ -62,7 +61,7 @@ pub fn verdict_in(
         (d .action) (p .foresight .0) (d .nesting .0) (now (work .entry)) (now (work .exit)) r ⌝ }
 {
     copy_table(chart, 1, nodes, work, 0, p.fluents, p.characters);
-    clear(work, p.memory, LINKS);
+    clear(work, p.memory, p.tables - p.memory);
     let verdict = explained(pack, places, p, work, 0, d);
     clear(work, 0, WORK_ROOM);
     verdict

@@ -1,7 +1,7 @@
 -- What is known of states, behind the slots: tables that are kept, each under a number that is its id, and
 -- what is known of steps and lists by these ids. Every entry is true, whatever it is replaced by. Assumes nothing.
 use mathlib.Core.Path.{_≡_}
-use mathlib.Core.Logic.{_≢_}
+use mathlib.Core.Logic.{_≢_, _⊎_}
 use mathlib.Core.List.{List}
 use Prim.Native.Nat.{ℕ, zero, suc, _+_, _*_, _-_, _/_, _%_, _<_, _≤_}
 use lib.ListN.{length, getD}
@@ -19,19 +19,25 @@ use Rattle.planner.specs.declared.entry.Key.{Key}
 use Rattle.planner.specs.Inner.Lists.{slotTable, Above, ExplainedBy, Ends}
 use Rattle.transition.specs.Contracts.Stage.{slotRoom, scratchAt}
 
+-- how many entries there may be for what is known of lists
+abbrev pub Sized : ℕ → Type 0
+Sized n = (n ≡ 256) ⊎ ((n ≡ 512) ⊎ (n ≡ 1024))
+
 -- slots of `stride` bytes from the buffer's start on, at most 30, each with room for a count and 32 rows; the memory
--- behind them, with 255 blocks for tables, and a step's scratch behind that
+-- behind them, with entries for what is known and 255 blocks for tables, and a step's scratch behind that
 pub record Laid (h : Context) : Type 0 where
   pub narrow : h .fluents + h .characters ≤ 30
   pub wide : slotRoom (h .fluents + h .characters) ≡ h .stride
   pub some : 1 < h .stride
   pub few : h .memory ≤ 30 * h .stride
   pub blocks : 0 < h .block
-  pub room : h .memory + 4532 + 255 * h .block ≤ scratchAt
+  pub entries : Sized (h .lists)
+  pub tabled : h .tables ≡ h .memory + 436 + 9 * h .lists
+  pub room : h .memory + 436 + 9 * h .lists + 255 * h .block ≤ scratchAt
 
 -- it begins with the id of the table in each slot, found by where its rows begin: slot after slot the remainder is one
 -- more; then how many blocks are taken; whether all has been forgotten once, and how many steps were made, of which
--- nothing is asked; then the heads of chains, steps, lists, the links of chains, and tables
+-- nothing is asked; then the heads and the links of chains, steps, half as many as lists, lists, and tables
 abbrev pub idAt : Context → (rows : ℕ) → ℕ
 idAt h rows = h .memory + rows % 32
 
@@ -45,21 +51,21 @@ Roomy h work = getD work (h .memory + 49) 0 ≡ 0
 abbrev pub headsAt : Context → ℕ
 headsAt h = h .memory + 52
 
+abbrev pub linksAt : Context → ℕ
+linksAt h = h .memory + 180
+
 abbrev pub stepsAt : Context → ℕ
-stepsAt h = h .memory + 180
+stepsAt h = h .memory + 436
 
 abbrev pub factsAt : Context → ℕ
-factsAt h = h .memory + 692
-
-abbrev pub linksAt : Context → ℕ
-linksAt h = h .memory + 4276
+factsAt h = h .memory + 436 + 2 * h .lists
 
 abbrev pub tablesAt : Context → ℕ
-tablesAt h = h .memory + 4532
+tablesAt h = h .memory + 436 + 9 * h .lists
 
 -- the table of an id begins with a block, that of 1 with the first
 abbrev pub keptAt : Context → ℕ → ℕ
-keptAt h n = h .memory + 4532 - h .block + h .block * n
+keptAt h n = h .memory + 436 + 9 * h .lists - h .block + h .block * n
 
 abbrev pub keptTable : Context → List ℕ → ℕ → Table
 keptTable h work n = slotTable h work (keptAt h n)
@@ -182,8 +188,8 @@ pub record Memory (p : Theory) (foresight : ℕ) (h : Context) (limit : ℕ) (wo
   pub within : tablesAt h + h .block * getD work (takenAt h) 0 ≤ scratchAt
   pub chains : Chained h work
   pub slots : (i : ℕ) → h .stride * i + h .stride ≤ limit → SlotEntry h work i
-  pub steps : (i : ℕ) → i < 128 → StepEntry p h work (stepsAt h + 4 * i)
-  pub facts : (i : ℕ) → i < 512 → FactEntry p foresight h work (factsAt h + 7 * i)
+  pub steps : (i : ℕ) → i < h .lists / 2 → StepEntry p h work (stepsAt h + 4 * i)
+  pub facts : (i : ℕ) → i < h .lists → FactEntry p foresight h work (factsAt h + 7 * i)
 
 -- the id of the table in a slot, or 0 where it has none
 abbrev pub slotId : Context → List ℕ → Table → ℕ
@@ -191,10 +197,10 @@ slotId h work t = getD work (idAt h (t .rows)) 0
 
 -- where a fact stands by an id and a key, and a step by the id of a table, a row and an action
 abbrev pub entryAt : Context → (id : ℕ) → Key → ℕ
-entryAt h id k = factsAt h + 7 * ((id * 11 + k .who % 8 * 37 + k .number % 32 * 5 + k .nesting % 4) % 512)
+entryAt h id k = factsAt h + 7 * ((id * 11 + k .who % 8 * 37 + k .number % 32 * 5 + k .nesting % 4) % h .lists)
 
 abbrev pub stepAt : Context → (id root action : ℕ) → ℕ
-stepAt h id root a = stepsAt h + 4 * ((id * 11 + root * 5 + a) % 128)
+stepAt h id root a = stepsAt h + 4 * ((id * 11 + root * 5 + a) % (h .lists / 2))
 
 -- where an entry begins, of so many of a size
 pub record Place (count first size a : ℕ) : Type 0 where

@@ -19,7 +19,7 @@ use Rattle.planner.specs.Search.{Answer, Searched}
 use Rattle.planner.specs.Replies.{answerReply}
 use Rattle.planner.specs.Promises.{searchSaid, summary}
 use Rattle.planner.specs.Inner.Lists.{slotTable, Ends}
-use Rattle.planner.specs.Inner.Memory.{Laid, linksAt, Memory}
+use Rattle.planner.specs.Inner.Memory.{Laid, tablesAt, Memory}
 use Rattle.planner.specs.Inner.Explain.{Stage, Free}
 use Rattle.planner.specs.Ending.{authorUtility}
 
@@ -144,7 +144,7 @@ Layable pack first nodes h work = (T : List Node) × Laying T pack first nodes h
 pub record LaidStart (T : List Node) (h : Context) (was now : List ℕ) : Type 0 where
   pub few : getD now 0 0 ≤ 32
   pub starts : Starts (h .characters) (meaning (h .characters) T 0) (tableOf (slotTable h now 0) now)
-  pub empty : (q : ℕ) → h .memory ≤ q → q < linksAt h → getD now q 0 ≡ 0
+  pub empty : (q : ℕ) → h .memory ≤ q → q < tablesAt h → getD now q 0 ≡ 0
   pub high : Above was now workRoom
 
 -- what the search from a pack's nodes is lent: a theory, found in the pack, its nodes, and room, with a slot for each

@@ -20,7 +20,7 @@ recall-spec =
     (λ c κs.
     let at-known-id = c .before .before .before in
     let start = at-known-id .before .before .before in
-    (omega (arith, start .pre .laid .room), at-known-id .known-id .ensures .small))
+    (start .pre .laid, at-known-id .known-id .ensures .small))
     (λ c.
     let start = c .before .before .before .before .before .before .before in
     let p = c .entry-at .ensures .1 in

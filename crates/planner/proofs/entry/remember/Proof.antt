@@ -17,7 +17,7 @@ remember-spec =
     (λ c κs.
     let at-id-of = c .before .before .before .before in
     let start = at-id-of .before .before .before in
-    (omega (arith, start .pre .laid .room), at-id-of .id-of .ensures .interning .small))
+    (start .pre .laid, at-id-of .id-of .ensures .interning .small))
     (λ c κs.
     let at-entry-at = c .before in
     let at-if1 = at-entry-at .before in

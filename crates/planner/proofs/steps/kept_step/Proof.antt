@@ -29,7 +29,7 @@ kept-step-spec =
     let at-id-of = c .before .before in
     let start = at-id-of .before .before .before .before .before .before .before in
     let ((th, (T, (x, m))), there, row, free) = start .pre in
-    (omega (arith, x .laid .room), at-id-of .id-of .ensures .interning .small, omega (arith, row, x .tabled .few), omega (arith, there, x .theorized .found .mostActions)))
+    (x .laid, at-id-of .id-of .ensures .interning .small, omega (arith, row, x .tabled .few), omega (arith, there, x .theorized .found .mostActions)))
     (λ c κs.
     let at-step-at = c .before in
     let at-id-of = at-step-at .before .before .before in

@@ -21,7 +21,7 @@ note-spec =
     let at-wide = c .before in
     let at-slice-known2 = at-wide .before in
     let start = at-slice-known2 .before .before .before .before in
-    (omega (arith, start .pre .0 .laid .room), omega (arith, at-wide .wide .ensures, at-slice-known2 .slice-known2 .given (idAt (start .args .p) (start .args .t .rows))), start .pre .1, start .pre .2))
+    (start .pre .0 .laid, omega (arith, at-wide .wide .ensures, at-slice-known2 .slice-known2 .given (idAt (start .args .p) (start .args .t .rows))), start .pre .1, start .pre .2))
     (λ c κs.
     let at-step-at = c .before in
     let at-wide = at-step-at .before .before in
