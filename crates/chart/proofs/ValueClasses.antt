@@ -11,7 +11,8 @@ use lib.Seq.{getD-set-same, getD-set-other}
 use Rattle.pack.specs.Contracts.Table.{Below, Above}
 use Rattle.chart.specs.Contracts.Classed.{classAt}
 use Rattle.chart.specs.Contracts.Level.{Agrees, Placed, SameByte, SameValues, Levels, Sorted}
-use Rattle.chart.specs.Inner.Values.{sumOf, hashOf, leadMark, Last, Chain, Chained, Valuable, RowValued, Valued}
+use Rattle.chart.specs.Laws.Sums.{sum-same}
+use Rattle.chart.specs.Inner.Values.{hashOf, leadMark, Last, Chain, Chained, Valuable, RowValued, Valued}
 use Rattle.chart.specs.Laws.Cells.{row-in}
 use Rattle.chart.proofs.Classes.{Equivalence, sorted-none, sorted-row}
 
@@ -34,25 +35,9 @@ values-same {was} {now} n {w} {t = t} wide source low i j hi hj = (
   λ x. record { byte = λ q h. row-byte was now n w t wide source low i hi q h ∙ x .byte q h ∙ sym (row-byte was now n w t wide source low j hj q h) },
 )
 
--- one byte more
-pub sum-more : (bytes : List ℕ) (a f : ℕ) → sumOf bytes a (f + 1) ≡ (sumOf bytes a f * 2 + getD bytes (a + f) 0) % 4294967296
-unfolding sumOf
-sum-more bytes a f = rw (add-one f)
-
-pub sum-none : (bytes : List ℕ) (a : ℕ) → sumOf bytes a 0 ≡ 0
-unfolding sumOf
-sum-none bytes a = refl
-
--- the same bytes have the same sum
-sum-same : (bytes bytes′ : List ℕ) (a b f : ℕ) → ((q : ℕ) → q < f → getD bytes (a + q) 0 ≡ getD bytes′ (b + q) 0) → sumOf bytes a f ≡ sumOf bytes′ b f
-unfolding sumOf
-sum-same bytes bytes′ a b zero h = refl
-sum-same bytes bytes′ a b (suc f) h =
-    ap (λ (s : ℕ). (s * 2 + getD bytes (a + f) 0) % 4294967296) (sum-same bytes bytes′ a b f (λ q l. h q (omega arith))) ∙ ap (λ (v : ℕ). (sumOf bytes′ b f * 2 + v) % 4294967296) (h f (omega arith))
-
--- and the same mark
+-- the same bytes have the same mark
 pub mark-same : (bytes bytes′ : List ℕ) (a b f : ℕ) → ((q : ℕ) → q < f → getD bytes (a + q) 0 ≡ getD bytes′ (b + q) 0) → hashOf bytes a f ≡ hashOf bytes′ b f
-mark-same bytes bytes′ a b f h = ap (λ (s : ℕ). s % 131) (sum-same bytes bytes′ a b f h)
+mark-same bytes bytes′ a b f h = ap (λ (s : ℕ). s % 131) (sum-same 2 bytes′ bytes b a f h)
 
 -- rows held against each other byte by byte
 module _ {bytes : List ℕ} {w f t i j k : ℕ} (x : Agrees (SameByte bytes (t + i * w) (t + j * w)) f k) where

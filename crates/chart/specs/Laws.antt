@@ -22,6 +22,7 @@ pub mod NoVerdict
 pub mod Breadth
 pub mod Arguments
 pub mod Cells
+pub mod Sums
 pub mod ChartBytes
 pub mod Checks
 pub mod LoadedNodes

@@ -6,7 +6,6 @@ use mathlib.Core.Logic.{_≢_, _⊎_, inl, inr, ⊎-elim, by-cases}
 use mathlib.Core.List.{List}
 use native.Mathlib.Decide.{ℕ-discrete, decLe}
 use native.Mathlib.Nat.{mod-lt, mul-le-mul-left}
-use native.Mathlib.Numerals.{add-one}
 use native.Mathlib.Omega.{arith}
 use lib.ListN.{length, getD}
 use Rattle.pack.specs.Syntax.{Node}
@@ -14,27 +13,12 @@ use Rattle.pack.specs.Contracts.Table.{rowsAt, tableOf}
 use Rattle.pack.specs.declared.table.Table.{Table}
 use Rattle.pack.specs.Laws.Rows.{rows-length}
 use Rattle.chart.specs.Laws.Cells.{rows-same}
+use Rattle.chart.specs.Laws.Sums.{sumOf, sum-same}
 use Rattle.transition.specs.Contracts.Stage.{scratchAt}
 use Rattle.planner.specs.declared.limits.Context.{Context}
 use Rattle.planner.specs.Inner.Lists.{slotTable}
-use Rattle.planner.specs.Inner.Memory.{Laid, takenAt, headsAt, stepsAt, linksAt, tablesAt, keptAt, keptTable, Inside, sumOf, headAt, Behind, OnChain, Kept, Alike, HasId, Chained, Before, Only, FoundOn, Linked, Placed}
+use Rattle.planner.specs.Inner.Memory.{Laid, takenAt, headsAt, stepsAt, linksAt, tablesAt, keptAt, keptTable, Inside, headAt, Behind, OnChain, Kept, Alike, HasId, Chained, Before, Only, FoundOn, Linked, Placed}
 use Rattle.planner.proofs.SameBytes.{named-bytes}
-
--- one byte more, and none
-pub sum-more : (work : List ℕ) (a n : ℕ) → sumOf work a (n + 1) ≡ (sumOf work a n * 5 + getD work (a + n) 0) % 4294967296
-unfolding sumOf
-sum-more work a n = rw (add-one n)
-
-pub sum-none : (work : List ℕ) (a : ℕ) → sumOf work a 0 ≡ 0
-unfolding sumOf
-sum-none work a = refl
-
--- the same bytes have the same sum
-pub sum-same : (was now : List ℕ) (a b n : ℕ) → ((q : ℕ) → q < n → getD now (b + q) 0 ≡ getD was (a + q) 0) → sumOf now b n ≡ sumOf was a n
-unfolding sumOf
-sum-same was now a b zero h = refl
-sum-same was now a b (suc n) h =
-    ap (λ (s : ℕ). (s * 5 + getD now (b + n) 0) % 4294967296) (sum-same was now a b n (λ q l. h q (omega arith))) ∙ ap (λ (v : ℕ). (sumOf was a n * 5 + v) % 4294967296) (h n (omega arith))
 
 -- tables that are kept stay as they are
 pub record Wider (h : Context) (was now : List ℕ) : Type 0 where
@@ -54,7 +38,7 @@ module _ (h : Context) where
 
   -- the hash of the table at a block
   abbrev pub hashAt : List ℕ → ℕ → ℕ
-  hashAt work n = sumOf work (keptAt h n + 1) (getD work (keptAt h n) 0 * w) % 127
+  hashAt work n = sumOf 5 work (keptAt h n + 1) (getD work (keptAt h n) 0 * w) % 127
 
   -- what is met behind an id, where the links of lower ids stay
   behind-same : (was now : List ℕ) (top : ℕ) → ((m : ℕ) → m < top → getD now (linksAt h + m) 0 ≡ getD was (linksAt h + m) 0) → (n k m : ℕ) → m < top → Behind h was n k m → Behind h now n k m
@@ -139,8 +123,8 @@ module _ (h : Context) where
 
     pub inside-hash : {n : ℕ} → Inside h was n → hashAt now n ≡ hashAt was n
     inside-hash {n} k =
-        ap (λ (c : ℕ). sumOf now (keptAt h n + 1) (c * w) % 127) (inside-count k)
-        ∙ ap (λ (s : ℕ). s % 127) (sum-same was now (keptAt h n + 1) (keptAt h n + 1) (getD was (keptAt h n) 0 * w) (λ q l. let x : keptAt h n + 1 + q ≡ keptAt h n + (1 + q) = omega arith in ap (λ (q : ℕ). getD now q 0) x ∙ kept-byte k (1 + q) (omega (arith, l)) ∙ ap (λ (q : ℕ). getD was q 0) (sym x)))
+        ap (λ (c : ℕ). sumOf 5 now (keptAt h n + 1) (c * w) % 127) (inside-count k)
+        ∙ ap (λ (s : ℕ). s % 127) (sum-same 5 was now (keptAt h n + 1) (keptAt h n + 1) (getD was (keptAt h n) 0 * w) (λ q l. let x : keptAt h n + 1 + q ≡ keptAt h n + (1 + q) = omega arith in ap (λ (q : ℕ). getD now q 0) x ∙ kept-byte k (1 + q) (omega (arith, l)) ∙ ap (λ (q : ℕ). getD was q 0) (sym x)))
 
     pub alike-grown : {t t′ : Table} {n : ℕ} → t .nodes ≡ t′ .nodes → tableOf t′ now ≡ tableOf t was → Alike h was t n → Alike h now t′ n
     alike-grown c e x = record { inside = inside-grown (x .inside); count = inside-count (x .inside) ∙ x .count ∙ c; same = inside-table (x .inside) ∙ x .same ∙ sym e }
@@ -185,17 +169,17 @@ module _ (h : Context) where
 
   module _ {work : List ℕ} {t : Table} (b : Before h work t) where
     -- a table at a block has the hash of that table
-    pub alike-hash : (n : ℕ) → getD work (keptAt h n) 0 ≡ t .nodes → tableOf (keptTable h work n) work ≡ tableOf t work → hashAt work n ≡ sumOf work (t .rows) (t .nodes * t .width) % 127
+    pub alike-hash : (n : ℕ) → getD work (keptAt h n) 0 ≡ t .nodes → tableOf (keptTable h work n) work ≡ tableOf t work → hashAt work n ≡ sumOf 5 work (t .rows) (t .nodes * t .width) % 127
     alike-hash n count same =
         let wide : w ≡ t .width = ap (λ (f : ℕ). f + h .characters) (b .fluents) ∙ ap (λ (c : ℕ). t .fluents + c) (b .characters) ∙ b .wide in
         let size : getD work (keptAt h n) 0 * w ≡ t .nodes * t .width = ap (λ (c : ℕ). c * w) count ∙ ap (λ (k : ℕ). t .nodes * k) wide in
-        ap (λ (k : ℕ). sumOf work (keptAt h n + 1) k % 127) size ∙ ap (λ (s : ℕ). s % 127) (sum-same work work (t .rows) (keptAt h n + 1) (t .nodes * t .width) (λ q l. sym (named-bytes h n b count same q l)))
+        ap (λ (k : ℕ). sumOf 5 work (keptAt h n + 1) k % 127) size ∙ ap (λ (s : ℕ). s % 127) (sum-same 5 work work (t .rows) (keptAt h n + 1) (t .nodes * t .width) (λ q l. sym (named-bytes h n b count same q l)))
 
     abbrev mark : ℕ
-    mark = sumOf work (t .rows) (t .nodes * t .width) % 127
+    mark = sumOf 5 work (t .rows) (t .nodes * t .width) % 127
 
     mark-few : mark < 127
-    mark-few = mod-lt (sumOf work (t .rows) (t .nodes * t .width)) (omega arith)
+    mark-few = mod-lt (sumOf 5 work (t .rows) (t .nodes * t .width)) (omega arith)
 
     -- the id of a table stands on the chain of the table
     pub id-listed : {n : ℕ} → HasId h work t n → OnChain h work (headsAt h + mark) n
@@ -281,7 +265,7 @@ module _ (h : Context) where
           (λ e. inr (chain-same id (λ m g. sym (links-below m g)) (sym (heads-other b′ g e)) (let same = heads-other b′ g e in omega (arith, same, before b′ g)) x))
 
       -- the table there is t, has the chain's hash, and stood on it under no other id
-      module _ {t : Table} {was : List ℕ} (b₁ : Before h now t) (rows : tableOf t now ≡ tableOf t was) (new : Alike h now t id) (hash : sumOf now (t .rows) (t .nodes * t .width) % 127 ≡ b) (none : (n : ℕ) → OnChain h was at n → ¬ Alike h was t n)
+      module _ {t : Table} {was : List ℕ} (b₁ : Before h now t) (rows : tableOf t now ≡ tableOf t was) (new : Alike h now t id) (hash : sumOf 5 now (t .rows) (t .nodes * t .width) % 127 ≡ b) (none : (n : ℕ) → OnChain h was at n → ¬ Alike h was t n)
           (old : Chained h was) (older : (b′ n : ℕ) → b′ < 127 → OnChain h mid (headsAt h + b′) n → OnChain h was (headsAt h + b′) n × (getD mid (keptAt h n) 0 ≡ getD was (keptAt h n) 0) × (tableOf (keptTable h mid n) mid ≡ tableOf (keptTable h was n) was)) where
         -- an id of before has another table
         linked-other-table : Chained h mid → (n : ℕ) → OnChain h mid (headsAt h + b) n → tableOf (keptTable h now id) now ≡ tableOf (keptTable h now n) now → ⊥

@@ -20,12 +20,13 @@ use Rattle.chart.specs.Call.{workRoom}
 use Rattle.transition.specs.Contracts.Stage.{scratchAt}
 use Rattle.chart.specs.Contracts.Put.{Cleared, PartCopied}
 use Rattle.chart.specs.Contracts.Level.{Agrees, SameByte}
+use Rattle.chart.specs.Laws.Sums.{sumOf, sum-same}
 use Rattle.chart.specs.Laws.Cells.{rows-same, row-in, rows-most}
 use Rattle.planner.specs.declared.limits.Context.{Context}
 use Rattle.planner.specs.declared.entry.Key.{Key}
 use Rattle.planner.specs.Inner.Lists.{slotTable}
-use Rattle.planner.specs.Inner.Memory.{Laid, idAt, takenAt, headsAt, headAt, stepsAt, factsAt, linksAt, tablesAt, keptAt, keptTable, sumOf, Inside, Behind, OnChain, Kept, Alike, HasId, Chained, StepFact, Fact, keyAt, SlotEntry, StepEntry, FactEntry, Memory, slotId, entryAt, stepAt, Place, Before, InSlot, Fits, Only, Unasked, FoundOn, Linked, Placed, Stored, Interning, Identified, Sought, Storable, KeyPut, FactRead, FactKnown, Recalls, Notes, Recalled, Remembered, StepRead, StepKnown, StepPut, Noted, Slot, Again, LeftNoted, StepOnce}
-use Rattle.planner.proofs.Chains.{Wider, Grown, kept-from, table-moved, inside-count, inside-table, inside-grown, inside-hash, alike-grown, chain-back, chain-none, grown-same, grown-by, chained-none, alike-hash, id-listed, id-once, found-id, found-exact, linked-wider, linked-grown, sum-same, behind-here}
+use Rattle.planner.specs.Inner.Memory.{Laid, idAt, takenAt, headsAt, headAt, stepsAt, factsAt, linksAt, tablesAt, keptAt, keptTable, Inside, Behind, OnChain, Kept, Alike, HasId, Chained, StepFact, Fact, keyAt, SlotEntry, StepEntry, FactEntry, Memory, slotId, entryAt, stepAt, Place, Before, InSlot, Fits, Only, Unasked, FoundOn, Linked, Placed, Stored, Interning, Identified, Sought, Storable, KeyPut, FactRead, FactKnown, Recalls, Notes, Recalled, Remembered, StepRead, StepKnown, StepPut, Noted, Slot, Again, LeftNoted, StepOnce}
+use Rattle.planner.proofs.Chains.{Wider, Grown, kept-from, table-moved, inside-count, inside-table, inside-grown, inside-hash, alike-grown, chain-back, chain-none, grown-same, grown-by, chained-none, alike-hash, id-listed, id-once, found-id, found-exact, linked-wider, linked-grown, behind-here}
 
 -- a mark that says nothing
 pub fact-none : (th : Theory) (K : ℕ) (k : Key) (s : ℕ → State) → Fact th K 0 k s
@@ -167,10 +168,10 @@ module _ (h : Context) where
     pub kept-grown : {n : ℕ} → Kept h was n → Kept h now n
     kept-grown {n} k =
         let e = inside-hash h (g .wider) (k .inside) in
-        let few : sumOf was (keptAt h n + 1) (getD was (keptAt h n) 0 * w) % 127 < 127 = mod-lt (sumOf was (keptAt h n + 1) (getD was (keptAt h n) 0 * w)) (omega arith) in
+        let few : sumOf 5 was (keptAt h n + 1) (getD was (keptAt h n) 0 * w) % 127 < 127 = mod-lt (sumOf 5 was (keptAt h n + 1) (getD was (keptAt h n) 0 * w)) (omega arith) in
         record {
           inside = inside-grown h (g .wider) (k .inside);
-          listed = subst (λ (b : ℕ). OnChain h now (headsAt h + b) n) (sym e) (g .listed (sumOf was (keptAt h n + 1) (getD was (keptAt h n) 0 * w) % 127) n few (k .listed));
+          listed = subst (λ (b : ℕ). OnChain h now (headsAt h + b) n) (sym e) (g .listed (sumOf 5 was (keptAt h n + 1) (getD was (keptAt h n) 0 * w) % 127) n few (k .listed));
         }
 
     pub named-grown : {t t′ : Table} {n : ℕ} → t .nodes ≡ t′ .nodes → tableOf t′ now ≡ tableOf t was → HasId h was t n → HasId h now t′ n
@@ -383,10 +384,10 @@ module _ (h : Context) where
     -- a table that is kept from now on, its id in front of its chain
     module _ {was mid now : List ℕ} {at r : ℕ} (b : Before h was t) (long : length mid ≡ length was) (long′ : length now ≡ length mid) (here : at ≡ headAt h was (t .rows) (t .nodes * t .width)) (f : FoundOn h was t at 0) (some : 0 < r) (x : Placed h t was mid r) (l : Linked h at r mid now) where
       abbrev mark : ℕ
-      mark = sumOf was (t .rows) (t .nodes * t .width) % 127
+      mark = sumOf 5 was (t .rows) (t .nodes * t .width) % 127
 
       mark-few : mark < 127
-      mark-few = mod-lt (sumOf was (t .rows) (t .nodes * t .width)) (omega arith)
+      mark-few = mod-lt (sumOf 5 was (t .rows) (t .nodes * t .width)) (omega arith)
 
       linked-low : (q : ℕ) → q < headsAt h → getD now q 0 ≡ getD mid q 0
       linked-low q g = l .others q (λ z. omega (arith, z, g, here)) (λ z. omega (arith, z, g))
@@ -406,8 +407,8 @@ module _ (h : Context) where
       before₁ : Before h now t
       before₁ = before-now (long′ ∙ long) b
 
-      hash-now : sumOf now (t .rows) (t .nodes * t .width) % 127 ≡ mark
-      hash-now = ap (λ (s : ℕ). s % 127) (sum-same was now (t .rows) (t .rows) (t .nodes * t .width) (λ q g. linked-low (t .rows + q) (omega (arith, g, b .before)) ∙ x .only .low (t .rows + q) (omega (arith, g, b .before))))
+      hash-now : sumOf 5 now (t .rows) (t .nodes * t .width) % 127 ≡ mark
+      hash-now = ap (λ (s : ℕ). s % 127) (sum-same 5 was now (t .rows) (t .rows) (t .nodes * t .width) (λ q g. linked-low (t .rows + q) (omega (arith, g, b .before)) ∙ x .only .low (t .rows + q) (omega (arith, g, b .before))))
 
       pub stored-linked : Stored h t was now r
       stored-linked = record {

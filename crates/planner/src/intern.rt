@@ -22,9 +22,10 @@ ghost use mathlib.Core.Bool.{true, false};
 ghost use Prim.Native.Nat.{_+_, _*_, _/_, _%_, _<_, _≤_};
 ghost use lib.ListN.{length, getD};
 ghost use Rattle.chart.specs.Call.{workRoom};
+ghost use Rattle.chart.specs.Laws.Sums.{sumOf};
 ghost use Rattle.transition.specs.Contracts.Stage.{scratchAt};
 ghost use Rattle.planner.specs.Inner.Lists.{slotTable};
-ghost use Rattle.planner.specs.Inner.Memory.{takenAt, headAt, linksAt, slotId, sumOf, Roomy, Before, Alike};
+ghost use Rattle.planner.specs.Inner.Memory.{takenAt, headAt, linksAt, slotId, Roomy, Before, Alike};
 ghost use Rattle.planner.specs.Inner.Memory.{Fits, FoundOn, Linked, Placed, Stored, Interning};
 ghost use Rattle.planner.specs.Inner.Memory.{Identified, Sought};
 
@@ -65,7 +66,7 @@ pub fn has_overflowed(work: &[u8], p: Context) -> bool
 // A number below 127 made of n bytes.
 pub fn hash(work: &[u8], from: usize, n: usize) -> usize
     requires { ⌜ from + n ≤ length (now work) ⌝ }
-    ensures { λ r. ⌜ r ≡ sumOf (now (work .entry)) from n % 127 ⌝ }
+    ensures { λ r. ⌜ r ≡ sumOf 5 (now (work .entry)) from n % 127 ⌝ }
 {
     let mut h = 0;
     let mut i = 0;

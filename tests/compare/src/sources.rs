@@ -25,7 +25,7 @@ const UNEXPLAINED: Edit = ("planner/explain.rs", "if known == 5 {", "if known ==
 const A_LIST: Edit = ("planner/explain.rs", "if known == 1 {", "if known == 9 {");
 const NO_LIST: Edit = ("planner/explain.rs", "if known == 2 {", "if known == 9 {");
 const AUTHORS: Edit = ("planner/search.rs", "if recall(work, p, slot, key) == 3 {", "if false {");
-const REPEATS: Edit = ("planner/search.rs", "if repeats(work, p, slot, done) {", "if false {");
+const REPEATS: Edit = ("planner/search.rs", "if repeats(work, p, slot, ahead.done) {", "if false {");
 const NO_REASON: Edit = ("planner/explain.rs", "if pointless(pack, places, p, work, slot, d) {", "if false {");
 const NO_ENDING: Edit =
     ("planner/search.rs", "if !can_exceed(pack, places[UTILITIES] as usize, g.base) {", "if false {");

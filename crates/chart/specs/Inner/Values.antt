@@ -4,18 +4,14 @@ use mathlib.Core.Path.{_≡_}
 use mathlib.Core.List.{List}
 use Prim.Native.Nat.{ℕ, zero, suc, _+_, _*_, _%_, _<_, _≤_}
 use lib.ListN.{getD, length}
+use Rattle.chart.specs.Laws.Sums.{sumOf}
 use Rattle.chart.specs.Contracts.Classed.{classAt}
 use Rattle.chart.specs.Contracts.Level.{Placed, SameValues, Sorted}
 use Rattle.pack.specs.Contracts.Table.{Below, Above}
 
--- the f bytes from a on as one number of 32 bits, each byte counted twice as much as the one behind it
-unfoldable pub sumOf : List ℕ → ℕ → ℕ → ℕ
-sumOf bytes a zero = 0
-sumOf bytes a (suc f) = (sumOf bytes a f * 2 + getD bytes (a + f) 0) % 4294967296
-
--- their mark
+-- the mark of the f bytes from a on
 abbrev pub hashOf : List ℕ → ℕ → ℕ → ℕ
-hashOf bytes a f = sumOf bytes a f % 131
+hashOf bytes a f = sumOf 2 bytes a f % 131
 
 -- the mark of the row that leads class q; the leading rows stand from r on
 abbrev pub leadMark : List ℕ → (w f t r : ℕ) → ℕ → ℕ

@@ -11,6 +11,7 @@ use Rattle.pack.specs.Contracts.Table as table
 use Rattle.pack.specs.declared.table.Table.{Table}
 use Rattle.chart.specs.Call.{workRoom}
 use Rattle.chart.specs.Chart.{Starts}
+use Rattle.chart.specs.Laws.Sums.{sumOf}
 use Rattle.transition.specs.Happening.{Plays}
 use Rattle.planner.specs.declared.limits.Context.{Context}
 use Rattle.planner.specs.declared.entry.Goal.{Goal}
@@ -77,14 +78,9 @@ pub record Inside (h : Context) (work : List ℕ) (n : ℕ) : Type 0 where
   pub inside : keptAt h n + 1 + getD work (keptAt h n) 0 * (h .fluents + h .characters)
       ≤ tablesAt h + h .block * getD work (takenAt h) 0
 
--- the n bytes from a on as one number of 32 bits
-unfoldable pub sumOf : List ℕ → (a n : ℕ) → ℕ
-sumOf work a zero = 0
-sumOf work a (suc n) = (sumOf work a n * 5 + getD work (a + n) 0) % 4294967296
-
 -- the head of the chain on which a table of n bytes from a on is looked for
 abbrev pub headAt : Context → List ℕ → (a n : ℕ) → ℕ
-headAt h work a n = headsAt h + sumOf work a n % 127
+headAt h work a n = headsAt h + sumOf 5 work a n % 127
 
 -- n is met k links behind m; each link leads to a lower id
 unfoldable pub Behind : Context → List ℕ → (n k m : ℕ) → Type 0
@@ -122,7 +118,7 @@ pub record Chained (h : Context) (work : List ℕ) : Type 0 where
   pub heads : (b : ℕ) → b < 127 → getD work (headsAt h + b) 0 ≤ getD work (takenAt h) 0
   pub tables : (b n : ℕ) → b < 127 → OnChain h work (headsAt h + b) n
       → Inside h work n
-      × (sumOf work (keptAt h n + 1) (getD work (keptAt h n) 0 * (h .fluents + h .characters)) % 127 ≡ b)
+      × (sumOf 5 work (keptAt h n + 1) (getD work (keptAt h n) 0 * (h .fluents + h .characters)) % 127 ≡ b)
   pub once : (b m n : ℕ) → b < 127 → OnChain h work (headsAt h + b) m → OnChain h work (headsAt h + b) n
       → table.tableOf (keptTable h work m) work ≡ table.tableOf (keptTable h work n) work → m ≡ n
 

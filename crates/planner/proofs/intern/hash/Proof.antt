@@ -4,19 +4,18 @@ use mathlib.Core.Path.{_≡_, sym, _∙_, ap}
 use native.Mathlib.Nat.{mod-lt}
 use native.Mathlib.Omega.{arith}
 use borrow.Author.Needs.{needs}
-use Rattle.planner.specs.Inner.Memory.{sumOf}
-use Rattle.planner.proofs.Chains.{sum-none, sum-more}
+use Rattle.chart.specs.Laws.Sums.{sumOf, sum-none, sum-more}
 use Rattle.planner.proofs.intern.hash.Statement.{statement}
 use Rattle.planner.proofs.intern.hash.Tie as tie
 
 abbrev Inv-loop : tie.InvT-loop
-Inv-loop work from n h₀ i₀ h i = (i ≤ n) × (h < 4294967296) × (h ≡ sumOf work from i)
+Inv-loop work from n h₀ i₀ h i = (i ≤ n) × (h < 4294967296) × (h ≡ sumOf 5 work from i)
 
 abbrev μ-loop : tie.MeasureT-loop
 μ-loop work from n h₀ i₀ h i = n - i
 
 loop-holds : tie.Need-loop-holds Inv-loop μ-loop
-loop-holds c = (omega arith, omega arith, sym (sum-none _ _))
+loop-holds c = (omega arith, omega arith, sym (sum-none _ _ _))
 
 mul-h : tie.Need-mul-h Inv-loop μ-loop
 mul-h c = omega (arith, c .before .loop .inv .1)
@@ -53,7 +52,7 @@ loop-again c =
     let l = at-loop .loop in (
       omega (arith, turn .loop-test .taken),
       mod-lt (l .h * 5 + c .wide .result) (omega arith),
-      ap (λ (s : ℕ). (s * 5 + c .wide .result) % 4294967296) (l .inv .2) ∙ ap (λ (v : ℕ). (sumOf (a .work .now) (a .from) (l .i) * 5 + v) % 4294967296) (sym (c .wide .ensures)) ∙ sym (sum-more (a .work .now) (a .from) (l .i)),
+      ap (λ (s : ℕ). (s * 5 + c .wide .result) % 4294967296) (l .inv .2) ∙ ap (λ (v : ℕ). (sumOf 5 (a .work .now) (a .from) (l .i) * 5 + v) % 4294967296) (sym (c .wide .ensures)) ∙ sym (sum-more 5 (a .work .now) (a .from) (l .i)),
     )
 
 returns : tie.Need-returns Inv-loop μ-loop
@@ -63,7 +62,7 @@ returns c =
     let a = start .args in
     let l = at-loop .loop in
     let e : l .i ≡ a .n = omega (arith, l .inv .0, c .loop-test .left) in
-    ap (λ (s : ℕ). s % 127) (l .inv .2 ∙ ap (sumOf (a .work .now) (a .from)) e)
+    ap (λ (s : ℕ). s % 127) (l .inv .2 ∙ ap (sumOf 5 (a .work .now) (a .from)) e)
 
 pub hash-spec : {M : Type 1} → statement M
 hash-spec = tie.close (tie.spec Inv-loop μ-loop loop-holds mul-h add-wide shared-slice-read-wide (λ c κs. search needs) add-h add-i (λ c. search needs) loop-again returns)
