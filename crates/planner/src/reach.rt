@@ -2,7 +2,8 @@
 //
 // A relaxed plan, level by level: by the state's own values the actions that could be played first, by what these write
 // besides those that could then be played, and so on. What one of them writes stays in range, and consenters are not
-// asked, so where no rule above could hold even so no list of so many actions leads there, and no step is made.
+// asked, so where no rule above could hold even so no list of so many actions leads there, and no step is made. The
+// author's lists are looked for from the length on after which one could (`first_length`).
 use crate::intern::is_large;
 use crate::limits::Context;
 use crate::prune::Hope;
@@ -19,7 +20,7 @@ ghost use mathlib.Core.Bool.{false};
 ghost use Prim.Native.Nat.{_<_};
 ghost use Rattle.planner.specs.Inner.Look.{Ranged};
 ghost use Rattle.planner.specs.Inner.Levels.{ActionThere, ActionWidened, Levelable, LevelWidened};
-ghost use Rattle.planner.specs.Inner.Levels.{Reckoned, OutOfReach};
+ghost use Rattle.planner.specs.Inner.Levels.{Reckoned, OutOfReach, Nearest};
 
 // Widens the ranges by the effects of an action, where its condition could hold by other ranges, from lower to upper.
 pub fn widen_action(
@@ -66,8 +67,43 @@ pub fn widen_level(
     }
 }
 
+// After how many actions a utility above another could be had, from the state in a slot; one more than may follow where
+// it could be had after none of those.
+pub fn nearest(pack: &[u8], places: &[u16], p: Context, work: &[u8], slot: usize, h: Hope) -> usize
+    requires { ⌜ Reckoned (now pack) (now places) p (now work) slot (h .whose) × (h .left < 256) ⌝ }
+    ensures { λ r. ⌜ Nearest (now (pack .entry)) (now (places .entry)) p (now (work .entry)) slot (h .whose) (h .left)
+        (h .base) r ⌝ }
+{
+    let rules = places[UTILITIES + h.whose] as usize;
+    let mut lows = [0u8; 24];
+    copy_bytes(work, slot + 1, &mut lows, 0, p.fluents, 0);
+    let mut highs = lows;
+    widen_by_triggers(pack, places, p.triggers, &mut lows, &mut highs);
+    let mut i = 0;
+    loop {
+        if could_exceed(pack, rules, &lows, &highs, h.base) {
+            return i;
+        }
+        if i == h.left {
+            return i + 1;
+        }
+        let lower = lows;
+        let upper = highs;
+        widen_level(
+            pack,
+            places,
+            p.actions,
+            &lower,
+            &upper,
+            &mut lows,
+            &mut highs,
+        );
+        i += 1;
+    }
+}
+
 // Whether a utility above another could be had within so many actions from the state in a slot. Each last action is
-// looked at by itself (`next_promising`), so of fewer than two nothing is reckoned.
+// looked at by itself (`next_promising`), so of fewer than two nothing is reckoned, and of a search that is small.
 pub fn within_reach(
     pack: &[u8],
     places: &[u16],
@@ -87,30 +123,5 @@ pub fn within_reach(
     if !is_large(work, p) {
         return true;
     }
-    let rules = places[UTILITIES + h.whose] as usize;
-    let mut lows = [0u8; 24];
-    copy_bytes(work, slot + 1, &mut lows, 0, p.fluents, 0);
-    let mut highs = lows;
-    widen_by_triggers(pack, places, p.triggers, &mut lows, &mut highs);
-    let mut i = 0;
-    loop {
-        if could_exceed(pack, rules, &lows, &highs, h.base) {
-            return true;
-        }
-        if i == h.left {
-            return false;
-        }
-        let lower = lows;
-        let upper = highs;
-        widen_level(
-            pack,
-            places,
-            p.actions,
-            &lower,
-            &upper,
-            &mut lows,
-            &mut highs,
-        );
-        i += 1;
-    }
+    nearest(pack, places, p, work, slot, h) <= h.left
 }

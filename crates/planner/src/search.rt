@@ -23,6 +23,7 @@ use crate::limits::laid_out;
 use crate::limits::searchable;
 use crate::prune::Hope;
 use crate::prune::next_promising;
+use crate::reach::nearest;
 use crate::reach::within_reach;
 use crate::steps::known_step;
 use crate::steps::steps_made;
@@ -46,12 +47,13 @@ use pack::refusal::NO_ENDING;
 ghost use mathlib.Core.Path.{_≡_};
 ghost use mathlib.Core.Bool.{true, false, _&&_};
 ghost use mathlib.Core.List.{List};
-ghost use Prim.Native.Nat.{suc, _+_, _*_, _<_, _≤_};
+ghost use Prim.Native.Nat.{ℕ, suc, _+_, _*_, _<_, _≤_};
 ghost use lib.ListN.{length, getD};
 ghost use Rattle.pack.specs.Syntax.{Node};
 ghost use Rattle.planner.specs.Inner.Lists.{slotTable, Ends, EndsBy};
 ghost use Rattle.planner.specs.Inner.Memory.{Before};
 ghost use Rattle.planner.specs.Inner.Explain.{Staged, Free};
+ghost use Rattle.planner.specs.Inner.Levels.{Reckoned, OutOfReach};
 ghost use Rattle.planner.specs.Inner.Search.{Underway, Finds, EndsHere, Outset, Repeated, OnPath, Laying};
 ghost use Rattle.planner.specs.Inner.Search.{Layable, LaidStart, ShortestFrom, Seekable, SearchPutFrom};
 ghost use Rattle.planner.specs.Promises.{Searching};
@@ -249,8 +251,35 @@ pub fn completes_by(
     after
 }
 
+// The least length, of 1 to `most` actions, that a list may have which leads the author from the state in the first slot
+// above base; or one more. No list is looked for that is shorter.
+pub fn first_length(
+    pack: &[u8],
+    places: &[u16],
+    p: Context,
+    work: &[u8],
+    base: usize,
+    most: usize,
+) -> usize
+    requires { ⌜ Reckoned (now pack) (now places) p (now work) 0 0 × (most < 256) ⌝ }
+    ensures { λ r. ⌜ (0 < r) × ((k : ℕ) → 0 < k → k < r
+        → OutOfReach (now (pack .entry)) (now (places .entry)) p (now (work .entry)) 0 0 k base) ⌝ }
+{
+    let hope = Hope {
+        whose: 0,
+        left: most,
+        base,
+    };
+    let near = nearest(pack, places, p, work, 0, hope);
+    if near == 0 {
+        return 1;
+    }
+    near
+}
+
 // The shortest list of 1 to `most` actions from the state in the first slot that leads to a goal, and of those the
-// earliest. Lists are looked for by their length: one, two, and so on; none where no rule of the author could exceed.
+// earliest. Lists are looked for by their length, from the first on that may lead there; none where no rule of the
+// author could exceed.
 pub fn deepen(
     pack: &[u8],
     places: &[u16],
@@ -269,7 +298,7 @@ pub fn deepen(
     if !can_exceed(pack, places[UTILITIES] as usize, g.base) {
         return Ended { count: 0, after: 0 };
     }
-    let mut n = 1;
+    let mut n = first_length(pack, places, p, work, g.base, most);
     while n <= most {
         let ahead = Ahead {
             done: 0,

@@ -49,3 +49,8 @@ OutOfReach pack places h work slot whose left base =
     (th : Theory) (T : List Node) → Stage th T pack places h work (slotTable h work slot) (slot + h .stride)
     → (list : List ℕ) (u : State) → length list ≤ left → Played th (meaning (h .characters) T 0) list u
     → utility u (getD (th .utilities) whose []) ≤ base
+
+-- of so many actions and fewer: r is the least number of them that is not out of reach, or one more
+pub record Nearest (pack places : List ℕ) (h : Context) (work : List ℕ) (slot whose left base r : ℕ) : Type 0 where
+  pub within : r ≤ left + 1
+  pub beyond : (k : ℕ) → k < r → OutOfReach pack places h work slot whose k base

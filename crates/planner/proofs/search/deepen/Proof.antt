@@ -18,6 +18,7 @@ use Rattle.planner.specs.Inner.Explain.{Stage}
 use Rattle.planner.specs.Inner.Search.{Shortest}
 use Rattle.planner.specs.Inner.Bound.{no-end}
 use Rattle.planner.proofs.Explanations.{free-fewer, slot-same}
+use Rattle.planner.proofs.Reckoning.{ends-beyond}
 use Rattle.planner.proofs.Bounds.{judged-readable, author-exceeds}
 use Rattle.planner.proofs.EarliestList.{trail-outset, author-rules, at-outset, best-outset, free-outset}
 use Rattle.planner.proofs.SearchCall.{shorter, shortest-found, shortest-none}
@@ -49,14 +50,32 @@ returns c =
     let more : a .most < a .most + 1 = omega arith in
     shortest-none (λ q l. refl) (λ q l. refl) more refl (λ l v some few. no-end th (a .p .foresight .0) (a .g .nesting .0) (a .g .base) (meaning (a .p .characters) T 0) l v low)
 
+first-length-requires : tie.Need-first-length-requires Inv-loop μ-loop
+first-length-requires c κs =
+    let start = c .before .before .before .before .before .before .before .before in
+    let P = start .pre in
+    let a = start .args in
+    let (th, (T, (y, mem, wr, le))) = P .0 in
+    (((th, (T, y)), free-fewer (a .p) 0 (1 + a .most + (1 + a .p .foresight .0) * a .g .nesting .0) 1 (omega arith) (P .5), omega arith), omega (arith, P .3))
+
+-- shorter lists are out of reach
 loop-holds : tie.Need-loop-holds Inv-loop μ-loop
-loop-holds c = (omega arith, refl, refl, λ q l. refl, λ q l. refl, λ th T y mem wr le. (mem, λ l v h k. absurd (omega (arith, h, k))))
+loop-holds c =
+    let a = c .before .before .before .before .before .before .before .before .before .args in
+    let (some, beyond) = c .first-length .ensures in (
+      some,
+      refl,
+      refl,
+      λ q l. refl,
+      λ q l. refl,
+      λ th T y mem wr le. (mem, λ l v long k. ends-beyond th (a .p .foresight .0) (a .g .nesting .0) (a .g .base) (length l) (meaning (a .p .characters) T 0) (beyond (length l) long k th T y) l v refl),
+    )
 
 completes-requires : tie.Need-completes-requires Inv-loop μ-loop
 completes-requires c κs =
     let turn = c .before .before in
     let at-loop = turn .before in
-    let start = at-loop .before .before .before .before .before .before .before .before in
+    let start = at-loop .before .before .before .before .before .before .before .before .before .before in
     let P = start .pre in
     let a = start .args in
     let (th, (T, (y, mem, wr, le))) = P .0 in
@@ -71,7 +90,7 @@ returns-2 c =
     let at-completes = c .before .before .before .before .before in
     let turn = at-completes .before .before .before in
     let at-loop = turn .before in
-    let start = at-loop .before .before .before .before .before .before .before .before in
+    let start = at-loop .before .before .before .before .before .before .before .before .before .before in
     let a = start .args in
     let d = at-completes .completes in
     let (some, long, same, low, high, rest) = at-loop .loop .inv in
@@ -84,7 +103,7 @@ loop-again : tie.Need-loop-again Inv-loop μ-loop
 loop-again c =
     let at-completes = c .before .before .before .before .before in
     let at-loop = at-completes .before .before .before .before in
-    let start = at-loop .before .before .before .before .before .before .before .before in
+    let start = at-loop .before .before .before .before .before .before .before .before .before .before in
     let a = start .args in
     let d = at-completes .completes in
     let (some, long, same, low, high, rest) = at-loop .loop .inv in
@@ -121,7 +140,7 @@ same-length-2 c =
 add-n : tie.Need-add-n Inv-loop μ-loop
 add-n c =
     let turn = c .before .before .before .before .before .before .before .before in
-    let start = turn .before .before .before .before .before .before .before .before .before in
+    let start = turn .before .before .before .before .before .before .before .before .before .before .before in
     omega (arith, turn .loop-test .taken, start .pre .3)
 
 same-length-3 : tie.Need-same-length-3 Inv-loop μ-loop
@@ -147,6 +166,7 @@ deepen-spec =
     (λ c. omega (arith, c .shared-slice-known3 .given 320))
     can-exceed-requires
     returns
+    first-length-requires
     loop-holds
     completes-requires
     same-length
