@@ -4,7 +4,7 @@ use Prim.Native.Nat.{_+_, _*_, _<_, _≤_}
 use lib.ListN.{length}
 use native.Mathlib.Omega.{arith}
 use borrow.Author.Needs.{needs}
-use Rattle.transition.specs.Inner.Change.{believed, SlotIs}
+use Rattle.transition.specs.Inner.Change.{Scene, Stands, believed, SlotIs}
 use Rattle.transition.specs.Laws.ChangedRows.{telling, watched, small, belief-is, belief-in, row-inside, slot-told, slot-took, slot-kept}
 use Rattle.transition.proofs.change.slot_of.Statement.{statement}
 use Rattle.transition.proofs.change.slot_of.Tie as tie
@@ -21,36 +21,32 @@ few c =
     let x = p .0 .1 .tabled in
     omega (arith, c .wide .ensures, belief-is x _ _ (p .1) (p .2), belief-in x _ _ (p .1) (p .2), x .few)
 
-took : (c : tie.Then2) →
+took : (c : tie.Then2) {s : Scene} →
     let at-wide = c .before .before in
     let at-tells = at-wide .before .before .before .before .before .before in
     let start = at-tells .before .before .before .before .before .before in
-    let p = start .pre in
     let a = start .args in
-    SlotIs (a .h) (a .t .nodes) (believed (p .0 .0) (a .t .characters) (a .m) (a .d)) (at-wide .wide .result * 7 + a .h .acted)
-took c =
+    Stands s (a .pack .now) (a .places .now) (a .effects .now) (a .h) (a .work .now) (a .t) → SlotIs (a .h) (a .t .nodes) (believed s (a .t .characters) (a .m) (a .d)) (at-wide .wide .result * 7 + a .h .acted)
+took c x =
     let at-wide = c .before .before in
     let at-if1 = at-wide .before .before .before .before .before in
     let at-tells = at-if1 .before in
     let start = at-tells .before .before .before .before .before .before in
     let p = start .pre in
-    let x = p .0 .1 in
     slot-took x (p .1) (p .2) (at-tells .tells .ensures) (at-if1 .if1 .left) (sym (at-wide .wide .ensures) ∙ belief-is (x .tabled) _ _ (p .1) (p .2)) (c .before .takes .ensures) (c .if2 .taken)
 
-kept : (c : tie.Else2) →
+kept : (c : tie.Else2) {s : Scene} →
     let at-wide = c .before .before in
     let at-tells = at-wide .before .before .before .before .before .before in
     let start = at-tells .before .before .before .before .before .before in
-    let p = start .pre in
     let a = start .args in
-    SlotIs (a .h) (a .t .nodes) (believed (p .0 .0) (a .t .characters) (a .m) (a .d)) (at-wide .wide .result * 7 + a .h .old)
-kept c =
+    Stands s (a .pack .now) (a .places .now) (a .effects .now) (a .h) (a .work .now) (a .t) → SlotIs (a .h) (a .t .nodes) (believed s (a .t .characters) (a .m) (a .d)) (at-wide .wide .result * 7 + a .h .old)
+kept c x =
     let at-wide = c .before .before in
     let at-if1 = at-wide .before .before .before .before .before in
     let at-tells = at-if1 .before in
     let start = at-tells .before .before .before .before .before .before in
     let p = start .pre in
-    let x = p .0 .1 in
     slot-kept x (p .1) (p .2) (at-tells .tells .ensures) (at-if1 .if1 .left) (sym (at-wide .wide .ensures) ∙ belief-is (x .tabled) _ _ (p .1) (p .2)) (c .before .takes .ensures) (c .if2 .left)
 
 pub slot-of-spec : {M : Type 1} → statement M
@@ -108,22 +104,10 @@ slot-of-spec =
     (λ c.
     let at-wide = c .before .before in
     omega (arith, few at-wide))
-    (λ c. omega (arith, took (c .before) .below))
+    (λ c. omega (arith, took (c .before) (c .before .before .before .before .before .before .before .before .before .before .before .before .before .before .before .pre .0 .1) .below))
     (λ c.
     let at-wide = c .before .before in
     omega (arith, few at-wide))
-    (λ c. omega (arith, kept (c .before) .below))
-    (λ c.
-    let at-takes = c .before .before in
-    let at-wide = at-takes .before in
-    let at-if1 = at-wide .before .before .before .before .before in
-    let at-tells = at-if1 .before in
-    let start = at-tells .before .before .before .before .before .before in
-    λ s x. slot-took x (start .pre .1) (start .pre .2) (at-tells .tells .ensures) (at-if1 .if1 .left) (sym (at-wide .wide .ensures) ∙ belief-is (x .tabled) _ _ (start .pre .1) (start .pre .2)) (at-takes .takes .ensures) (c .before .if2 .taken))
-    (λ c.
-    let at-takes = c .before .before in
-    let at-wide = at-takes .before in
-    let at-if1 = at-wide .before .before .before .before .before in
-    let at-tells = at-if1 .before in
-    let start = at-tells .before .before .before .before .before .before in
-    λ s x. slot-kept x (start .pre .1) (start .pre .2) (at-tells .tells .ensures) (at-if1 .if1 .left) (sym (at-wide .wide .ensures) ∙ belief-is (x .tabled) _ _ (start .pre .1) (start .pre .2)) (at-takes .takes .ensures) (c .before .if2 .left)))
+    (λ c. omega (arith, kept (c .before) (c .before .before .before .before .before .before .before .before .before .before .before .before .before .before .before .pre .0 .1) .below))
+    (λ c s x. took (c .before) x)
+    (λ c s x. kept (c .before) x))
