@@ -24,56 +24,57 @@ ghost use Rattle.chart.specs.Call.{chainRoom};
 ghost use Rattle.chart.specs.Promises.{Comparison};
 ghost use Rattle.chart.specs.Inner.Match.{Joinable, Joined, Matchable, RowsMatched, ChartsMatched};
 
-// Loads two charts, of n and m nodes, as one table.
-pub fn join(first: &[u8], n: usize, second: &[u8], m: usize, f: usize, c: usize, work: &mut [u8])
-    requires { ⌜ Joinable (now first) n (now second) m f c (now work) ⌝ }
-    ensures { λ _. ⌜ Joined (now (first .entry)) n (now (second .entry)) m f c (now (work .entry))
-        (now (work .exit)) ⌝ }
+// How many nodes the first and the second of two charts have, of how many fluents and characters.
+pub struct TwoCharts {
+    pub first: usize,
+    pub second: usize,
+    pub fluents: usize,
+    pub characters: usize,
+}
+
+// Loads two charts as one table.
+pub fn join(first: &[u8], second: &[u8], n: TwoCharts, work: &mut [u8])
+    requires { ⌜ Joinable (now first) (n .first) (now second) (n .second) (n .fluents) (n .characters) (now work) ⌝ }
+    ensures { λ _. ⌜ Joined (now (first .entry)) (n .first) (now (second .entry)) (n .second) (n .fluents)
+        (n .characters) (now (work .entry)) (now (work .exit)) ⌝ }
 {
-    let w = f + c;
+    let w = n.fluents + n.characters;
     let one = Table {
         rows: 1,
-        nodes: n,
-        fluents: f,
-        characters: c,
+        nodes: n.first,
+        fluents: n.fluents,
+        characters: n.characters,
         width: w,
     };
     put_rows(first, one, work, 1, Shift { more: 0, less: 1 });
     let other = Table {
         rows: 1,
-        nodes: m,
-        fluents: f,
-        characters: c,
+        nodes: n.second,
+        fluents: n.fluents,
+        characters: n.characters,
         width: w,
     };
-    let more = n as u8;
+    let more = n.first as u8;
     let behind = Shift { more, less: 1 };
-    put_rows(second, other, work, 1 + n * w, behind)
+    put_rows(second, other, work, 1 + n.first * w, behind)
 }
 
-// Compares rows 0 and n of the n + m rows from 1 on; the chain to where they differ is written.
-pub fn match_rows(
-    work: &mut [u8],
-    n: usize,
-    m: usize,
-    f: usize,
-    c: usize,
-    chain: &mut [u8],
-) -> Matched
-    requires { ⌜ Matchable (now work) n m f c (now chain) ⌝ }
-    ensures { λ r. ⌜ RowsMatched (now (work .entry)) (now (work .exit)) n m f c (now (chain .entry))
-        (now (chain .exit)) r ⌝ }
+// Compares the first rows of two charts, which stand as one table from 1 on; the chain to where they differ is written.
+pub fn match_rows(work: &mut [u8], n: TwoCharts, chain: &mut [u8]) -> Matched
+    requires { ⌜ Matchable (now work) (n .first) (n .second) (n .fluents) (n .characters) (now chain) ⌝ }
+    ensures { λ r. ⌜ RowsMatched (now (work .entry)) (now (work .exit)) (n .first) (n .second) (n .fluents)
+        (n .characters) (now (chain .entry)) (now (chain .exit)) r ⌝ }
 {
-    let nodes = n + m;
-    let width = f + c;
+    let nodes = n.first + n.second;
+    let width = n.fluents + n.characters;
     let t = Table {
         rows: 1,
         nodes,
-        fluents: f,
-        characters: c,
+        fluents: n.fluents,
+        characters: n.characters,
         width,
     };
-    meet_first(work, 0, n);
+    meet_first(work, 0, n.first);
     let k = seek(work, t);
     if 4096 <= k {
         return Matched::Same;
@@ -83,23 +84,21 @@ pub fn match_rows(
     Matched::Differ(length, fluent)
 }
 
-// Compares two charts, of n and m nodes. The work buffer is cleared.
+// Compares two charts. The work buffer is cleared.
 pub fn match_charts(
     first: &[u8],
-    n: usize,
     second: &[u8],
-    m: usize,
-    f: usize,
-    c: usize,
+    n: TwoCharts,
     chain: &mut [u8],
     work: &mut [u8],
 ) -> Matched
-    requires { ⌜ Joinable (now first) n (now second) m f c (now work) × (chainRoom ≤ length (now chain)) ⌝ }
-    ensures { λ r. ⌜ ChartsMatched (now (first .entry)) n (now (second .entry)) m f c (now (chain .entry))
-        (now (chain .exit)) (now (work .entry)) (now (work .exit)) r ⌝ }
+    requires { ⌜ Joinable (now first) (n .first) (now second) (n .second) (n .fluents) (n .characters) (now work)
+        × (chainRoom ≤ length (now chain)) ⌝ }
+    ensures { λ r. ⌜ ChartsMatched (now (first .entry)) (n .first) (now (second .entry)) (n .second) (n .fluents)
+        (n .characters) (now (chain .entry)) (now (chain .exit)) (now (work .entry)) (now (work .exit)) r ⌝ }
 {
-    join(first, n, second, m, f, c, work);
-    let found = match_rows(work, n, m, f, c, chain);
+    join(first, second, n, work);
+    let found = match_rows(work, n, chain);
     clear(work, 0, WORK_ROOM);
     found
 }
@@ -127,7 +126,13 @@ pub fn compare(
             match check_lent(nodes, enough, true) {
                 Number::Refused(k, at) => Matched::Refused(k, at),
                 Number::Is(m, _) => {
-                    match_charts(first, n, second, m, p.fluents, p.characters, chain, work)
+                    let both = TwoCharts {
+                        first: n,
+                        second: m,
+                        fluents: p.fluents,
+                        characters: p.characters,
+                    };
+                    match_charts(first, second, both, chain, work)
                 }
             }
         }

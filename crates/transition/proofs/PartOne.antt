@@ -52,7 +52,7 @@ module _ {p : Theory} {T : List Node} {pack places : List ℕ} {actions triggers
 
   module _ (root : ℕ) (inside : root < t .nodes) where
     abbrev pub part : ℕ → Change
-    part u = record { acted = u; old = 6; observed = 9 * a + 3; root = root }
+    part u = record { table = t; acted = u; old = 6; observed = 9 * a + 3; root = root }
 
     kinds : (u : ℕ) → Untold (A .effects) C u → Kinds scene (t .nodes) C (part u)
     kinds u y = record {

@@ -166,7 +166,7 @@ module _ {p : Theory} {T : List Node} {pack places : List ℕ} {actions triggers
         roundScene = record { dimensions = dims (p .characters) (p .domains); table = U; causes = fires (p .triggers); takes = λ z c. true }
 
         abbrev pub everyone : Change
-        everyone = record { acted = 6; old = 7; observed = 327; root = 0 }
+        everyone = record { table = tableIn t slot nodes; acted = 6; old = 7; observed = 327; root = 0 }
 
         pub round-stands : length effects ≡ 32 → Stands roundScene pack places effects everyone now (tableIn t slot nodes)
         round-stands l = record {

@@ -43,10 +43,11 @@ pub fn act(
     let effects = [place; 32];
     let at = place as usize;
     let observers = Change {
+        table: t,
         acted: lowest_untold(pack, at, t.characters),
         old: 6,
         observed: ACTION * action + OBSERVED,
         root,
     };
-    stage(pack, places, &effects, observers, work, t, slot)
+    stage(pack, places, &effects, observers, work, slot)
 }

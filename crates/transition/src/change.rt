@@ -34,9 +34,10 @@ ghost use Rattle.transition.specs.Inner.Change.{Scene, Stands, Scened, I
 ghost use Rattle.transition.specs.Inner.Change.{rowAfter, memberOf, Sourced, SlotIs, SlotsPut};
 ghost use Rattle.transition.specs.Inner.Change.{RowRoom, Puts, Laid, RowMade, ChangeMade};
 
-// Which of a row's seven slots stand for the row having taken part and for the row as it was, the others being its
-// characters'; where the observation conditions are; and the row in which it happens.
+// The table in which it happens; which of a row's seven slots stand for the row having taken part and for the row as it
+// was, the others being its characters'; where the observation conditions are; and the row in which it happens.
 pub struct Change {
+    pub table: Table,
     pub acted: usize,
     pub old: usize,
     pub observed: usize,
@@ -50,14 +51,15 @@ pub fn slot_of(
     effects: &[u16],
     h: Change,
     work: &[u8],
-    t: Table,
     m: usize,
     d: usize,
 ) -> usize
-    requires { ⌜ Scened (now pack) (now places) (now effects) h (now work) t × (m < t .nodes) × (d < t .characters) ⌝ }
-    ensures { λ r. ⌜ InScene (now (pack .entry)) (now (places .entry)) (now (effects .entry)) h (now (work .entry)) t
-        (λ s. SlotIs h (t .nodes) (believed s (t .characters) m d) r) ⌝ }
+    requires { ⌜ Scened (now pack) (now places) (now effects) h (now work) × (m < h .table .nodes)
+        × (d < h .table .characters) ⌝ }
+    ensures { λ r. ⌜ InScene (now (pack .entry)) (now (places .entry)) (now (effects .entry)) h (now (work .entry))
+        (λ s. SlotIs h (h .table .nodes) (believed s (h .table .characters) m d) r) ⌝ }
 {
+    let t = h.table;
     if tells(pack, effects[m] as usize, d + 1) {
         return m * 7 + d;
     }
@@ -76,19 +78,19 @@ pub fn put_slots(
     effects: &[u16],
     h: Change,
     work: &mut [u8],
-    t: Table,
     m: usize,
     to: usize,
 )
-    requires { ⌜ Scened (now pack) (now places) (now effects) h (now work) t × (m < t .nodes)
-        × (t .rows + t .nodes * t .width ≤ to) × (to + t .characters ≤ length (now work)) ⌝ }
-    ensures { λ _. ⌜ InScene (now (pack .entry)) (now (places .entry)) (now (effects .entry)) h (now (work .entry)) t
-        (λ s. SlotsPut h (t .nodes) (t .characters) (believed s (t .characters) m) (now (work .entry))
-        (now (work .exit)) to) ⌝ }
+    requires { ⌜ Scened (now pack) (now places) (now effects) h (now work) × (m < h .table .nodes)
+        × (h .table .rows + h .table .nodes * h .table .width ≤ to)
+        × (to + h .table .characters ≤ length (now work)) ⌝ }
+    ensures { λ _. ⌜ InScene (now (pack .entry)) (now (places .entry)) (now (effects .entry)) h (now (work .entry))
+        (λ s. SlotsPut h (h .table .nodes) (h .table .characters) (believed s (h .table .characters) m)
+        (now (work .entry)) (now (work .exit)) to) ⌝ }
 {
     let mut d = 0;
-    while d < t.characters {
-        let x = slot_of(pack, places, effects, h, work, t, m, d);
+    while d < h.table.characters {
+        let x = slot_of(pack, places, effects, h, work, m, d);
         work[to + d] = x as u8;
         d += 1;
     }
@@ -101,27 +103,29 @@ pub fn put_acted(
     effects: &[u16],
     h: Change,
     work: &mut [u8],
-    t: Table,
     m: usize,
     to: usize,
 )
-    requires { ⌜ Scened (now pack) (now places) (now effects) h (now work) t × (m < t .nodes)
-        × RowRoom (now work) t to ⌝ }
-    ensures { λ _. ⌜ InScene (now (pack .entry)) (now (places .entry)) (now (effects .entry)) h (now (work .entry)) t
-        (λ s. Puts s h t (acted m) (now (work .entry)) (now (work .exit)) to) ⌝ }
+    requires { ⌜ Scened (now pack) (now places) (now effects) h (now work) × (m < h .table .nodes)
+        × RowRoom (now work) (h .table) to ⌝ }
+    ensures { λ _. ⌜ InScene (now (pack .entry)) (now (places .entry)) (now (effects .entry)) h (now (work .entry))
+        (λ s. Puts s h (h .table) (acted m) (now (work .entry)) (now (work .exit)) to) ⌝ }
 {
+    let t = h.table;
     let from = t.rows + m * t.width;
     copy_part(work, from, to, t.fluents);
     write_told(pack, effects[m] as usize, 0, work, to, t.fluents);
-    put_slots(pack, places, effects, h, work, t, m, to + t.fluents)
+    put_slots(pack, places, effects, h, work, m, to + t.fluents)
 }
 
 // Writes row m as it was, its beliefs by slots.
-pub fn put_old(h: Change, work: &mut [u8], t: Table, m: usize, to: usize)
-    requires { ⌜ Seen (now work) t × (m < t .nodes) × (h .old < 7) × RowRoom (now work) t to ⌝ }
-    ensures { λ _. ⌜ ((s : Scene) → Tabled (s .dimensions) (s .table) (now (work .entry)) t
-        → Puts s h t (old m) (now (work .entry)) (now (work .exit)) to) ⌝ }
+pub fn put_old(h: Change, work: &mut [u8], m: usize, to: usize)
+    requires { ⌜ Seen (now work) (h .table) × (m < h .table .nodes) × (h .old < 7)
+        × RowRoom (now work) (h .table) to ⌝ }
+    ensures { λ _. ⌜ ((s : Scene) → Tabled (s .dimensions) (s .table) (now (work .entry)) (h .table)
+        → Puts s h (h .table) (old m) (now (work .entry)) (now (work .exit)) to) ⌝ }
 {
+    let t = h.table;
     let from = t.rows + m * t.width;
     copy_part(work, from, to, t.fluents);
     let mut d = 0;
@@ -140,12 +144,14 @@ pub struct Source {
 }
 
 // What a slot's row is made of. The last slot is that of the root having taken part, where no other is.
-pub fn made_of(pack: &[u8], places: &[u16], h: Change, work: &[u8], t: Table, slot: usize) -> Source
-    requires { ⌜ ((effects : List ℕ) × Scened (now pack) (now places) effects h (now work) t)
-        × (slot < t .nodes * 7 + 1) × There (t .characters) (memberOf h (t .nodes) slot) ⌝ }
+pub fn made_of(pack: &[u8], places: &[u16], h: Change, work: &[u8], slot: usize) -> Source
+    requires { ⌜ ((effects : List ℕ) × Scened (now pack) (now places) effects h (now work))
+        × (slot < h .table .nodes * 7 + 1) × There (h .table .characters) (memberOf h (h .table .nodes) slot) ⌝ }
     ensures { λ r. ⌜ ((s : Scene) (effects : List ℕ)
-        → Stands s (now (pack .entry)) (now (places .entry)) effects h (now (work .entry)) t → Sourced s h t slot r) ⌝ }
+        → Stands s (now (pack .entry)) (now (places .entry)) effects h (now (work .entry)) (h .table)
+        → Sourced s h (h .table) slot r) ⌝ }
 {
+    let t = h.table;
     let m = slot / 7;
     let kind = slot % 7;
     if m == t.nodes {
@@ -184,19 +190,18 @@ pub fn put_row(
     effects: &[u16],
     h: Change,
     work: &mut [u8],
-    t: Table,
     s: Source,
     to: usize,
 )
-    requires { ⌜ Scened (now pack) (now places) (now effects) h (now work) t × (s .row < t .nodes)
-        × (s .took ≡ false → h .old < 7) × RowRoom (now work) t to ⌝ }
-    ensures { λ _. ⌜ InScene (now (pack .entry)) (now (places .entry)) (now (effects .entry)) h (now (work .entry)) t
-        (λ z. Puts z h t (rowAfter (s .row) (s .took)) (now (work .entry)) (now (work .exit)) to) ⌝ }
+    requires { ⌜ Scened (now pack) (now places) (now effects) h (now work) × (s .row < h .table .nodes)
+        × (s .took ≡ false → h .old < 7) × RowRoom (now work) (h .table) to ⌝ }
+    ensures { λ _. ⌜ InScene (now (pack .entry)) (now (places .entry)) (now (effects .entry)) h (now (work .entry))
+        (λ z. Puts z h (h .table) (rowAfter (s .row) (s .took)) (now (work .entry)) (now (work .exit)) to) ⌝ }
 {
     if s.took {
-        put_acted(pack, places, effects, h, work, t, s.row, to)
+        put_acted(pack, places, effects, h, work, s.row, to)
     } else {
-        put_old(h, work, t, s.row, to)
+        put_old(h, work, s.row, to)
     }
 }
 
@@ -207,20 +212,19 @@ pub fn put_member(
     effects: &[u16],
     h: Change,
     work: &mut [u8],
-    t: Table,
     slot: usize,
     to: usize,
 )
-    requires { ⌜ Scened (now pack) (now places) (now effects) h (now work) t × (slot < t .nodes * 7 + 1)
-        × There (t .characters) (memberOf h (t .nodes) slot) × RowRoom (now work) t to ⌝ }
-    ensures { λ _. ⌜ InScene (now (pack .entry)) (now (places .entry)) (now (effects .entry)) h (now (work .entry)) t
-        (λ s. Puts s h t (memberOf h (t .nodes) slot) (now (work .entry)) (now (work .exit)) to) ⌝ }
+    requires { ⌜ Scened (now pack) (now places) (now effects) h (now work) × (slot < h .table .nodes * 7 + 1)
+        × There (h .table .characters) (memberOf h (h .table .nodes) slot) × RowRoom (now work) (h .table) to ⌝ }
+    ensures { λ _. ⌜ InScene (now (pack .entry)) (now (places .entry)) (now (effects .entry)) h (now (work .entry))
+        (λ s. Puts s h (h .table) (memberOf h (h .table .nodes) slot) (now (work .entry)) (now (work .exit)) to) ⌝ }
 {
-    let from = made_of(pack, places, h, work, t, slot);
-    put_row(pack, places, effects, h, work, t, from, to);
+    let from = made_of(pack, places, h, work, slot);
+    put_row(pack, places, effects, h, work, from, to);
     if from.told {
         let at = effects[slot / 7] as usize;
-        write_told(pack, at, slot % 7 + 1, work, to, t.fluents)
+        write_told(pack, at, slot % 7 + 1, work, to, h.table.fluents)
     }
 }
 
@@ -231,21 +235,22 @@ pub fn change_row(
     effects: &[u16],
     h: Change,
     work: &mut [u8],
-    t: Table,
     i: usize,
     count: usize,
 ) -> usize
-    requires { ⌜ Scened (now pack) (now places) (now effects) h (now work) t × Laid (now work) t scratchAt madeAt ⌝ }
-    requires { ⌜ Numbering (now work) scratchAt (t .nodes * 7 + 1) count × (i < count)
-        × There (t .characters) (memberOf h (t .nodes) (keyAt (now work) scratchAt (t .nodes * 7 + 1) i)) ⌝ }
-    ensures { λ r. ⌜ InScene (now (pack .entry)) (now (places .entry)) (now (effects .entry)) h (now (work .entry)) t
-        (λ s. RowMade s h t (now (work .entry)) (now (work .exit)) scratchAt madeAt i
-        count r) ⌝ }
+    requires { ⌜ Scened (now pack) (now places) (now effects) h (now work)
+        × Laid (now work) (h .table) scratchAt madeAt ⌝ }
+    requires { ⌜ Numbering (now work) scratchAt (h .table .nodes * 7 + 1) count × (i < count)
+        × There (h .table .characters)
+        (memberOf h (h .table .nodes) (keyAt (now work) scratchAt (h .table .nodes * 7 + 1) i)) ⌝ }
+    ensures { λ r. ⌜ InScene (now (pack .entry)) (now (places .entry)) (now (effects .entry)) h (now (work .entry))
+        (λ s. RowMade s h (h .table) (now (work .entry)) (now (work .exit)) scratchAt madeAt i count r) ⌝ }
 {
+    let t = h.table;
     let size = t.nodes * 7 + 1;
     let slot = wide(work[NUMBERS + size + i]);
     let to = MADE + i * t.width;
-    put_member(pack, places, effects, h, work, t, slot, to);
+    put_member(pack, places, effects, h, work, slot, to);
     name_beliefs(work, NUMBERS, size, to + t.fluents, t.characters, count)
 }
 
@@ -268,20 +273,21 @@ pub fn change_table(
     effects: &[u16],
     h: Change,
     work: &mut [u8],
-    t: Table,
 ) -> usize
-    requires { ⌜ Scened (now pack) (now places) (now effects) h (now work) t × Laid (now work) t scratchAt madeAt ⌝ }
-    ensures { λ r. ⌜ InScene (now (pack .entry)) (now (places .entry)) (now (effects .entry)) h (now (work .entry)) t
-        (λ s. ChangeMade s h t (now (work .entry)) (now (work .exit)) scratchAt madeAt r) ⌝ }
+    requires { ⌜ Scened (now pack) (now places) (now effects) h (now work)
+        × Laid (now work) (h .table) scratchAt madeAt ⌝ }
+    ensures { λ r. ⌜ InScene (now (pack .entry)) (now (places .entry)) (now (effects .entry)) h (now (work .entry))
+        (λ s. ChangeMade s h (h .table) (now (work .entry)) (now (work .exit)) scratchAt madeAt r) ⌝ }
 {
-    let size = t.nodes * 7 + 1;
+    let nodes = h.table.nodes;
+    let size = nodes * 7 + 1;
     clear(work, NUMBERS, size);
-    let first = first_slot(h, t.nodes);
+    let first = first_slot(h, nodes);
     let root = number_of(work, NUMBERS, size, 0, first);
     let mut count = more(0, root);
     let mut i = 0;
     while i < count {
-        count = change_row(pack, places, effects, h, work, t, i, count);
+        count = change_row(pack, places, effects, h, work, i, count);
         i += 1;
     }
     count

@@ -103,16 +103,16 @@ pub fn round(
     effects: &[u16],
     h: Change,
     work: &mut [u8],
-    t: Table,
     slot: usize,
 ) -> usize
-    requires { ⌜ Scened (now pack) (now places) (now effects) h (now work) t × StageRoom (now work) t slot × Everyone h
-        × Slotted (tableOf t (now work)) (now work) t slot ⌝ }
-    ensures { λ r. ⌜ InScene (now (pack .entry)) (now (places .entry)) (now (effects .entry)) h (now (work .entry)) t
-        (λ s. Staged s (h .root) t (now (work .entry)) (now (work .exit)) slot r) ⌝ }
+    requires { ⌜ Scened (now pack) (now places) (now effects) h (now work) × StageRoom (now work) (h .table) slot
+        × Everyone h × Slotted (tableOf (h .table) (now work)) (now work) (h .table) slot ⌝ }
+    ensures { λ r. ⌜ InScene (now (pack .entry)) (now (places .entry)) (now (effects .entry)) h (now (work .entry))
+        (λ s. Staged s (h .root) (h .table) (now (work .entry)) (now (work .exit)) slot r) ⌝ }
 {
+    let t = h.table;
     if !all_silent(pack, effects, t.nodes) {
-        return stage(pack, places, effects, h, work, t, slot);
+        return stage(pack, places, effects, h, work, slot);
     }
     rewrite(pack, effects, work, t);
     merge_slot(work, t, slot)

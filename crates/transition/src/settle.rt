@@ -45,12 +45,13 @@ pub fn settle(
             return ROUNDS;
         }
         let everyone = Change {
+            table: now,
             acted: 6,
             old: 7,
             observed: PLACES,
             root: 0,
         };
-        nodes = round(pack, places, &effects, everyone, work, now, slot);
+        nodes = round(pack, places, &effects, everyone, work, slot);
         if 32 < nodes {
             return STATES;
         }

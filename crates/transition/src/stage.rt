@@ -36,14 +36,14 @@ pub fn stage(
     effects: &[u16],
     h: Change,
     work: &mut [u8],
-    t: Table,
     slot: usize,
 ) -> usize
-    requires { ⌜ Scened (now pack) (now places) (now effects) h (now work) t × StageRoom (now work) t slot ⌝ }
-    ensures { λ r. ⌜ InScene (now (pack .entry)) (now (places .entry)) (now (effects .entry)) h (now (work .entry)) t
-        (λ s. Staged s (h .root) t (now (work .entry)) (now (work .exit)) slot r) ⌝ }
+    requires { ⌜ Scened (now pack) (now places) (now effects) h (now work) × StageRoom (now work) (h .table) slot ⌝ }
+    ensures { λ r. ⌜ InScene (now (pack .entry)) (now (places .entry)) (now (effects .entry)) h (now (work .entry))
+        (λ s. Staged s (h .root) (h .table) (now (work .entry)) (now (work .exit)) slot r) ⌝ }
 {
-    let rows = change_table(pack, places, effects, h, work, t);
+    let t = h.table;
+    let rows = change_table(pack, places, effects, h, work);
     if rows == 1 {
         put_down(work, MADE, 1, t.width, slot);
         return 1;

@@ -79,13 +79,12 @@ pub record Stands (s : Scene) (pack places effects : List ℕ) (h : Change) (wor
   pub kinds : Kinds s (t .nodes) (t .characters) h
   pub root : h .root < t .nodes
 
-abbrev pub Scened : (pack places effects : List ℕ) (h : Change) (work : List ℕ) (t : Table) → Type 0
-Scened pack places effects h work t = (s : Scene) × Stands s pack places effects h work t
+abbrev pub Scened : (pack places effects : List ℕ) (h : Change) (work : List ℕ) → Type 0
+Scened pack places effects h work = (s : Scene) × Stands s pack places effects h work (h .table)
 
 -- what holds of whatever scene that is
-abbrev pub InScene : (pack places effects : List ℕ) (h : Change) (work : List ℕ) (t : Table) (Q : Scene → Type 0)
-    → Type 0
-InScene pack places effects h work t Q = (s : Scene) → Stands s pack places effects h work t → Q s
+abbrev pub InScene : (pack places effects : List ℕ) (h : Change) (work : List ℕ) (Q : Scene → Type 0) → Type 0
+InScene pack places effects h work Q = (s : Scene) → Stands s pack places effects h work (h .table) → Q s
 
 -- its table alone
 abbrev pub Seen : (work : List ℕ) (t : Table) → Type 0

@@ -12,14 +12,14 @@ match-rows-requires c κs =
     let start = at-join .before .before .before .before .before .before in
     let p = start .pre in
     let x = at-join .join in
-    charts-matchable (p .0) (x .ensures) (x .kept .1 .1 .1 .1 .1 .1 .0) _ (p .1)
+    charts-matchable (p .0) (x .ensures) (x .kept .1 .1 .1 .0) _ (p .1)
 
 clear-requires : tie.Need-clear-requires
 clear-requires c κs =
     let at-match-rows = c .before .before .before .before .before in
     let at-join = at-match-rows .before .before .before .before .before in
     let start = at-join .before .before .before .before .before .before in
-    omega (arith, start .pre .0 .room, at-join .join .kept .1 .1 .1 .1 .1 .1 .0, at-match-rows .match-rows .kept .0)
+    omega (arith, start .pre .0 .room, at-join .join .kept .1 .1 .1 .0, at-match-rows .match-rows .kept .0)
 
 returns : tie.Need-returns
 returns c =
@@ -31,7 +31,7 @@ returns c =
     let x = at-join .join in
     let y = at-match-rows .match-rows in
     let z = at-clear .clear in
-    let long = x .kept .1 .1 .1 .1 .1 .1 .0 in
+    let long = x .kept .1 .1 .1 .0 in
     charts-matched (p .0) (x .ensures) long (y .ensures) (z .ensures) (z .kept .0 ∙ y .kept .0 ∙ long)
 
 pub match-charts-spec : {M : Type 1} → statement M

@@ -8,14 +8,14 @@ use Rattle.chart.proofs.compare.match_rows.Tie as tie
 
 meet-first-requires : tie.Need-meet-first-requires
 meet-first-requires c κs =
-    let start = c .before .before .before in
+    let start = c .before .before .before .before .before in
     let p = start .pre in
     (omega arith, omega (arith, p .few), omega (arith, p .room))
 
 seek-requires : tie.Need-seek-requires
 seek-requires c κs =
     let at-meet-first = c .before .before .before in
-    let start = at-meet-first .before .before .before .before in
+    let start = at-meet-first .before .before .before .before .before .before in
     let p = start .pre in
     let b = at-meet-first .meet-first in
     ((match-paired p (b .kept .0), match-sound p (b .ensures)), match-pairs p (b .ensures))
@@ -24,7 +24,7 @@ returns : tie.Need-returns
 returns c =
     let at-seek = c .before .before .before in
     let at-meet-first = at-seek .before .before .before .before in
-    let start = at-meet-first .before .before .before .before in
+    let start = at-meet-first .before .before .before .before .before .before in
     matched-same (start .pre) (at-meet-first .meet-first .ensures) (at-seek .seek .ensures) (c .if1 .taken)
 
 write-chain-requires : tie.Need-write-chain-requires
@@ -32,7 +32,7 @@ write-chain-requires c κs =
     let at-if1 = c .before .before in
     let at-seek = at-if1 .before .before .before in
     let at-meet-first = at-seek .before .before .before .before in
-    let start = at-meet-first .before .before .before .before in
+    let start = at-meet-first .before .before .before .before .before .before in
     let b = at-meet-first .meet-first in
     let x = at-seek .seek in
     match-writable (start .pre) (b .ensures) (x .ensures) (omega (arith, at-if1 .if1 .left)) (x .kept .0 ∙ b .kept .0)
@@ -42,7 +42,7 @@ other-value-requires c κs =
     let at-if1 = c .before .before .before .before .before .before in
     let at-seek = at-if1 .before .before .before in
     let at-meet-first = at-seek .before .before .before .before in
-    let start = at-meet-first .before .before .before .before in
+    let start = at-meet-first .before .before .before .before .before .before in
     let b = at-meet-first .meet-first in
     let x = at-seek .seek in
     match-inside (start .pre) (b .ensures) (x .ensures) (omega (arith, at-if1 .if1 .left)) (x .kept .0 ∙ b .kept .0)
@@ -53,7 +53,7 @@ returns-2 c =
     let at-if1 = at-write-chain .before .before .before in
     let at-seek = at-if1 .before .before .before in
     let at-meet-first = at-seek .before .before .before .before in
-    let start = at-meet-first .before .before .before .before in
+    let start = at-meet-first .before .before .before .before .before .before in
     let b = at-meet-first .meet-first in
     let x = at-seek .seek in
     let y = at-write-chain .write-chain in

@@ -11,23 +11,23 @@ use Rattle.transition.proofs.ChangePass.{row-room, row-made}
 use Rattle.transition.proofs.change.change_row.Statement.{statement}
 use Rattle.transition.proofs.change.change_row.Tie as tie
 
-place : (s : tie.Start) → let a = s .args in let w = a .t .width in
-    (a .i < a .t .nodes * 7 + 1) × (40756 + a .i * w + w ≤ length (a .work .now)) × (a .t .fluents + a .t .characters ≤ w) × (40304 + (a .t .nodes * 7 + 1) + (a .t .nodes * 7 + 1) ≤ 40756) × (a .t .nodes ≤ 32)
+place : (s : tie.Start) → let a = s .args in let w = a .h .table .width in
+    (a .i < a .h .table .nodes * 7 + 1) × (40756 + a .i * w + w ≤ length (a .work .now)) × (a .h .table .fluents + a .h .table .characters ≤ w) × (40304 + (a .h .table .nodes * 7 + 1) + (a .h .table .nodes * 7 + 1) ≤ 40756) × (a .h .table .nodes ≤ 32)
 place s = let p = s .pre in let (i, r, w) = row-room (p .0 .0 .1) (p .0 .1) (p .1 .0) (p .1 .1) in (i, r, w, p .0 .1 .scratch, p .0 .0 .1 .tabled .few)
 
 put-member-requires : tie.Need-put-member-requires
 put-member-requires c κs =
     let at-wide = c .before .before in
-    let start = at-wide .before .before .before .before .before .before .before in
+    let start = at-wide .before .before .before .before .before .before .before .before in
     let p = start .pre in
     let e = at-wide .wide .ensures in
-    (p .0 .0, omega (arith, e, p .1 .0 .there _ (p .1 .1)), subst (λ (z : ℕ). There (start .args .t .characters) (memberOf (start .args .h) (start .args .t .nodes) z)) e (p .1 .2), record { behind = omega (arith, place start, p .0 .1 .source); room = omega (arith, place start) })
+    (p .0 .0, omega (arith, e, p .1 .0 .there _ (p .1 .1)), subst (λ (z : ℕ). There (start .args .h .table .characters) (memberOf (start .args .h) (start .args .h .table .nodes) z)) e (p .1 .2), record { behind = omega (arith, place start, p .0 .1 .source); room = omega (arith, place start) })
 
 name-beliefs-requires : tie.Need-name-beliefs-requires
 name-beliefs-requires c κs =
     let at-put-member = c .before .before .before .before in
     let at-wide = at-put-member .before .before .before in
-    let start = at-wide .before .before .before .before .before .before .before in
+    let start = at-wide .before .before .before .before .before .before .before .before in
     let p = start .pre in
     let m = at-put-member .put-member in
     let q = m .ensures (p .0 .0 .0) (p .0 .0 .1) in
@@ -38,31 +38,31 @@ change-row-spec =
     tie.close
     (tie.spec
     (λ c.
-    let start = c .before .before .before .before .before in
+    let start = c .before .before .before .before .before .before in
     omega (arith, place start))
-    (λ c.
-    let start = c .before .before .before .before .before in
-    omega (arith, place start))
-    (λ c.
-    let start = c .before .before .before .before .before in
-    omega (arith, place start, start .good .1 .1 .1 .1 .0 .0))
-    (λ c.
-    let start = c .before .before .before .before .before in
-    omega (arith, place start, start .good .1 .1 .1 .1 .0 .0))
     (λ c.
     let start = c .before .before .before .before .before .before in
     omega (arith, place start))
-    (λ c κs. search needs)
     (λ c.
-    let start = c .before .before .before .before .before .before .before .before in
+    let start = c .before .before .before .before .before .before in
     omega (arith, place start, start .good .1 .1 .1 .1 .0 .0))
     (λ c.
-    let start = c .before .before .before .before .before .before .before .before in
+    let start = c .before .before .before .before .before .before in
+    omega (arith, place start, start .good .1 .1 .1 .1 .0 .0))
+    (λ c.
+    let start = c .before .before .before .before .before .before .before in
+    omega (arith, place start))
+    (λ c κs. search needs)
+    (λ c.
+    let start = c .before .before .before .before .before .before .before .before .before in
+    omega (arith, place start, start .good .1 .1 .1 .1 .0 .0))
+    (λ c.
+    let start = c .before .before .before .before .before .before .before .before .before in
     omega (arith, place start, start .good .1 .1 .1 .1 .0 .0))
     put-member-requires
     (λ c.
     let at-wide = c .before .before .before .before .before .before .before in
-    let start = at-wide .before .before .before .before .before .before .before in
+    let start = at-wide .before .before .before .before .before .before .before .before in
     omega (arith, place start, start .good .1 .1 .1 .1 .0 .0))
     name-beliefs-requires
     (λ c.
@@ -73,6 +73,6 @@ change-row-spec =
     let at-name-beliefs = c .before .before in
     let at-put-member = at-name-beliefs .before .before .before .before .before in
     let at-wide = at-put-member .before .before .before in
-    let start = at-wide .before .before .before .before .before .before .before in
+    let start = at-wide .before .before .before .before .before .before .before .before in
     let p = start .pre in
     λ s x. row-made x (p .0 .1) (p .1 .0) (p .1 .1) (sym (at-wide .wide .ensures)) (at-put-member .put-member .ensures s x) (at-name-beliefs .name-beliefs .ensures)))

@@ -10,7 +10,7 @@ use Rattle.transition.proofs.change.put_member.Tie as tie
 inside : (c : tie.Then1) →
     let at-made-of = c .before .before .before .before .before in
     let start = at-made-of .before .before .before .before .before .before in
-    start .args .slot / 7 < start .args .t .nodes
+    start .args .slot / 7 < start .args .h .table .nodes
 inside c =
     let at-made-of = c .before .before .before .before .before in
     let start = at-made-of .before .before .before .before .before .before in

@@ -10,17 +10,17 @@ use Rattle.transition.proofs.change.put_slots.Statement.{statement}
 use Rattle.transition.proofs.change.put_slots.Tie as tie
 
 abbrev Inv-loop : tie.InvT-loop
-Inv-loop pack places effects h work₀ t m to d₀ work d =
-    (d ≤ t .characters) × (length work ≡ length work₀) × ((s : Scene) → Stands s pack places effects h work₀ t → SlotsPut h (t .nodes) d (believed s (t .characters) m) work₀ work to)
+Inv-loop pack places effects h work₀ m to d₀ work d =
+    (d ≤ h .table .characters) × (length work ≡ length work₀) × ((s : Scene) → Stands s pack places effects h work₀ (h .table) → SlotsPut h (h .table .nodes) d (believed s (h .table .characters) m) work₀ work to)
 
 abbrev μ-loop : tie.MeasureT-loop
-μ-loop pack places effects h work₀ t m to d₀ work d = t .characters - d
+μ-loop pack places effects h work₀ m to d₀ work d = h .table .characters - d
 
 -- the table is as it was
 here : (c : tie.At-loop Inv-loop μ-loop) {s : Scene} →
     let start = c .before .before .before .before .before in
     let a = start .args in
-    Stands s (a .pack .now) (a .places .now) (a .effects .now) (a .h) (a .work .now) (a .t) → Stands s (a .pack .now) (a .places .now) (a .effects .now) (a .h) (c .loop .work) (a .t)
+    Stands s (a .pack .now) (a .places .now) (a .effects .now) (a .h) (a .work .now) (a .h .table) → Stands s (a .pack .now) (a .places .now) (a .effects .now) (a .h) (c .loop .work) (a .h .table)
 here c x =
     let start = c .before .before .before .before .before in
     let p = start .pre in

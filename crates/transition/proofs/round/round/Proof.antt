@@ -7,14 +7,14 @@ use Rattle.transition.proofs.round.round.Tie as tie
 
 all-silent-requires : tie.Need-all-silent-requires
 all-silent-requires c κs =
-    let start = c .before .before .before .before in
+    let start = c .before .before .before .before .before in
     let ((s, x), p, e, y) = start .pre in
     (x .tabled .few, x .long, row-telling (round-caused x))
 
 merge-slot-requires : tie.Need-merge-slot-requires
 merge-slot-requires c κs =
     let at-rewrite = c .before .before .before in
-    let start = at-rewrite .before .before .before .before .before .before .before .before in
+    let start = at-rewrite .before .before .before .before .before .before .before .before .before in
     let ((s, x), p, e, y) = start .pre in
     let w = at-rewrite .rewrite in
     round-slot x p y (w .ensures s (round-caused x)) (w .kept .1 .1 .0)
@@ -25,7 +25,7 @@ returns-2 c =
     let at-rewrite = at-merge-slot .before .before .before .before in
     let at-if1 = at-rewrite .before .before in
     let at-all-silent = at-if1 .before in
-    let start = at-all-silent .before .before .before .before .before in
+    let start = at-all-silent .before .before .before .before .before .before in
     let (_, p, e, y) = start .pre in
     let q = at-all-silent .all-silent in
     λ s x. round-staged x p y (at-rewrite .rewrite .ensures s (round-caused x)) e
@@ -36,7 +36,7 @@ round-spec =
     tie.close
     (tie.spec all-silent-requires (λ c κs. search needs) (λ c. search needs) (λ c. search needs)
     (λ c κs.
-    let start = c .before .before .before .before .before .before .before in
+    let start = c .before .before .before .before .before .before .before .before in
     let ((s, x), p, e, y) = start .pre in
     (s, round-caused x))
     merge-slot-requires (λ c. search needs) returns-2)

@@ -10,15 +10,15 @@ use Rattle.transition.proofs.stage.stage.Tie as tie
 put-down-requires : tie.Need-put-down-requires
 put-down-requires c κs =
     let at-change-table = c .before .before .before .before in
-    let start = at-change-table .before .before .before .before .before .before in
+    let start = at-change-table .before .before .before .before .before .before .before in
     let p = start .pre in
-    let slim : start .args .t .width ≤ 30 = omega (arith, p .0 .1 .tabled .fits .wide, small (p .0 .1 .tabled)) in
+    let slim : start .args .h .table .width ≤ 30 = omega (arith, p .0 .1 .tabled .fits .wide, small (p .0 .1 .tabled)) in
     (omega arith, omega (arith, slim, p .1 .slot-room), omega arith, omega (arith, slim, p .1 .room, at-change-table .change-table .kept .1 .1 .1 .1 .0))
 
 partition-requires : tie.Need-partition-requires
 partition-requires c κs =
     let at-change-table = c .before .before .before .before in
-    let start = at-change-table .before .before .before .before .before .before in
+    let start = at-change-table .before .before .before .before .before .before .before in
     let p = start .pre in
     let y = at-change-table .change-table .ensures (p .0 .0) (p .0 .1) in
     ((stage-levels (p .0 .1) (p .1) y (at-change-table .change-table .kept .1 .1 .1 .1 .0), y .some, omega arith), y .ordered)
@@ -27,7 +27,7 @@ returns-2 : tie.Need-returns-2
 returns-2 c =
     let at-partition = c .before .before .before in
     let at-change-table = at-partition .before .before .before .before .before in
-    let start = at-change-table .before .before .before .before .before .before in
+    let start = at-change-table .before .before .before .before .before .before .before in
     let a = at-change-table .change-table in
     let b = at-partition .partition in
     λ s x. stage-many x (start .pre .1) (a .ensures s x) (a .kept .1 .1 .1 .1 .0) (b .ensures) (b .kept .0) (c .if2 .taken)
@@ -37,7 +37,7 @@ put-down-requires-2 c κs =
     let at-if2 = c .before .before in
     let at-partition = at-if2 .before .before .before in
     let at-change-table = at-partition .before .before .before .before .before in
-    let start = at-change-table .before .before .before .before .before .before in
+    let start = at-change-table .before .before .before .before .before .before .before in
     let p = start .pre in
     let a = at-change-table .change-table in
     let b = at-partition .partition in
@@ -51,7 +51,7 @@ returns-3 c =
     let at-if2 = at-if3 .before in
     let at-partition = at-if2 .before .before .before in
     let at-change-table = at-partition .before .before .before .before .before in
-    let start = at-change-table .before .before .before .before .before .before in
+    let start = at-change-table .before .before .before .before .before .before .before in
     let a = at-change-table .change-table in
     let b = at-partition .partition in
     λ s x. stage-apart x (start .pre .1) (a .ensures s x) (a .kept .1 .1 .1 .1 .0) (b .ensures) (b .kept .0) (omega (arith, at-if2 .if2 .left)) (at-if3 .if3 .taken) (at-put-down2 .put-down2 .ensures)
@@ -61,7 +61,7 @@ write-merged-requires c κs =
     let at-if2 = c .before .before in
     let at-partition = at-if2 .before .before .before in
     let at-change-table = at-partition .before .before .before .before .before in
-    let start = at-change-table .before .before .before .before .before .before in
+    let start = at-change-table .before .before .before .before .before .before .before in
     let p = start .pre in
     let x = p .0 .1 in
     let a = at-change-table .change-table in
@@ -75,7 +75,7 @@ put-down-requires-3 c κs =
     let at-if2 = at-write-merged .before .before .before in
     let at-partition = at-if2 .before .before .before in
     let at-change-table = at-partition .before .before .before .before .before in
-    let start = at-change-table .before .before .before .before .before .before in
+    let start = at-change-table .before .before .before .before .before .before .before in
     let p = start .pre in
     let x = p .0 .1 in
     let a = at-change-table .change-table in
@@ -93,7 +93,7 @@ returns-4 c =
     let at-if2 = at-write-merged .before .before .before in
     let at-partition = at-if2 .before .before .before in
     let at-change-table = at-partition .before .before .before .before .before in
-    let start = at-change-table .before .before .before .before .before .before in
+    let start = at-change-table .before .before .before .before .before .before .before in
     let a = at-change-table .change-table in
     let b = at-partition .partition in
     let o = at-write-merged .write-merged in
@@ -104,7 +104,7 @@ stage-spec =
     tie.close
     (tie.spec
     (λ c κs.
-    let start = c .before .before .before .before .before in
+    let start = c .before .before .before .before .before .before in
     let p = start .pre in
     (p .0, stage-laid (p .0 .1) (p .1)))
     put-down-requires
@@ -116,7 +116,7 @@ stage-spec =
     let at-put-down = c .before .before in
     let at-if1 = at-put-down .before .before in
     let at-change-table = at-if1 .before .before .before in
-    let start = at-change-table .before .before .before .before .before .before in
+    let start = at-change-table .before .before .before .before .before .before .before in
     let a = at-change-table .change-table in
     λ s x. stage-one x (start .pre .1) (a .ensures s x) (a .kept .1 .1 .1 .1 .0) (at-if1 .if1 .taken) (at-put-down .put-down .ensures))
     partition-requires
