@@ -1,4 +1,4 @@
--- Bytes in range, one for each number, are what is read of a test. Assumes nothing.
+-- Bytes in range, one for each number, are what is read of a test and of an effect. Assumes nothing.
 use Prim.Native.Nat.{ℕ, _+_, _-_, _<_, _≤_}
 use mathlib.Core.Path.{_≡_, refl}
 use mathlib.Core.Bool.{true, false}
@@ -8,11 +8,11 @@ use lib.ListN.{length, getD}
 use borrow.Author.Tests.{lt-ltb, le-ltb}
 use Rattle.pack.specs.Reading.{done, mapped, many}
 use Rattle.pack.specs.Number.{between, item}
-use Rattle.pack.specs.Grammar.{testAt}
+use Rattle.pack.specs.Grammar.{testAt, effectAt}
 use Rattle.pack.specs.Contracts.Said.{forget}
 use Rattle.pack.specs.Contracts.Answer.{dims, claimAt}
 use Rattle.pack.specs.Laws.Accepts.{one}
-use Rattle.pack.specs.Laws.Runs.{many-forget, test-forget}
+use Rattle.pack.specs.Laws.Runs.{many-forget, test-forget, effect-forget}
 
 -- a "no" promises nothing
 pub unsaid : {A : Type 0} → false ≡ true → A
@@ -46,3 +46,8 @@ test-reads C domains s at k n l e h chain i kind claim =
     let small : k < 128 = omega arith in
     let low : getD s n 0 < 128 = omega arith in
     rw (test-forget (dims C domains) s at, byte-reads 5 3 s at k l e h small, chain, byte-reads 3 4 s n (getD s n 0) i refl kind low, claim)
+
+-- whom an effect is for, a fluent and a value
+pub effect-reads : (C : ℕ) (domains s : List ℕ) (at v : ℕ) → at < length s → getD s at 0 ≡ v → v < C + 1 → v < 128 → claimAt domains s (at + 1) ≡ done tt (at + 3)
+    → mapped forget (effectAt (dims C domains) s at) ≡ done tt (at + 3)
+effect-reads C domains s at v l e h k claim = rw (effect-forget (dims C domains) s at, byte-reads (C + 1) 4 s at v l e h k, claim)

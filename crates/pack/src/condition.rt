@@ -75,7 +75,7 @@ pub fn check_alternative(s: &[u8], at: usize, characters: usize, domains: &[u8])
             let mut left = count;
             while 0 < left {
                 let after = plain_test(s, n, characters, domains);
-                if n < after {
+                if 0 < after {
                     n = after;
                     left = left - 1;
                 } else {

@@ -4,6 +4,7 @@ use crate::number::Checked;
 use crate::number::Number;
 use crate::number::read_between;
 use crate::number::read_rising;
+use crate::plain::plain_effect;
 use crate::refusal::ABSENT;
 use crate::refusal::LIMIT;
 ghost use mathlib.Core.Path.{_≡_};
@@ -24,7 +25,7 @@ pub fn check_effect(s: &[u8], at: usize, characters: usize, domains: &[u8]) -> C
     }
 }
 
-// A count of effects, and the effects.
+// A count of effects, and the effects, of which plain ones are passed over at once.
 pub fn check_effects(s: &[u8], at: usize, characters: usize, domains: &[u8]) -> Checked
     requires { ⌜ characters ≤ 6 ⌝ }
     ensures { λ r. ⌜ mapped forget (effectsAt (dims characters (now (domains .entry))) (now (s .entry)) at)
@@ -36,13 +37,19 @@ pub fn check_effects(s: &[u8], at: usize, characters: usize, domains: &[u8]) -> 
             let mut n = first;
             let mut left = count;
             while 0 < left {
-                match check_effect(s, n, characters, domains) {
-                    Checked::Refused(k, p) => {
-                        return Checked::Refused(k, p);
-                    }
-                    Checked::Passed(next) => {
-                        n = next;
-                        left = left - 1;
+                let after = plain_effect(s, n, characters, domains);
+                if 0 < after {
+                    n = after;
+                    left = left - 1;
+                } else {
+                    match check_effect(s, n, characters, domains) {
+                        Checked::Refused(k, p) => {
+                            return Checked::Refused(k, p);
+                        }
+                        Checked::Passed(next) => {
+                            n = next;
+                            left = left - 1;
+                        }
                     }
                 }
             }

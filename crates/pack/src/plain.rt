@@ -1,6 +1,6 @@
-// Plain tests: each number is one byte and in range. Every test of an accepted pack is plain, and is passed over at
-// once. Any other is read number by number, which finds the fault, so only where these functions say yes do they
-// promise something.
+// Plain tests and effects: each number is one byte and in range. Every test and every effect of an accepted pack is
+// plain, and is passed over at once. Any other is read number by number, which finds the fault, so only where these
+// functions say yes do they promise something.
 use crate::number::wide;
 ghost use Prim.Native.Nat.{_+_, _<_, _≤_};
 ghost use lib.ListN.{length};
@@ -8,7 +8,7 @@ ghost use mathlib.Core.Path.{_≡_};
 ghost use mathlib.Core.Bool.{true};
 ghost use Rattle.pack.specs.Reading.{done, mapped, many};
 ghost use Rattle.pack.specs.Number.{item};
-ghost use Rattle.pack.specs.Grammar.{testAt};
+ghost use Rattle.pack.specs.Grammar.{testAt, effectAt};
 ghost use Rattle.pack.specs.Contracts.Said.{forget};
 ghost use Rattle.pack.specs.Contracts.Answer.{dims, claimAt};
 
@@ -50,32 +50,52 @@ pub fn plain_claim(s: &[u8], at: usize, domains: &[u8]) -> bool
     wide(s[at + 1]) < byte_limit(wide(domains[fluent]))
 }
 
-// The place after a test, where it is plain, and else its own place.
+// The place after a test, where it is plain, and else 0.
 pub fn plain_test(s: &[u8], at: usize, characters: usize, domains: &[u8]) -> usize
-    ensures { λ r. ⌜ (at < r
+    ensures { λ r. ⌜ (0 < r
         → mapped forget (testAt (dims characters (now (domains .entry))) (now (s .entry)) at) ≡ done tt r) ⌝ }
 {
     if s.len() <= at {
-        return at;
+        return 0;
     }
     let count = wide(s[at]);
     if 4 < count {
-        return at;
+        return 0;
     }
     let n = at + 1 + count;
     if s.len() <= n + 2 {
-        return at;
+        return 0;
     }
     let chain = plain_chain(s, at + 1, characters, count);
     if !chain {
-        return at;
+        return 0;
     }
     let kind = s[n];
     match kind {
         0 | 1 | 2 => {
             let claim = plain_claim(s, n + 1, domains);
-            if claim { n + 3 } else { at }
+            if claim { n + 3 } else { 0 }
         }
-        3..=255 => at,
+        3..=255 => 0,
     }
+}
+
+// The place after an effect, where it is plain, and else 0.
+pub fn plain_effect(s: &[u8], at: usize, characters: usize, domains: &[u8]) -> usize
+    requires { ⌜ characters ≤ 6 ⌝ }
+    ensures { λ r. ⌜ (0 < r
+        → mapped forget (effectAt (dims characters (now (domains .entry))) (now (s .entry)) at) ≡ done tt r) ⌝ }
+{
+    if s.len() <= at {
+        return 0;
+    }
+    if s.len() <= at + 2 {
+        return 0;
+    }
+    let whom = wide(s[at]);
+    if byte_limit(characters + 1) <= whom {
+        return 0;
+    }
+    let claim = plain_claim(s, at + 1, domains);
+    if claim { at + 3 } else { 0 }
 }

@@ -32,9 +32,16 @@ check-effects-spec =
     rw (at-read-between .read-between .ensures, c .before .count .given .1))
     (λ c κs. search needs)
     (λ c. search needs)
+    (λ c. search needs)
+    (λ c.
+    let turn = c .before .before in
+    let at-loop = turn .before in
+    rw (at-loop .loop .inv, many-forget _ _ _ _ (turn .loop-test .taken), c .before .plain-effect .ensures (c .if1 .taken)))
+    (λ c κs. search needs)
+    (λ c. search needs)
     (λ c.
     let at-check-effect = c .before .before .before in
-    let turn = at-check-effect .before in
+    let turn = at-check-effect .before .before .before in
     let at-loop = turn .before in
     rw (at-loop .loop .inv, many-forget _ _ _ _ (turn .loop-test .taken), at-check-effect .check-effect .ensures, c .before .k2 .given .1))
     (λ c. search needs)
@@ -42,7 +49,7 @@ check-effects-spec =
     (λ c. search needs)
     (λ c.
     let at-check-effect = c .before .before .before in
-    let turn = at-check-effect .before in
+    let turn = at-check-effect .before .before .before in
     let at-loop = turn .before in
     rw (at-loop .loop .inv, many-forget _ _ _ _ (turn .loop-test .taken), at-check-effect .check-effect .ensures, c .before .next .given .1))
     (λ c.
