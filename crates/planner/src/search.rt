@@ -251,8 +251,8 @@ pub fn completes_by(
     after
 }
 
-// The least length, of 1 to `most` actions, that a list may have which leads the author above base from the state in the
-// first slot; or one more. No list is looked for that is shorter.
+// The least length, of 1 to `most` actions, that a list may have which leads the author above base from the state in
+// the first slot; or one more. No list is looked for that is shorter.
 pub fn first_length(
     pack: &[u8],
     places: &[u16],
