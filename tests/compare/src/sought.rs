@@ -1,6 +1,6 @@
 //! Packs that the benchmark of Search is run on.
 
-use reference::generate::draft::{self, action, effect, is, rule};
+use reference::generate::draft::{self, action, all, effect, is, rule, test, IS};
 use reference::generate::random::Random;
 use reference::generate::{packs, seasons, stories, wander};
 use reference::pack::Pack;
@@ -55,10 +55,10 @@ pub fn sized(season: &Season) -> Vec<Vec<u8>> {
 }
 
 /// Doors that may be opened and closed in any order, so that so many actions are playable in each of the 2^doors states
-/// and lists lead to few states; the author wants what never is. With a guard for each door who wants it open, nobody
-/// has a reason to close one.
+/// and lists lead to few states; the author wants the first both open and closed, which never is and only a search can
+/// tell. With a guard for each door who wants it open, nobody has a reason to close one.
 pub fn doors(doors: usize, guarded: bool) -> Vec<u8> {
-    let mut pack = draft::empty(doors, &vec![2; doors + 1]);
+    let mut pack = draft::empty(doors, &vec![2; doors]);
     for door in 0..doors {
         let guard: &[usize] = if guarded { &[door] } else { &[] };
         for (from, to) in [(0, 1), (1, 0)] {
@@ -67,6 +67,7 @@ pub fn doors(doors: usize, guarded: bool) -> Vec<u8> {
         }
         pack.utilities[door + 1].push(rule(is(door, 1), 1));
     }
-    pack.utilities[0].push(rule(is(doors, 1), 1));
+    let both = [0, 1].map(|value| test(&[], IS, 0, value));
+    pack.utilities[0].push(rule(all(both.into()), 1));
     draft::bytes(&pack)
 }
