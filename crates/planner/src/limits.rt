@@ -43,12 +43,15 @@ pub struct Context {
     pub block: usize,
 }
 
+// From so many actions on a pack is of a season's size, and its search worth more before it begins.
+pub const SEASON: usize = 12;
+
 // How many entries there are: few for packs of few actions, of which little is known, since the entries are emptied at
 // the start; many where there is room. Nothing that is answered depends on it.
 pub fn entries(actions: usize, room: usize) -> usize
     ensures { λ r. ⌜ r ≡ entries actions room ⌝ }
 {
-    if actions < 12 {
+    if actions < SEASON {
         return 256;
     }
     if room < 24000 {

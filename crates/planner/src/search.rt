@@ -18,6 +18,7 @@ use crate::limits::Context;
 use crate::limits::Foresight;
 use crate::limits::Limits;
 use crate::limits::Nesting;
+use crate::limits::SEASON;
 use crate::limits::Story;
 use crate::limits::laid_out;
 use crate::limits::searchable;
@@ -252,7 +253,8 @@ pub fn completes_by(
 }
 
 // The least length, of 1 to `most` actions, that a list may have which leads the author above base from the state in
-// the first slot; or one more. No list is looked for that is shorter.
+// the first slot; or one more. No list is looked for that is shorter. Of a pack of few actions nothing is reckoned: its
+// short lists are looked for as quickly.
 pub fn first_length(
     pack: &[u8],
     places: &[u16],
@@ -265,6 +267,9 @@ pub fn first_length(
     ensures { λ r. ⌜ (0 < r) × ((k : ℕ) → 0 < k → k < r
         → OutOfReach (now (pack .entry)) (now (places .entry)) p (now (work .entry)) 0 0 k base) ⌝ }
 {
+    if p.actions < SEASON {
+        return 1;
+    }
     let hope = Hope {
         whose: 0,
         left: most,
