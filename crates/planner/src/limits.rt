@@ -29,7 +29,7 @@ pub struct Limits {
 
 // What stays the same through a call: a pack's counts, the foresight limit, how many bytes a slot of the work buffer
 // takes, where the memory begins behind the slots, how many entries it has for what is known of lists (and half as many
-// for steps), where its tables begin, and how many bytes a block takes, of which they are kept in.
+// for steps), where its tables begin, and how many bytes each block takes that they are kept in.
 pub struct Context {
     pub actions: usize,
     pub triggers: usize,
@@ -43,7 +43,7 @@ pub struct Context {
     pub block: usize,
 }
 
-// From so many actions on a pack is of a season's size, and its search worth more before it begins.
+// From so many actions on a pack is of a season's size: more is laid out for its search, and reckoned before it.
 pub const SEASON: usize = 12;
 
 // How many entries there are: few for packs of few actions, of which little is known, since the entries are emptied at
@@ -60,7 +60,8 @@ pub fn entries(actions: usize, room: usize) -> usize
     1024
 }
 
-// The remainder of a number by so many entries, each of which may be a power of two.
+// The remainder of a number by how many entries there are, a power of two: a case for each, since by a constant it is
+// had without a division.
 pub fn remainder(h: usize, count: usize) -> usize
     requires { ⌜ (count ≡ 128) ⊎ Sized count ⌝ }
     ensures { λ r. ⌜ r ≡ h % count ⌝ }
