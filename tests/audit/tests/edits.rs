@@ -52,8 +52,9 @@ fn edits_outside_the_gate_are_said() {
     let page = fs::read_to_string(repository.join("docs/CONTRACTS.md")).expect("the page");
     let (_, section) = page.split_once("## Outside the gate").expect("the section");
     let section = section.split("\n## ").next().unwrap_or("");
-    let first = |row: &str| row.split('`').nth(1).unwrap_or("").to_string();
-    let mut said: Vec<String> = section.lines().filter(|line| line.starts_with("| `")).map(first).collect();
+    let rows = section.lines().filter(|line| line.starts_with("| `"));
+    let first = rows.map(|row| row.split('|').nth(1).unwrap_or(""));
+    let mut said: Vec<String> = first.flat_map(|cell| cell.split('`').skip(1).step_by(2)).map(String::from).collect();
     let mut there = Vec::new();
     for of in layers::crates(&repository).expect("crates.txt") {
         there.extend(edits::names(&repository, &of, false).expect("edits"));
