@@ -2,8 +2,8 @@
 //
 // A relaxed plan, level by level: by the state's own values the actions that could be played first, by what these write
 // besides those that could then be played, and so on. What one of them writes stays in range, and consenters are not
-// asked, so where no rule above could hold even so no list of so many actions leads there, and no step is made. The
-// author's lists are looked for from the length on after which one could (`first_length`).
+// asked, so where no rule above could hold even so no list of so many actions leads there, and no step is made. Of a
+// pack of a season's size the author's lists are looked for from the length on after which one could (`first_length`).
 use crate::intern::is_large;
 use crate::limits::Context;
 use crate::prune::Hope;
