@@ -107,7 +107,7 @@ module _ (h : Context) where
         let stands : StepKnown h now t root a next = step-there h same here (record { some = read .some; read = last at (omega arith) ∙ read .read; row = last (at + 1) (omega arith) ∙ read .row; acted = last (at + 2) (omega arith) ∙ read .acted }) (last (at + 3) (omega arith) ∙ e) in
         record {
           again = λ n k. subst (λ (m : ℕ). Again h m slot was now r) (sym e ∙ stood k .1) (subst (λ (work : List ℕ). Again h next slot work now r) (x .known (k .entry .some)) y);
-          kept = λ z _. omega (arith, y .named z, y .played z .0);
+          kept = λ z _ _. omega (arith, y .named z, y .played z .0);
           refused = λ z _. subst (StepKnown h now t root a) (y .refused z) stands;
           played = λ z _ _. subst (StepKnown h now t root a) (sym (y .named z)) stands;
         }

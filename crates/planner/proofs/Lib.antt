@@ -1,6 +1,7 @@
 -- The modules of `proofs/` that belong to no one function.
 pub mod Chains
 pub mod TrueMemory
+pub mod CellMemory
 pub mod LastNoted
 pub mod Explanations
 pub mod Pruning

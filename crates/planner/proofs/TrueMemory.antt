@@ -25,7 +25,7 @@ use Rattle.chart.specs.Laws.Cells.{rows-same, row-in, rows-most}
 use Rattle.planner.specs.declared.limits.Context.{Context}
 use Rattle.planner.specs.declared.entry.Key.{Key}
 use Rattle.planner.specs.Inner.Lists.{slotTable}
-use Rattle.planner.specs.Inner.Memory.{Laid, idAt, takenAt, headsAt, headAt, stepsAt, factsAt, linksAt, tablesAt, keptAt, keptTable, Inside, Behind, OnChain, Kept, Alike, HasId, Chained, StepFact, Fact, keyAt, SlotEntry, StepEntry, FactEntry, Memory, slotId, entryAt, stepAt, Place, Before, InSlot, Fits, Only, Unasked, FoundOn, Linked, Placed, Stored, Interning, Identified, Sought, Storable, KeyPut, FactRead, FactKnown, Recalls, Notes, Recalled, Remembered, StepRead, StepKnown, StepPut, Noted, Slot, Again, LeftNoted, StepOnce}
+use Rattle.planner.specs.Inner.Memory.{Laid, idAt, takenAt, headsAt, headAt, stepsAt, factsAt, linksAt, tablesAt, keptAt, keptTable, Inside, Behind, OnChain, Kept, Alike, HasId, Chained, StepFact, Fact, keyAt, SlotEntry, StepEntry, FactEntry, Memory, slotId, entryAt, stepAt, Place, Before, InSlot, Fits, Only, Unasked, FoundOn, Linked, Placed, Stored, Interning, Identified, Storable, Spent, Roomy, CellFact, Cells, cellAt, cellSize, Holds, CellPut, KeyPut, FactRead, FactKnown, Recalls, Notes, Recalled, Remembered, StepRead, StepKnown, StepPut, Noted, Slot, Again, LeftNoted, StepOnce}
 use Rattle.planner.proofs.Chains.{Wider, Grown, kept-from, table-moved, inside-count, inside-table, inside-grown, inside-hash, alike-grown, chain-back, chain-none, grown-same, grown-by, chained-none, alike-hash, id-listed, id-once, found-id, found-exact, linked-wider, linked-grown, behind-here}
 
 -- a mark that says nothing
@@ -35,6 +35,10 @@ fact-none th K k s = record { no = λ e. absurd (omega (arith, e)); yes = λ e. 
 -- a flag that is not set
 pub unset : {A : Type 0} → false ≡ true → A
 unset e = let z : _≡_ {A = ℕ} 0 1 = ap (λ (b : Bool). pick b 1 0) e in absurd (omega arith)
+
+-- a flag that is
+pub set-not : {A : Type 0} → true ≡ false → A
+set-not e = let z : _≡_ {A = ℕ} 1 0 = ap (λ (b : Bool). pick b 1 0) e in absurd (omega arith)
 
 -- keys of the same numbers
 pub key-same : {w w′ n n′ l l′ b b′ : ℕ} → w ≡ w′ → n ≡ n′ → l ≡ l′ → b ≡ b′ → _≡_ {A = Key} (record { who = w; nesting = n; number = l; base = b }) (record { who = w′; nesting = n′; number = l′; base = b′ })
@@ -144,6 +148,25 @@ module _ (h : Context) where
   pub state-moved : (was now : List ℕ) (a b : ℕ) → ((i : ℕ) → i < 1 + getD was a 0 * w → getD now (b + i) 0 ≡ getD was (a + i) 0) → stateOf (slotTable h now b) now 0 ≡ stateOf (slotTable h was a) was 0
   state-moved was now a b f = ap (λ (T : List Node). meaning (h .characters) T 0) (table-moved h was now a b f)
 
+  -- a cell whose bytes stay, but for the one of which nothing is asked
+  pub cell-same : {th : Theory} {K : ℕ} {was now : List ℕ} (a : ℕ) → ((q : ℕ) → a ≤ q → q < a + cellSize h → q ≢ a + 6 → getD now q 0 ≡ getD was q 0) → CellFact th K h was a → CellFact th K h now a
+  cell-same {th} {K} {was} {now} a f x =
+      let at : (d : ℕ) → d < 8 → d ≢ 6 → getD now (a + d) 0 ≡ getD was (a + d) 0 = λ d l n. f (a + d) (omega arith) (omega (arith, l)) (λ e. n (omega (arith, e))) in
+      let most : getD was (a + 7) 0 * w ≤ 8 * w = mul-le-mul-right w (x .few) in
+      let moved = table-moved h was now (a + 7) (a + 7) (λ j m. f (a + 7 + j) (omega arith) (omega (arith, m, most)) (λ e. omega (arith, e))) in
+      record {
+        few = omega (arith, at 7 (omega arith) (λ e. omega (arith, e)), x .few);
+        fact = fact-same th K (sym (f a (omega arith) (omega arith) (λ e. omega (arith, e))))
+            (key-same (sym (at 1 (omega arith) (λ e. omega (arith, e)))) (sym (at 2 (omega arith) (λ e. omega (arith, e)))) (sym (at 3 (omega arith) (λ e. omega (arith, e)))) (omega (arith, at 4 (omega arith) (λ e. omega (arith, e)), at 5 (omega arith) (λ e. omega (arith, e)))))
+            (rows-mean (h .characters) (sym moved)) (x .fact);
+      }
+
+  -- all of them
+  pub cells-same : {th : Theory} {K : ℕ} {was now : List ℕ} → getD now (h .memory + 49) 0 ≡ getD was (h .memory + 49) 0 → getD now (takenAt h) 0 ≡ getD was (takenAt h) 0 → ((q : ℕ) → tablesAt h ≤ q → q < scratchAt → getD now q 0 ≡ getD was q 0) → Cells th K h was → Cells th K h now
+  cells-same once taken f c sp i l z =
+      let e0 = f (cellAt h i) (omega arith) (omega (arith, l)) in
+      cell-same (cellAt h i) (λ q g u _. f q (omega (arith, g)) (omega (arith, u, l))) (c (record { once = omega (arith, once, sp .once); none = sym taken ∙ sp .none }) i l (omega (arith, e0, z)))
+
   -- a table in a slot, as one of its fields
   pub slot-table : {work : List ℕ} {t : Table} {limit : ℕ} → Before h work t → (x : InSlot h work t limit) → tableOf (slotTable h work (h .stride * x .number)) work ≡ tableOf t work
   slot-table {work} {t} b x =
@@ -219,18 +242,19 @@ module _ (h : Context) where
     pub memory-but : {th : Theory} {K limit : ℕ} → ((q : ℕ) → q < limit → getD now q 0 ≡ getD was q 0)
         → ((i : ℕ) → h .stride * i + h .stride ≤ limit → (getD now (idAt h (h .stride * i + 1)) 0 ≡ getD was (idAt h (h .stride * i + 1)) 0) ⊎ SlotEntry h now i)
         → ((i : ℕ) → i < h .lists / 2 → ((q : ℕ) → stepsAt h + 4 * i ≤ q → q < stepsAt h + 4 * i + 4 → getD now q 0 ≡ getD was q 0) ⊎ StepEntry th h now (stepsAt h + 4 * i))
-        → ((i : ℕ) → i < h .lists → ((q : ℕ) → factsAt h + 7 * i ≤ q → q < factsAt h + 7 * i + 7 → getD now q 0 ≡ getD was q 0) ⊎ FactEntry th K h now (factsAt h + 7 * i)) → Memory th K h limit was → Memory th K h limit now
-    memory-but low a b c m = record {
+        → ((i : ℕ) → i < h .lists → ((q : ℕ) → factsAt h + 7 * i ≤ q → q < factsAt h + 7 * i + 7 → getD now q 0 ≡ getD was q 0) ⊎ FactEntry th K h now (factsAt h + 7 * i)) → (Cells th K h was → Cells th K h now) → Memory th K h limit was → Memory th K h limit now
+    memory-but low a b c d m = record {
       laid = m .laid;
       within = g .wider .within (m .within);
       chains = g .chains (m .chains);
       slots = λ i l. ⊎-elim (λ e. slot-entry (m .laid) low i l e (m .slots i l)) (λ x. x) (a i l);
       steps = λ i l. ⊎-elim (λ e. step-entry (stepsAt h + 4 * i) e (m .steps i l)) (λ x. x) (b i l);
       facts = λ i l. ⊎-elim (λ e. fact-entry (factsAt h + 7 * i) e (m .facts i l)) (λ x. x) (c i l);
+      cells = d (m .cells);
     }
 
     -- entries all stay
-    pub memory-quiet : {th : Theory} {K limit : ℕ} → ((q : ℕ) → q < limit → getD now q 0 ≡ getD was q 0) → ((q : ℕ) → h .memory ≤ q → q < takenAt h → getD now q 0 ≡ getD was q 0) → ((q : ℕ) → stepsAt h ≤ q → q < tablesAt h → getD now q 0 ≡ getD was q 0) → Memory th K h limit was → Memory th K h limit now
+    pub memory-quiet : {th : Theory} {K limit : ℕ} → ((q : ℕ) → q < limit → getD now q 0 ≡ getD was q 0) → ((q : ℕ) → h .memory ≤ q → q < takenAt h → getD now q 0 ≡ getD was q 0) → ((q : ℕ) → stepsAt h ≤ q → q < tablesAt h → getD now q 0 ≡ getD was q 0) → (Cells th K h was → Cells th K h now) → Memory th K h limit was → Memory th K h limit now
     memory-quiet low ids mid = memory-but low (λ i l. inl (ids (idAt h (h .stride * i + 1)) (omega arith) (omega arith))) (λ i l. inl (λ q a b. mid q (omega (arith, a)) (omega (arith, b, l)))) (λ i l. inl (λ q a b. mid q (omega (arith, a)) (omega (arith, b, l))))
 
   -- only slots and the scratch change
@@ -242,29 +266,39 @@ module _ (h : Context) where
       (grown-same h
       (record { taken = omega (arith, taken); within = λ l. omega (arith, ap (λ (k : ℕ). h .block * k) taken, l); tables = λ q l g. mid q (omega (arith, l)) (omega (arith, g, m .within)) })
       (λ b l. mid (headsAt h + b) (omega arith) (omega (arith, l, room))) (λ n l. mid (linksAt h + n) (omega arith) (omega (arith, l, room))))
-      low (λ q l g. mid q l (omega (arith, g, room))) (λ q l g. mid q (omega (arith, l)) (omega (arith, g, room))) m
+      low (λ q l g. mid q l (omega (arith, g, room))) (λ q l g. mid q (omega (arith, l)) (omega (arith, g, room)))
+      (cells-same (mid (h .memory + 49) (omega arith) (omega (arith, room))) taken (λ q l g. mid q (omega (arith, l)) g)) m
 
   -- nothing is known
-  pub memory-clear : {th : Theory} {K limit : ℕ} {now : List ℕ} → Laid h → ((q : ℕ) → h .memory ≤ q → q < tablesAt h → getD now q 0 ≡ 0) → Memory th K h limit now
-  memory-clear laid f = record {
+  memory-none : {th : Theory} {K limit : ℕ} {now : List ℕ} → Laid h → ((q : ℕ) → h .memory ≤ q → q < tablesAt h → q ≢ h .memory + 49 → getD now q 0 ≡ 0) → Cells th K h now → Memory th K h limit now
+  memory-none laid f c = record {
     laid = laid;
-    within = omega (arith, ap (λ (k : ℕ). h .block * k) (f (takenAt h) (omega arith) (omega arith)), laid .room);
-    chains = chained-none h (λ q l g. f q (omega (arith, l)) (omega (arith, g)));
-    slots = λ i l z. absurd (omega (arith, z, f (idAt h (h .stride * i + 1)) (omega arith) (omega arith)));
-    steps = λ i l z. absurd (omega (arith, z, f (stepsAt h + 4 * i) (omega arith) (omega (arith, l))));
-    facts = λ i l z. absurd (omega (arith, z, f (factsAt h + 7 * i + 6) (omega arith) (omega (arith, l))));
+    within = omega (arith, ap (λ (k : ℕ). h .block * k) (f (takenAt h) (omega arith) (omega arith) (λ e. omega (arith, e))), laid .room);
+    chains = chained-none h (λ q l g. f q (omega (arith, l)) (omega (arith, g)) (λ e. omega (arith, e, l)));
+    slots = λ i l z. absurd (omega (arith, z, f (idAt h (h .stride * i + 1)) (omega arith) (omega arith) (λ e. omega (arith, e))));
+    steps = λ i l z. absurd (omega (arith, z, f (stepsAt h + 4 * i) (omega arith) (omega (arith, l)) (λ e. omega (arith, e))));
+    facts = λ i l z. absurd (omega (arith, z, f (factsAt h + 7 * i + 6) (omega arith) (omega (arith, l)) (λ e. omega (arith, e))));
+    cells = c;
   }
+
+  pub memory-clear : {th : Theory} {K limit : ℕ} {now : List ℕ} → Laid h → ((q : ℕ) → h .memory ≤ q → q < tablesAt h → getD now q 0 ≡ 0) → Memory th K h limit now
+  memory-clear laid f = memory-none laid (λ q l g _. f q l g) (λ sp. absurd (omega (arith, sp .once, f (h .memory + 49) (omega arith) (omega arith))))
+
+  -- and there are cells in the place of the tables, all empty
+  memory-wiped : {th : Theory} {K limit : ℕ} {now : List ℕ} → Laid h → ((q : ℕ) → h .memory ≤ q → q < scratchAt → q ≢ h .memory + 49 → getD now q 0 ≡ 0) → Memory th K h limit now
+  memory-wiped laid f = memory-none laid (λ q l g n. f q l (omega (arith, g, laid .room)) n) (λ sp i l z. absurd (omega (arith, z, f (cellAt h i) (omega arith) (omega (arith, l)) (λ e. omega (arith, e)))))
 
   -- only what nothing is asked of changes
   pub memory-unasked : {th : Theory} {K limit : ℕ} {was now : List ℕ} → Unasked h was now → limit ≤ h .memory → Memory th K h limit was → Memory th K h limit now
-  memory-unasked u few m = memory-quiet (grown-by h (u .low (takenAt h) (omega arith)) (λ q l _. u .high q l) (λ q l. u .high q (omega (arith, l)))) (λ q l. u .low q (omega (arith, l, few))) (λ q _ l. u .low q (omega (arith, l))) (λ q l _. u .high q (omega (arith, l))) m
+  memory-unasked u few m = memory-quiet (grown-by h (u .low (takenAt h) (omega arith)) (λ q l _. u .high q l) (λ q l. u .high q (omega (arith, l)))) (λ q l. u .low q (omega (arith, l, few))) (λ q _ l. u .low q (omega (arith, l))) (λ q l _. u .high q (omega (arith, l)))
+      (cells-same (u .low (h .memory + 49) (omega arith)) (u .low (takenAt h) (omega arith)) (λ q l _. u .high q (omega (arith, l)))) m
 
   pub unasked-only : {was now : List ℕ} → Laid h → Unasked h was now → Only h was now
   unasked-only laid u = record { low = λ q l. u .low q (omega (arith, l)); high = λ q l. u .high q (omega (arith, l, laid .room)) }
 
   -- fewer slots
   pub memory-fewer : {th : Theory} {K limit limit′ : ℕ} {now : List ℕ} → limit′ ≤ limit → Memory th K h limit now → Memory th K h limit′ now
-  memory-fewer l m = record { laid = m .laid; within = m .within; chains = m .chains; slots = λ i g. m .slots i (omega (arith, l, g)); steps = m .steps; facts = m .facts }
+  memory-fewer l m = record { laid = m .laid; within = m .within; chains = m .chains; slots = λ i g. m .slots i (omega (arith, l, g)); steps = m .steps; facts = m .facts; cells = m .cells }
 
   module _ {t : Table} where
     -- a table with the count and the bytes of the one that is kept
@@ -315,7 +349,7 @@ module _ (h : Context) where
       new-end : h .block * taken + t .nodes * t .width < h .block * v
       new-end =
           let all = div-add-mod (t .nodes * t .width) (h .block) in
-          let rest : t .nodes * t .width % h .block < h .block = mod-lt (t .nodes * t .width) (b .laid .blocks) in
+          let rest : t .nodes * t .width % h .block < h .block = mod-lt (t .nodes * t .width) (omega (arith, b .laid .blocks)) in
           omega (arith, all, rest, taken-then)
 
       new-room : tablesAt h + h .block * v ≤ scratchAt
@@ -355,7 +389,7 @@ module _ (h : Context) where
           small = omega (arith, fits, is);
           alike = λ z. kept-as (before-now (length-set mid (takenAt h) v ∙ long) b) (taken + 1) (omega arith) (omega (arith, ap (λ (k : ℕ). h .block * k) new-taken, new-end)) new-count new-byte;
           only = record { low = λ q l. below q (λ z. omega (arith, z, l)) (omega (arith, l)); high = λ q l. above q (omega (arith, l, new-end, new-room)) };
-          memory = λ p K limit few m. memory-quiet (grown-same h new-wider new-heads new-links) (λ q l. below q (λ z. omega (arith, z, l, few)) (omega (arith, l, few))) (λ q low high. below q (λ z. omega (arith, z, high)) (omega (arith, high))) (λ q low high. below q (λ z. omega (arith, z, low)) (omega (arith, high))) m;
+          memory = λ p K limit few m. memory-quiet (grown-same h new-wider new-heads new-links) (λ q l. below q (λ z. omega (arith, z, l, few)) (omega (arith, l, few))) (λ q low high. below q (λ z. omega (arith, z, high)) (omega (arith, high))) (λ q low high. below q (λ z. omega (arith, z, low)) (omega (arith, high))) (λ _ sp. absurd (omega (arith, sp .none, new-taken, is))) m;
           before = λ z c b l. let same = new-heads b l in omega (arith, same, c .heads b l, e);
           older = λ c b n l x.
               let on = chain-back h new-wider new-heads new-links b n l x in
@@ -363,18 +397,20 @@ module _ (h : Context) where
               (on, inside-count h new-wider k, inside-table h new-wider k);
         }
 
-    -- all else is forgotten first
-    pub placed-anew : {was mid cleared now : List ℕ} {r : ℕ} → Laid h → Only h was mid → Cleared mid cleared (h .memory) (436 + 9 * h .lists) → Placed h t (set cleared (h .memory + 49) 1) now r → Placed h t was now r
-    placed-anew {was} {mid} {cleared} {now} laid o c x =
+    -- all is forgotten
+    pub placed-wiped : {was mid cleared : List ℕ} → Laid h → Only h was mid → Cleared mid cleared (h .memory) (scratchAt - h .memory) → Placed h t was (set cleared (h .memory + 49) 1) 0
+    placed-wiped {was} {mid} {cleared} laid o c =
         let other : (q : ℕ) → q ≢ h .memory + 49 → getD (set cleared (h .memory + 49) 1) q 0 ≡ getD cleared q 0 = λ q n. getD-set-other cleared (h .memory + 49) q 1 0 n in
-        let heads : (q : ℕ) → headsAt h ≤ q → q < stepsAt h → getD (set cleared (h .memory + 49) 1) q 0 ≡ 0 = λ q l g. other q (λ z. omega (arith, z, l)) ∙ emptied h c q (omega (arith, l)) (omega (arith, g)) in
+        let zero : (q : ℕ) → h .memory ≤ q → q < scratchAt → q ≢ h .memory + 49 → getD (set cleared (h .memory + 49) 1) q 0 ≡ 0 = λ q l g n.
+        let y : q ≡ h .memory + (q - (h .memory)) = omega (arith, l) in
+        other q n ∙ ap (λ (q : ℕ). getD cleared q 0) y ∙ c .clear (q - (h .memory)) (omega (arith, l, g)) in
         record {
-          small = x .small;
-          alike = x .alike;
-          only = record { low = λ q l. x .only .low q l ∙ other q (λ z. omega (arith, z, l)) ∙ c .low q l ∙ o .low q l; high = λ q l. x .only .high q l ∙ other q (λ z. omega (arith, z, l, laid .room)) ∙ c .high q (omega (arith, l, laid .room)) ∙ o .high q l };
-          memory = λ p K limit few m. x .memory p K limit few (memory-unasked {was = cleared} (record { low = λ q l. other q (λ z. omega (arith, z, l)); high = λ q l. other q (λ z. omega (arith, z, l)) }) few (memory-clear (m .laid) (emptied h c)));
-          before = λ z _. x .before z (chained-none h heads);
-          older = λ _ b n l y. absurd (chain-none h (heads (headsAt h + b) (omega arith) (omega (arith, l))) (x .older (chained-none h heads) b n l y .0));
+          small = omega arith;
+          alike = λ z. absurd (omega (arith, z));
+          only = record { low = λ q l. other q (λ z. omega (arith, z, l)) ∙ c .low q l ∙ o .low q l; high = λ q l. other q (λ z. omega (arith, z, l, laid .room)) ∙ c .high q (omega (arith, l, laid .room)) ∙ o .high q l };
+          memory = λ p K limit few m. memory-wiped laid zero;
+          before = λ z. absurd (omega (arith, z));
+          older = λ _ b n l y. absurd (chain-none h (zero (headsAt h + b) (omega arith) (omega (arith, l, laid .room)) (λ z. omega (arith, z))) y);
         }
 
     -- there is no room for it, and it is kept nowhere
@@ -426,7 +462,8 @@ module _ (h : Context) where
         only = record { low = λ q g. linked-low q (omega (arith, g)) ∙ x .only .low q g; high = λ q g. linked-high q (omega (arith, g, b .laid .room)) ∙ x .only .high q g };
         memory = λ p K limit few m.
             let grown = linked-grown h mark-few here (x .small) some l (x .before some (m .chains)) before₁ (rows-now ∙ rows-mid) new-alike hash-now (f .none refl) (m .chains) (x .older (m .chains)) in
-            memory-quiet grown (λ q g. linked-low q (omega (arith, g, few))) (λ q _ g. linked-low q (omega (arith, g))) (λ q g u. l .others q (λ z. omega (arith, z, g, here, mark-few)) (λ z. omega (arith, z, u))) (x .memory p K limit few m);
+            memory-quiet grown (λ q g. linked-low q (omega (arith, g, few))) (λ q _ g. linked-low q (omega (arith, g))) (λ q g u. l .others q (λ z. omega (arith, z, g, here, mark-few)) (λ z. omega (arith, z, u)))
+            (cells-same (linked-low (h .memory + 49) (omega arith)) (linked-low (takenAt h) (omega arith)) (λ q g _. linked-high q g)) (x .memory p K limit few m);
       }
 
     -- where the id of a table in a slot stands
@@ -441,7 +478,7 @@ module _ (h : Context) where
         subst (HasId h was t) e′ (record { kept = y .kept; count = y .count ∙ x .counted; same = y .same ∙ slot-table b x })
 
     pub naming-known : {was : List ℕ} {r : ℕ} → Before h was t → r < 256 → 0 < r → slotId h was t ≡ r → Interning h t was was r
-    naming-known b small some e = record { small = small; stands = e; kept = λ _. some; only = record { low = λ q l. refl; high = λ q l. refl }; told = λ p K limit few x m. (m, slot-named b e x m); exact = λ p K limit x m n y. id-once h b (m .chains) (slot-named b e x m some) y }
+    naming-known b small some e = record { small = small; stands = e; kept = λ _ _. some; only = record { low = λ q l. refl; high = λ q l. refl }; told = λ p K limit few x m. (m, slot-named b e x m); exact = λ p K limit x m n y. id-once h b (m .chains) (slot-named b e x m some) y }
 
     -- and is from now on
     module _ {was mid : List ℕ} {r : ℕ} (long : length mid ≡ length was) (b : Before h was t) (x : Stored h t was mid r) where
@@ -482,32 +519,18 @@ module _ (h : Context) where
       slot-stands = getD-set-same mid at r 0 (omega (arith, long, b .room))
 
       slot-memory : {p : Theory} {K limit : ℕ} → limit ≤ h .memory → InSlot h was t limit → Memory p K h limit was → Memory p K h limit now
-      slot-memory {p} {K} {limit} few s m = memory-but grown (λ q l. other q (λ z. omega (arith, z, l, few))) (λ i l. slots s i (omega (arith, l, few, b .laid .some))) (λ i l. inl (λ q a b. other q (λ z. omega (arith, z, a)))) (λ i l. inl (λ q a b. other q (λ z. omega (arith, z, a)))) (x .memory p K limit few m)
+      slot-memory {p} {K} {limit} few s m = memory-but grown (λ q l. other q (λ z. omega (arith, z, l, few))) (λ i l. slots s i (omega (arith, l, few, b .laid .some))) (λ i l. inl (λ q a b. other q (λ z. omega (arith, z, a)))) (λ i l. inl (λ q a b. other q (λ z. omega (arith, z, a))))
+          (cells-same (other (h .memory + 49) (λ z. omega (arith, z))) (other (takenAt h) (λ z. omega (arith, z))) (λ q l _. other q (λ z. omega (arith, z, l)))) (x .memory p K limit few m)
 
-      -- an id that is looked for
-      pub naming-found : slotId h was t ≡ 0 → Sought h t was now r
-      naming-found unknown = record {
-        small = x .small;
-        stands = slot-stands;
-        known = λ z. absurd (omega (arith, z, unknown));
-        only = slot-only;
-        told = λ p K limit few s m. (slot-memory few s m, named);
-        exact = λ p K limit s m. x .exact (m .chains);
-      }
-
-      pub naming-new : (Fits h t → 0 < r) → Interning h t was now r
+      pub naming-new : (Roomy h mid → Fits h t → 0 < r) → Interning h t was now r
       naming-new fits = record {
-        kept = fits;
+        kept = λ room. fits (sym (other (h .memory + 49) (λ z. omega (arith, z))) ∙ room);
         small = x .small;
         stands = slot-stands;
         only = slot-only;
         told = λ p K limit few s m. (slot-memory few s m, named);
         exact = λ p K limit s m. x .exact (m .chains);
       }
-
-    -- an id that is kept is one that is looked for
-    pub sought : {was now : List ℕ} {r : ℕ} → Interning h t was now r → (0 < slotId h was t → now ≡ was) → Sought h t was now r
-    sought x known = record { small = x .small; stands = x .stands; known = known; only = x .only; told = x .told; exact = x .exact }
 
     -- what is known by an id is known of the table
     pub named-rows : {work : List ℕ} {n : ℕ} → Before h work t → HasId h work t n → stateOf (keptTable h work n) work ≡ stateOf t work
@@ -518,32 +541,32 @@ module _ (h : Context) where
 
     module _ {was : List ℕ} (b : Before h was t) where
       -- what stands at the place of the slot's id
-      module _ {mid : List ℕ} {k : Key} {r a m : ℕ} (x : Sought h t was mid r) (e : a ≡ entryAt h r k) where
+      module _ {mid : List ℕ} {k : Key} {r a m : ℕ} (x : Identified h t was mid r) (e : a ≡ entryAt h r k) where
         pub fact-here : FactKnown h mid t k m → FactRead mid a r k m
-        fact-here f = subst (λ (a : ℕ). FactRead mid a r k m) (sym e) (subst (λ (n : ℕ). FactRead mid (entryAt h n k) n k m) (x .stands) f)
+        fact-here f = subst (λ (a : ℕ). FactRead mid a r k m) (sym e) (subst (λ (n : ℕ). FactRead mid (entryAt h n k) n k m) (x .interning .stands) f)
 
         fact-there : FactRead mid a r k m → FactKnown h mid t k m
-        fact-there f = subst (λ (n : ℕ). FactRead mid (entryAt h n k) n k m) (sym (x .stands)) (subst (λ (a : ℕ). FactRead mid a r k m) e f)
+        fact-there f = subst (λ (n : ℕ). FactRead mid (entryAt h n k) n k m) (sym (x .interning .stands)) (subst (λ (a : ℕ). FactRead mid a r k m) e f)
 
-      pub recalled-none : {mid : List ℕ} {k : Key} {r : ℕ} → Sought h t was mid r → ((m : ℕ) → ¬ FactKnown h mid t k m) → Recalled h t k was mid 0 × Recalls h t k was mid 0
-      recalled-none x none = (record { only = x .only; told = λ p K limit few s m. (x .told p K limit few s m .0, fact-none p K _ _) }, record { found = λ m f. absurd (none m f); none = λ _. refl; same = x .known })
+      pub recalled-none : {mid : List ℕ} {k : Key} {r : ℕ} → Identified h t was mid r → ((m : ℕ) → ¬ FactKnown h mid t k m) → Recalled h t k was mid 0 × Recalls h t k was mid 0
+      recalled-none x none = (record { only = x .interning .only; told = λ p K limit few s m. (x .interning .told p K limit few s m .0, fact-none p K _ _) }, record { found = λ m f. absurd (none m f); none = λ _. refl; same = x .known })
 
       -- nothing is asked
       pub recalled-nothing : {k : Key} → Recalled h t k was was 0
       recalled-nothing = record { only = record { low = λ q l. refl; high = λ q l. refl }; told = λ p K limit few s m. (m, fact-none p K _ _) }
 
-      recalled-true : {mid : List ℕ} {k : Key} {r a : ℕ} → length mid ≡ length was → Sought h t was mid r → 0 < r → Place (h .lists) (factsAt h) 7 a → getD mid (a + 6) 0 ≡ r → keyAt mid a ≡ k → Recalled h t k was mid (getD mid a 0)
+      recalled-true : {mid : List ℕ} {k : Key} {r a : ℕ} → length mid ≡ length was → Identified h t was mid r → 0 < r → Place (h .lists) (factsAt h) 7 a → getD mid (a + 6) 0 ≡ r → keyAt mid a ≡ k → Recalled h t k was mid (getD mid a 0)
       recalled-true {mid} {k} {r} {a} long x some place e key = record {
-        only = x .only;
+        only = x .interning .only;
         told = λ p K limit few s m.
-            let (m′, named) = x .told p K limit few s m in
+            let (m′, named) = x .interning .told p K limit few s m in
             let e′ : getD mid (factsAt h + 7 * place .number + 6) 0 ≡ r = ap (λ (a : ℕ). getD mid (a + 6) 0) (sym (place .is)) ∙ e in
             let (kept, fact) = m′ .facts (place .number) (place .few) (omega (arith, e′, some)) in
             let here = subst (λ (a : ℕ). Fact p K (getD mid a 0) (keyAt mid a) (stateOf (keptTable h mid (getD mid (a + 6) 0)) mid)) (sym (place .is)) fact in
-            (m′, fact-same p K refl key (rows-mean (h .characters) (ap (λ (n : ℕ). tableOf (keptTable h mid n) mid) e) ∙ named-rows (before-now long b) (named some) ∙ rows-mean (t .characters) (before-same mid b (x .only .low))) here);
+            (m′, fact-same p K refl key (rows-mean (h .characters) (ap (λ (n : ℕ). tableOf (keptTable h mid n) mid) e) ∙ named-rows (before-now long b) (named some) ∙ rows-mean (t .characters) (before-same mid b (x .interning .only .low))) here);
       }
 
-      pub recalled : {mid : List ℕ} {k : Key} {r a : ℕ} → length mid ≡ length was → Sought h t was mid r → 0 < r → a ≡ entryAt h r k → Place (h .lists) (factsAt h) 7 a → getD mid (a + 6) 0 ≡ r → keyAt mid a ≡ k → Recalled h t k was mid (getD mid a 0) × Recalls h t k was mid (getD mid a 0)
+      pub recalled : {mid : List ℕ} {k : Key} {r a : ℕ} → length mid ≡ length was → Identified h t was mid r → 0 < r → a ≡ entryAt h r k → Place (h .lists) (factsAt h) 7 a → getD mid (a + 6) 0 ≡ r → keyAt mid a ≡ k → Recalled h t k was mid (getD mid a 0) × Recalls h t k was mid (getD mid a 0)
       recalled {mid} {k} {r} {a} long x some at place e key = (
         recalled-true long x some place e key,
         record { found = λ m f. fact-here x at f .marked; none = λ f. absurd (f (getD mid a 0) (fact-there x at (record { some = some; marked = refl; key = key; read = e }))); same = x .known },
@@ -552,7 +575,7 @@ module _ (h : Context) where
       pub remembered-none : {mid : List ℕ} {m : ℕ} {k : Key} {r : ℕ} → Identified h t was mid r → ¬ Storable r k → Remembered h t m k was mid × Notes h t m k was mid
       remembered-none {mid} {k = k} x unfit = (
         record { only = x .interning .only; memory = λ p K limit few s y f. x .interning .told p K limit few s y .0 },
-        record { kept = λ f. omega (arith, x .interning .kept f, x .interning .stands); stands = λ s. absurd (unfit (subst (λ (n : ℕ). Storable n k) (x .interning .stands) s)); same = λ z. ap (λ (work : List ℕ). slotId h work t) (x .known z) },
+        record { kept = λ room f. omega (arith, x .interning .kept room f, x .interning .stands); stands = λ s. absurd (unfit (subst (λ (n : ℕ). Storable n k) (x .interning .stands) s)); same = λ z. ap (λ (work : List ℕ). slotId h work t) (x .known z) },
       )
 
       -- nothing is put down
@@ -597,7 +620,7 @@ module _ (h : Context) where
 
         pub notes : Notes h t m k was noted
         notes = record {
-          kept = λ f. omega (arith, x .interning .kept f, x .interning .stands, same-id);
+          kept = λ room f. omega (arith, x .interning .kept (sym (low (h .memory + 49) (omega (arith, bounds))) ∙ room) f, x .interning .stands, same-id);
           stands = λ _. subst (λ (n : ℕ). FactRead noted (entryAt h n k) n k m) (sym (same-id ∙ x .interning .stands)) (subst (λ (a : ℕ). FactRead noted a r k m) at entry);
           same = λ z. same-id ∙ ap (λ (work : List ℕ). slotId h work t) (x .known z);
         }
@@ -611,14 +634,16 @@ module _ (h : Context) where
               (λ i l. by-cases (ℕ-discrete i (place .number))
               (λ z. inr (subst (λ (i : ℕ). FactEntry p K h noted (factsAt h + 7 * i)) (sym z) (subst (FactEntry p K h noted) (place .is) (new p K (named some) fact))))
               (λ z. inl (λ q g u. by-cases (decLe i (place .number)) (λ v. low q (omega (arith, u, v, z, place .is))) (λ v. high q (omega (arith, g, v, place .is))))))
-              m′;
+              (cells-same (low (h .memory + 49) (omega (arith, bounds))) (low (takenAt h) (omega (arith, bounds))) (λ q l _. high q (omega (arith, l, bounds)))) m′;
         }
 
--- two bytes that nothing is asked of
-pub unasked-two : (h : Context) (was : List ℕ) {a b : ℕ} (v u : ℕ) → h .memory + 49 ≤ a → a < headsAt h → h .memory + 49 ≤ b → b < headsAt h → Unasked h was (set (set was a v) b u)
-unasked-two h was {a} {b} v u la ha lb hb =
-    let other : (q : ℕ) → q ≢ a → q ≢ b → getD (set (set was a v) b u) q 0 ≡ getD was q 0 = λ q n m. getD-set-other (set was a v) b q u 0 m ∙ getD-set-other was a q v 0 n in
-    record { low = λ q l. other q (λ z. omega (arith, z, l, la)) (λ z. omega (arith, z, l, lb)); high = λ q l. other q (λ z. omega (arith, z, l, ha)) (λ z. omega (arith, z, l, hb)) }
+-- three bytes that nothing is asked of
+pub unasked-three : (h : Context) (was : List ℕ) (v u x : ℕ) → Unasked h was (set (set (set was (h .memory + 50) v) (h .memory + 50 + 1) u) (h .memory + 50 + 2) x)
+unasked-three h was v u x =
+    let first : List ℕ = set was (h .memory + 50) v in
+    let second : List ℕ = set first (h .memory + 50 + 1) u in
+    let other : (q : ℕ) → q ≢ h .memory + 50 → q ≢ h .memory + 50 + 1 → q ≢ h .memory + 50 + 2 → getD (set second (h .memory + 50 + 2) x) q 0 ≡ getD was q 0 = λ q a b c. getD-set-other second (h .memory + 50 + 2) q x 0 c ∙ getD-set-other first (h .memory + 50 + 1) q u 0 b ∙ getD-set-other was (h .memory + 50) q v 0 a in
+    record { low = λ q l. other q (λ z. omega (arith, z, l)) (λ z. omega (arith, z, l)) (λ z. omega (arith, z, l)); high = λ q l. other q (λ z. omega (arith, z, l)) (λ z. omega (arith, z, l)) (λ z. omega (arith, z, l)) }
 
 -- four bytes put down
 module _ (was : List ℕ) (a n r x y : ℕ) (room : a + 4 ≤ length was) where
@@ -712,7 +737,8 @@ module _ (h : Context) where
           (λ i l. by-cases (ℕ-discrete i (place .number))
           (λ z. inr (subst (λ (i : ℕ). StepEntry p h now (stepsAt h + 4 * i)) (sym z) (subst (StepEntry p h now) (place .is) (new-step (f id (slot-named h b e s m some))))))
           (λ z. inl (λ q g u. by-cases (decLe i (place .number)) (λ v. put .low q (omega (arith, u, v, z, place .is))) (λ v. put .high q (omega (arith, g, v, place .is))))))
-          (λ i l. inl (λ q g u. put .high q (omega (arith, g, step-bounds)))) m;
+          (λ i l. inl (λ q g u. put .high q (omega (arith, g, step-bounds))))
+          (cells-same h (put .low (h .memory + 49) (omega (arith, step-bounds))) (put .low (takenAt h) (omega (arith, step-bounds))) (λ q l _. put .high q (omega (arith, l, step-bounds)))) m;
     }
 
   -- one slot more
@@ -724,6 +750,7 @@ module _ (h : Context) where
     slots = λ i l. by-cases (ℕ-discrete i n) (λ z. subst (SlotEntry h now) (sym z) x) (λ z. m .slots i (by-cases (decLe (i + 1) n) (λ k. omega (arith, e, stride-on (h .stride) {i = i} {j = n} (omega (arith, k)))) (λ k. absurd (omega (arith, l, e, z, k, m .laid .wide, stride-on (h .stride) {i = n} {j = i} (omega (arith, k, z)))))));
     steps = m .steps;
     facts = m .facts;
+    cells = m .cells;
   }
 
   -- where a slot's id stands
@@ -755,7 +782,8 @@ module _ (h : Context) where
     pub memory-nameless : {p : Theory} {K : ℕ} → Memory p K h slot was → Memory p K h (slot + h .stride) nameless
     memory-nameless m = memory-more (s .number) (s .is)
         (memory-but h (grown-by h (nameless-other (takenAt h) (λ z. omega (arith, z))) (λ q l _. nameless-other q (λ z. omega (arith, z, l))) (λ q l. nameless-other q (λ z. omega (arith, z, l)))) (λ q l. nameless-other q (λ z. omega (arith, z, l, s .before)))
-        (λ i l. inl (nameless-other (idAt h (h .stride * i + 1)) (slot-other s i l))) (λ i l. inl (λ q g u. nameless-other q (λ z. omega (arith, z, g)))) (λ i l. inl (λ q g u. nameless-other q (λ z. omega (arith, z, g)))) m)
+        (λ i l. inl (nameless-other (idAt h (h .stride * i + 1)) (slot-other s i l))) (λ i l. inl (λ q g u. nameless-other q (λ z. omega (arith, z, g)))) (λ i l. inl (λ q g u. nameless-other q (λ z. omega (arith, z, g))))
+        (cells-same h (nameless-other (h .memory + 49) (λ z. omega (arith, z))) (nameless-other (takenAt h) (λ z. omega (arith, z))) (λ q l _. nameless-other q (λ z. omega (arith, z, l)))) m)
         (λ z. let e : getD nameless (idAt h (h .stride * s .number + 1)) 0 ≡ 0 = ap (λ (q : ℕ). getD nameless q 0) (sym (slot-index s)) ∙ getD-set-same was (idAt h (slot + 1)) 0 0 (omega (arith, s .before, s .laid .room, s .room)) in absurd (omega (arith, e, z)))
 
   -- the table of an id is copied into a slot
@@ -791,7 +819,8 @@ module _ (h : Context) where
     again-count = let x : slot ≡ slot + 0 = omega arith in let y : keptAt h next + 0 ≡ keptAt h next = omega arith in ap (λ (q : ℕ). getD again q 0) x ∙ again-byte 0 (omega arith) ∙ ap (λ (q : ℕ). getD was q 0) y
 
     again-memory : {p : Theory} {K : ℕ} → Memory p K h slot was → Memory p K h slot again
-    again-memory m = memory-but h again-grown again-low (λ i l. inl (again-other (idAt h (h .stride * i + 1)) (slot-other s i l) ∙ copied .high (idAt h (h .stride * i + 1)) (omega (arith, s .before, again-size)))) (λ i l. inl (λ q g u. again-high q (omega (arith, g)))) (λ i l. inl (λ q g u. again-high q (omega (arith, g)))) m
+    again-memory m = memory-but h again-grown again-low (λ i l. inl (again-other (idAt h (h .stride * i + 1)) (slot-other s i l) ∙ copied .high (idAt h (h .stride * i + 1)) (omega (arith, s .before, again-size)))) (λ i l. inl (λ q g u. again-high q (omega (arith, g)))) (λ i l. inl (λ q g u. again-high q (omega (arith, g))))
+        (cells-same h (again-high (h .memory + 49) (omega arith)) (again-high (takenAt h) (omega arith)) (λ q l _. again-high q (omega (arith, l)))) m
 
     again-named : HasId h again (slotTable h again slot) next
     again-named = record { kept = kept-grown h again-grown k; count = let c = kept-count h again-grown k in c ∙ sym again-count; same = kept-table h again-grown k ∙ sym again-table }
@@ -843,11 +872,11 @@ module _ (h : Context) where
       left-memory {p} {K} m = x .told p K (slot + h .stride) (omega (arith, s .before)) left-in (memory-nameless s m)
 
       -- it has an id where it fits
-      left-kept : (now : List ℕ) → ((q : ℕ) → q < h .memory → getD now q 0 ≡ getD was q 0) → Fits h (slotTable h now slot) → 0 < next
-      left-kept now low f = x .kept (subst (λ (n : ℕ). n * width / h .block < 255) (low slot (omega (arith, s .before, s .laid .some)) ∙ sym nameless-count) f)
+      left-kept : (now : List ℕ) → ((q : ℕ) → q < h .memory → getD now q 0 ≡ getD was q 0) → Roomy h mid → Fits h (slotTable h now slot) → 0 < next
+      left-kept now low room f = x .kept room (subst (λ (n : ℕ). n * width / h .block < 255) (low slot (omega (arith, s .before, s .laid .some)) ∙ sym nameless-count) f)
 
       pub left-unnoted : {root a : ℕ} → next ≡ 0 → LeftNoted h t root a slot was mid
-      left-unnoted e = record { kept = λ f. omega (arith, left-kept mid left-low f, x .stands); stands = λ _ z. absurd (omega (arith, z, e, x .stands)); only = left-only; memory = λ p K i m f. left-memory m .0 }
+      left-unnoted e = record { kept = λ room f. omega (arith, left-kept mid left-low room f, x .stands); stands = λ _ z. absurd (omega (arith, z, e, x .stands)); only = left-only; memory = λ p K i m f. left-memory m .0 }
 
       left-id : {now : List ℕ} {root a : ℕ} → Noted h t root a next mid now → slotId h now left ≡ next
       left-id y = y .ids (idAt h (slot + 1)) (omega arith) ∙ x .stands
@@ -856,7 +885,7 @@ module _ (h : Context) where
       left-noted {now} {root} {a} some y = record {
         stands = λ z _.
             subst (StepKnown h now t root a) (sym (left-id y)) (y .stands z);
-        kept = λ f. omega (arith, left-id y, left-kept now (λ q l. y .only .low q l ∙ left-low q l) f);
+        kept = λ room f. omega (arith, left-id y, left-kept now (λ q l. y .only .low q l ∙ left-low q l) (sym (y .ids (h .memory + 49) (omega arith)) ∙ room) f);
         only = record { low = λ q l. y .only .low q l ∙ left-low q l; high = λ q l. y .only .high q l ∙ left-only .high q l };
         memory = λ p K i m (u, plays, starts).
             let (m′, named) = left-memory m in

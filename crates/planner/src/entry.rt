@@ -1,8 +1,10 @@
 // The entries of the transposition table: what is known of the lists from a state, and of deeds in it, found by the id
 // of its table and a key; one entry for each hash, each true.
+use crate::cell::recall_cell;
+use crate::cell::remember_cell;
 use crate::intern::has_overflowed;
 use crate::intern::id_of;
-use crate::intern::known_id;
+use crate::intern::in_cells;
 use crate::limits::Context;
 use crate::limits::Nesting;
 use crate::limits::remainder;
@@ -16,7 +18,7 @@ ghost use Prim.Native.Nat.{_+_, _*_, _<_, _≤_};
 ghost use lib.ListN.{length};
 ghost use Rattle.planner.specs.Inner.Lists.{slotTable};
 ghost use Rattle.planner.specs.Inner.Memory.{Laid, Before, Place, Storable, KeyPut};
-ghost use Rattle.planner.specs.Inner.Memory.{Recalled, Recalls, Remembered, Notes, Roomy};
+ghost use Rattle.planner.specs.Inner.Memory.{Recalled, Recalls, Remembered, Notes, Roomy, Spent, FoundIn};
 ghost use Rattle.planner.specs.Inner.Memory.{factsAt, entryAt, goalKey, deedKey, keyAt};
 
 // What a list is looked for: whose it is, at which nesting its actions are to be explained, and above which utility it
@@ -119,9 +121,14 @@ pub fn storable(id: usize, k: Key) -> bool
 pub fn recall(work: &mut [u8], p: Context, slot: usize, k: Key) -> u8
     requires { ⌜ Before p (now work) (slotTable p (now work) slot) ⌝ }
     ensures { λ r. ⌜ Recalled p (slotTable p (now (work .entry)) slot) k (now (work .entry)) (now (work .exit)) r
-        × Recalls p (slotTable p (now (work .entry)) slot) k (now (work .entry)) (now (work .exit)) r ⌝ }
+        × (Roomy p (now (work .entry)) → Recalls p (slotTable p (now (work .entry)) slot) k (now (work .entry))
+        (now (work .exit)) r)
+        × (Spent p (now (work .entry)) → FoundIn p (now (work .entry)) slot k r) ⌝ }
 {
-    let id = known_id(work, p, slot);
+    if in_cells(work, p) {
+        return recall_cell(work, p, slot, k);
+    }
+    let id = id_of(work, p, slot);
     if id == 0 {
         return 0;
     }
@@ -193,16 +200,18 @@ pub fn remember_list(work: &mut [u8], p: Context, slot: usize, mark: u8, k: Key)
 // As `remember`, of what was found out since so many steps had been made: once there was no room, what took few steps
 // is found out anew.
 pub fn remember_worth(work: &mut [u8], p: Context, slot: usize, mark: u8, k: Key, since: usize)
-    requires { ⌜ Before p (now work) (slotTable p (now work) slot) × (since < 65536) ⌝ }
+    requires { ⌜ Before p (now work) (slotTable p (now work) slot) × (since < 16777216) ⌝ }
     ensures { λ _. ⌜ Remembered p (slotTable p (now (work .entry)) slot) mark k (now (work .entry))
         (now (work .exit))
         × (Roomy p (now (work .entry)) → Notes p (slotTable p (now (work .entry)) slot) mark k (now (work .entry))
         (now (work .exit))) ⌝ }
 {
-    if has_overflowed(work, p) {
-        if steps_made(work, p) < since + WORTH {
+    if in_cells(work, p) {
+        let made = steps_made(work, p);
+        if made < since + WORTH {
             return;
         }
+        return remember_cell(work, p, slot, mark, k, made - since);
     }
     remember(work, p, slot, mark, k)
 }

@@ -3,7 +3,7 @@
 //
 // An id is the number of the table's first block, from 1 on. Those of tables with the same hash stand on a chain, and a
 // table is held byte for byte against each of them, so one that is kept is found under its id, and under no other.
-// Where there is no room, all is forgotten. A state is handed on as the slot that its table stands in.
+// Where there is no room, all is forgotten (`cell` says what is kept from then on). A state is handed on as the slot that its table stands in.
 use crate::limits::Context;
 use crate::regions::BLOCKS;
 use crate::regions::ENOUGH;
@@ -17,6 +17,7 @@ use chart::bytes::copy_part;
 use chart::values::first_other;
 use pack::number::wide;
 use pack::table::Table;
+use transition::regions::NUMBERS;
 ghost use mathlib.Core.Path.{_≡_};
 ghost use mathlib.Core.Bool.{true, false};
 ghost use Prim.Native.Nat.{_+_, _*_, _/_, _%_, _<_, _≤_};
@@ -27,7 +28,7 @@ ghost use Rattle.transition.specs.Contracts.Stage.{scratchAt};
 ghost use Rattle.planner.specs.Inner.Lists.{slotTable};
 ghost use Rattle.planner.specs.Inner.Memory.{takenAt, headAt, linksAt, slotId, Roomy, Before, Alike};
 ghost use Rattle.planner.specs.Inner.Memory.{Fits, FoundOn, Linked, Placed, Stored, Interning};
-ghost use Rattle.planner.specs.Inner.Memory.{Identified, Sought};
+ghost use Rattle.planner.specs.Inner.Memory.{Identified, Spent};
 
 // The table in a slot.
 pub fn table_in(work: &[u8], p: Context, slot: usize) -> Table
@@ -63,10 +64,33 @@ pub fn has_overflowed(work: &[u8], p: Context) -> bool
     0 < work[p.memory + OVERFLOWED]
 }
 
-// A number below 127 made of n bytes.
-pub fn hash(work: &[u8], from: usize, n: usize) -> usize
+// How many bytes the table in a slot takes, with its count.
+pub fn extent(work: &[u8], p: Context, slot: usize) -> usize
+    requires { ⌜ Before p (now work) (slotTable p (now work) slot) ⌝ }
+    ensures { λ r. ⌜ r ≡ 1 + getD (now (work .entry)) slot 0 * (p .fluents + p .characters) ⌝ }
+{
+    let n = wide(work[slot]);
+    1 + n * (p.fluents + p.characters)
+}
+
+// Whether what is known stands in cells: since all was forgotten, and no table has been kept.
+pub fn in_cells(work: &[u8], p: Context) -> bool
+    requires { ⌜ (p .memory ≤ scratchAt) × (workRoom ≤ length (now work)) ⌝ }
+    ensures { λ r. ⌜ (r ≡ true → Spent p (now (work .entry))) × (r ≡ false → ¬ Spent p (now (work .entry))) ⌝ }
+{
+    if !has_overflowed(work, p) {
+        return false;
+    }
+    if work[p.memory + TAKEN] != 0 {
+        return false;
+    }
+    true
+}
+
+// A number made of n bytes.
+pub fn digest(work: &[u8], from: usize, n: usize) -> usize
     requires { ⌜ from + n ≤ length (now work) ⌝ }
-    ensures { λ r. ⌜ r ≡ sumOf 5 (now (work .entry)) from n % 127 ⌝ }
+    ensures { λ r. ⌜ (r ≡ sumOf 5 (now (work .entry)) from n) × (r < 4294967296) ⌝ }
 {
     let mut h = 0;
     let mut i = 0;
@@ -74,7 +98,15 @@ pub fn hash(work: &[u8], from: usize, n: usize) -> usize
         h = (h * 5 + wide(work[from + i])) % 4294967296;
         i += 1;
     }
-    h % 127
+    h
+}
+
+// One below 127.
+pub fn hash(work: &[u8], from: usize, n: usize) -> usize
+    requires { ⌜ from + n ≤ length (now work) ⌝ }
+    ensures { λ r. ⌜ r ≡ sumOf 5 (now (work .entry)) from n % 127 ⌝ }
+{
+    digest(work, from, n) % 127
 }
 
 // Whether a table is the one at the block of an id.
@@ -116,18 +148,22 @@ pub fn store(work: &mut [u8], p: Context, t: Table) -> usize
     taken + 1
 }
 
-// The same; where there is no room, all else is forgotten first.
+// The same; where there is no room, all is forgotten, and no table is kept from then on.
 pub fn keep(work: &mut [u8], p: Context, t: Table) -> usize
     requires { ⌜ Before p (now work) t ⌝ }
-    ensures { λ r. ⌜ Placed p t (now (work .entry)) (now (work .exit)) r × (Fits p t → 0 < r) ⌝ }
+    ensures { λ r. ⌜ Placed p t (now (work .entry)) (now (work .exit)) r
+        × (Roomy p (now (work .exit)) → Fits p t → 0 < r) ⌝ }
 {
+    if has_overflowed(work, p) {
+        return 0;
+    }
     let id = store(work, p, t);
     if id != 0 {
         return id;
     }
-    clear(work, p.memory, p.tables - p.memory);
+    clear(work, p.memory, NUMBERS - p.memory);
     work[p.memory + OVERFLOWED] = 1;
-    store(work, p, t)
+    0
 }
 
 // The head of the chain on which a table is looked for.
@@ -169,7 +205,8 @@ pub fn link(work: &mut [u8], p: Context, at: usize, id: usize)
 // The id of a table, which is kept if it is not yet; or 0.
 pub fn intern(work: &mut [u8], p: Context, t: Table) -> usize
     requires { ⌜ Before p (now work) t ⌝ }
-    ensures { λ r. ⌜ Stored p t (now (work .entry)) (now (work .exit)) r × (Fits p t → 0 < r) ⌝ }
+    ensures { λ r. ⌜ Stored p t (now (work .entry)) (now (work .exit)) r
+        × (Roomy p (now (work .exit)) → Fits p t → 0 < r) ⌝ }
 {
     let at = head_of(work, p, t);
     let known = find(work, p, t, at);
@@ -202,34 +239,6 @@ pub fn id_of(work: &mut [u8], p: Context, slot: usize) -> usize
     let known = wide(work[p.memory + (slot + 1) % SLOTS]);
     if known != 0 {
         return known;
-    }
-    intern_slot(work, p, slot)
-}
-
-// The id of the table in a slot if it is kept, or 0; it is known from then on.
-pub fn find_slot(work: &mut [u8], p: Context, slot: usize) -> usize
-    requires { ⌜ Before p (now work) (slotTable p (now work) slot)
-        × (slotId p (now work) (slotTable p (now work) slot) ≡ 0) ⌝ }
-    ensures { λ r. ⌜ Sought p (slotTable p (now (work .entry)) slot) (now (work .entry)) (now (work .exit)) r ⌝ }
-{
-    let t = table_in(work, p, slot);
-    let at = head_of(work, p, t);
-    let id = find(work, p, t, at);
-    work[p.memory + (slot + 1) % SLOTS] = id as u8;
-    id
-}
-
-// As `id_of`, for what may be known of the table: once there was no room, a table is not kept to ask about it.
-pub fn known_id(work: &mut [u8], p: Context, slot: usize) -> usize
-    requires { ⌜ Before p (now work) (slotTable p (now work) slot) ⌝ }
-    ensures { λ r. ⌜ Sought p (slotTable p (now (work .entry)) slot) (now (work .entry)) (now (work .exit)) r ⌝ }
-{
-    let known = wide(work[p.memory + (slot + 1) % SLOTS]);
-    if known != 0 {
-        return known;
-    }
-    if has_overflowed(work, p) {
-        return find_slot(work, p, slot);
     }
     intern_slot(work, p, slot)
 }

@@ -2,6 +2,7 @@
 // calls hand back.
 pub mod belief;
 pub mod bound;
+pub mod cell;
 pub mod entry;
 pub mod explain;
 pub mod intern;

@@ -11,11 +11,11 @@ pub const TAKEN: usize = 48;
 // Whether all has been forgotten once, as there was no room: 1, else 0.
 pub const OVERFLOWED: usize = 49;
 
-// How many steps have been made since then, in two bytes.
+// How many steps have been made since then, in three bytes.
 pub const MADE_SINCE: usize = 50;
 
 // The heads of chains, a byte for each hash: the id of the table that was kept last of those with that hash.
-pub const HEADS: usize = 52;
+pub const HEADS: usize = 53;
 
 // The links of chains, a byte for each id: the id of the table that was kept before it of those with its hash.
 pub const LINKS: usize = 180;
@@ -30,5 +30,11 @@ pub const BLOCKS: usize = 255;
 // So many blocks are taken where a search is large.
 pub const ENOUGH: usize = 20;
 
-// What took so many steps to find out is worth being kept.
+// Once all has been forgotten cells stand in the place of the tables, with room for one of so many rows, so many to a
+// bucket.
+pub const ROWS: usize = 8;
+
+pub const WAYS: usize = 4;
+
+// What took so many steps to find out is worth being kept then.
 pub const WORTH: usize = 4;

@@ -13,6 +13,7 @@ use crate::entry::goal_key;
 use crate::entry::recall;
 use crate::entry::remember_worth;
 use crate::explain::allowed;
+use crate::intern::extent;
 use crate::intern::table_in;
 use crate::limits::Context;
 use crate::limits::Foresight;
@@ -129,15 +130,6 @@ pub fn completes(
         remember_worth(work, p, slot, 3, key, since);
     }
     after
-}
-
-// How many bytes the table in a slot takes, with its count.
-pub fn extent(work: &[u8], p: Context, slot: usize) -> usize
-    requires { ⌜ Before p (now work) (slotTable p (now work) slot) ⌝ }
-    ensures { λ r. ⌜ r ≡ 1 + getD (now (work .entry)) slot 0 * (p .fluents + p .characters) ⌝ }
-{
-    let n = wide(work[slot]);
-    1 + n * (p.fluents + p.characters)
 }
 
 // Whether the state in a slot, the last of `done` + 1, is one of those in the slots before it. Written charts stand in

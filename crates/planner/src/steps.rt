@@ -140,13 +140,14 @@ pub fn kept_step(
     number
 }
 
-// How many steps have been made since there was no room; counted from 0 again after 65,535.
+// How many steps have been made since there was no room; counted from 0 again after
+// 16,777,215.
 pub fn steps_made(work: &[u8], p: Context) -> usize
     requires { ⌜ (p .memory ≤ scratchAt) × (workRoom ≤ length (now work)) ⌝ }
-    ensures { λ r. ⌜ r < 65536 ⌝ }
+    ensures { λ r. ⌜ r < 16777216 ⌝ }
 {
     let at = p.memory + MADE_SINCE;
-    wide(work[at]) + 256 * wide(work[at + 1])
+    wide(work[at]) + 256 * wide(work[at + 1]) + 65536 * wide(work[at + 2])
 }
 
 // Counts one more.
@@ -158,6 +159,7 @@ pub fn count_step(work: &mut [u8], p: Context)
     let at = p.memory + MADE_SINCE;
     work[at] = (count % 256) as u8;
     work[at + 1] = (count / 256 % 256) as u8;
+    work[at + 2] = (count / 65536 % 256) as u8;
 }
 
 // As `kept_step`, made and not kept.

@@ -31,14 +31,14 @@ pub record Laid (h : Context) : Type 0 where
   pub wide : slotRoom (h .fluents + h .characters) ≡ h .stride
   pub some : 1 < h .stride
   pub few : h .memory ≤ 30 * h .stride
-  pub blocks : 0 < h .block
+  pub blocks : 4 ≤ h .block
   pub entries : Sized (h .lists)
   pub tabled : h .tables ≡ h .memory + 436 + 9 * h .lists
   pub room : h .memory + 436 + 9 * h .lists + 255 * h .block ≤ scratchAt
 
 -- it begins with the id of the table in each slot, found by where its rows begin: slot after slot the remainder is one
--- more; then how many blocks are taken; whether all has been forgotten once, and how many steps were made, of which
--- nothing is asked; then the heads and the links of chains, steps, half as many as lists, lists, and tables
+-- more; then how many blocks are taken; whether all has been forgotten once; how many steps were made since then, of
+-- which nothing is asked; then the heads and the links of chains, steps, half as many as lists, lists, and tables
 abbrev pub idAt : Context → (rows : ℕ) → ℕ
 idAt h rows = h .memory + rows % 32
 
@@ -50,7 +50,7 @@ abbrev pub Roomy : Context → List ℕ → Type 0
 Roomy h work = getD work (h .memory + 49) 0 ≡ 0
 
 abbrev pub headsAt : Context → ℕ
-headsAt h = h .memory + 52
+headsAt h = h .memory + 53
 
 abbrev pub linksAt : Context → ℕ
 linksAt h = h .memory + 180
@@ -178,6 +178,29 @@ FactEntry p foresight h work a =
     × Fact p foresight (getD work a 0) (keyAt work a)
     (table.stateOf (keptTable h work (getD work (a + 6) 0)) work)
 
+-- there was once no room, so that all has been forgotten, and no table is kept since
+pub record Spent (h : Context) (work : List ℕ) : Type 0 where
+  pub once : 0 < getD work (h .memory + 49) 0
+  pub none : getD work (takenAt h) 0 ≡ 0
+
+-- then cells of one size stand in the place of the tables, each with a mark and its key, a byte of which nothing is
+-- asked, and a table of at most 8 rows behind its count
+abbrev pub cellSize : Context → ℕ
+cellSize h = 8 + 8 * (h .fluents + h .characters)
+
+abbrev pub cellAt : Context → ℕ → ℕ
+cellAt h i = tablesAt h + cellSize h * i
+
+-- a cell is empty, or what it says of its table is true
+pub record CellFact (p : Theory) (foresight : ℕ) (h : Context) (work : List ℕ) (a : ℕ) : Type 0 where
+  pub few : getD work (a + 7) 0 ≤ 8
+  pub fact : Fact p foresight (getD work a 0) (keyAt work a) (table.stateOf (slotTable h work (a + 7)) work)
+
+abbrev pub Cells : (p : Theory) (foresight : ℕ) (h : Context) (work : List ℕ) → Type 0
+Cells p foresight h work =
+    Spent h work → (i : ℕ) → cellAt h i + cellSize h ≤ scratchAt → 0 < getD work (cellAt h i) 0
+    → CellFact p foresight h work (cellAt h i)
+
 -- all are true; of slots, those before a place
 pub record Memory (p : Theory) (foresight : ℕ) (h : Context) (limit : ℕ) (work : List ℕ) : Type 0 where
   pub laid : Laid h
@@ -186,6 +209,7 @@ pub record Memory (p : Theory) (foresight : ℕ) (h : Context) (limit : ℕ) (wo
   pub slots : (i : ℕ) → h .stride * i + h .stride ≤ limit → SlotEntry h work i
   pub steps : (i : ℕ) → i < h .lists / 2 → StepEntry p h work (stepsAt h + 4 * i)
   pub facts : (i : ℕ) → i < h .lists → FactEntry p foresight h work (factsAt h + 7 * i)
+  pub cells : Cells p foresight h work
 
 -- the id of the table in a slot, or 0 where it has none
 abbrev pub slotId : Context → List ℕ → Table → ℕ
@@ -233,7 +257,7 @@ pub record Only (h : Context) (was now : List ℕ) : Type 0 where
 
 -- only what nothing is asked of changes
 pub record Unasked (h : Context) (was now : List ℕ) : Type 0 where
-  pub low : table.Below was now (h .memory + 49)
+  pub low : table.Below was now (h .memory + 50)
   pub high : table.Above was now (headsAt h)
 
 -- r is the id on a chain under which the table is kept, or 0 where it is kept under none of those
@@ -272,12 +296,12 @@ pub record Stored (h : Context) (t : Table) (was now : List ℕ) (r : ℕ) : Typ
   pub memory : (p : Theory) (foresight limit : ℕ) → limit ≤ h .memory → Memory p foresight h limit was
       → Memory p foresight h limit now
 
--- the same of a table in a slot, where what is known is true; r is the slot's id from then on, one where it fits, and
--- the one under which the table is kept already
+-- the same of a table in a slot, where what is known is true; r is the slot's id from then on, one where it fits and
+-- nothing has been forgotten, and the one under which the table is kept already
 pub record Interning (h : Context) (t : Table) (was now : List ℕ) (r : ℕ) : Type 0 where
   pub small : r < 256
   pub stands : slotId h now t ≡ r
-  pub kept : Fits h t → 0 < r
+  pub kept : Roomy h now → Fits h t → 0 < r
   pub only : Only h was now
   pub told : (p : Theory) (foresight limit : ℕ) → limit ≤ h .memory → InSlot h was t limit
       → Memory p foresight h limit was
@@ -289,18 +313,6 @@ pub record Interning (h : Context) (t : Table) (was now : List ℕ) (r : ℕ) : 
 pub record Identified (h : Context) (t : Table) (was now : List ℕ) (r : ℕ) : Type 0 where
   pub interning : Interning h t was now r
   pub known : 0 < slotId h was t → now ≡ was
-
--- r is the id of a table in a slot, which is looked for and not kept; where the slot has one, it is that one
-pub record Sought (h : Context) (t : Table) (was now : List ℕ) (r : ℕ) : Type 0 where
-  pub small : r < 256
-  pub stands : slotId h now t ≡ r
-  pub known : 0 < slotId h was t → now ≡ was
-  pub only : Only h was now
-  pub told : (p : Theory) (foresight limit : ℕ) → limit ≤ h .memory → InSlot h was t limit
-      → Memory p foresight h limit was
-      → Memory p foresight h limit now × (0 < r → HasId h now t r)
-  pub exact : (p : Theory) (foresight limit : ℕ) → InSlot h was t limit → Memory p foresight h limit was
-      → (n : ℕ) → HasId h was t n → r ≡ n
 
 -- an id is one, and each number of the key fits a byte or two
 pub record Storable (id : ℕ) (k : Key) : Type 0 where
@@ -334,9 +346,10 @@ pub record Recalls (h : Context) (t : Table) (k : Key) (was now : List ℕ) (r :
   pub none : ((mark : ℕ) → ¬ FactKnown h now t k mark) → r ≡ 0
   pub same : 0 < slotId h was t → now ≡ was
 
--- a mark stands there, where the table has an id and the key fits; where the slot had an id, it has it still
+-- a mark stands there, where the table has an id and the key fits; it has one where it fits and nothing has been
+-- forgotten; where the slot had an id, it has it still
 pub record Notes (h : Context) (t : Table) (mark : ℕ) (k : Key) (was now : List ℕ) : Type 0 where
-  pub kept : Fits h t → 0 < slotId h now t
+  pub kept : Roomy h now → Fits h t → 0 < slotId h now t
   pub stands : Storable (slotId h now t) k → FactKnown h now t k mark
   pub same : 0 < slotId h was t → slotId h now t ≡ slotId h was t
 
@@ -410,7 +423,7 @@ pub record Again (h : Context) (next slot : ℕ) (was now : List ℕ) (r : ℕ) 
 pub record LeftNoted (h : Context) (t : Table) (root a slot : ℕ) (was now : List ℕ) : Type 0 where
   pub stands : 0 < slotId h now t → 0 < slotId h now (slotTable h now slot)
       → StepKnown h now t root a (slotId h now (slotTable h now slot))
-  pub kept : Fits h (slotTable h now slot) → 0 < slotId h now (slotTable h now slot)
+  pub kept : Roomy h now → Fits h (slotTable h now slot) → 0 < slotId h now (slotTable h now slot)
   pub only : Only h was now
   pub memory : (p : Theory) (foresight : ℕ) → InSlot h was t slot → Memory p foresight h slot was
       → ((s : State) × Plays p (table.stateOf t was root) a s
@@ -421,7 +434,51 @@ pub record LeftNoted (h : Context) (t : Table) (root a slot : ℕ) (was now : Li
 -- before and after it have ids
 pub record StepOnce (h : Context) (t : Table) (root a slot : ℕ) (was now : List ℕ) (r : ℕ) : Type 0 where
   pub again : (next : ℕ) → StepKnown h was t root a next → Again h next slot was now r
-  pub kept : r ≡ 0 → Fits h (slotTable h now slot) → 0 < slotId h now (slotTable h now slot)
+  pub kept : r ≡ 0 → Roomy h now → Fits h (slotTable h now slot) → 0 < slotId h now (slotTable h now slot)
   pub refused : r ≢ 0 → 0 < slotId h now t → StepKnown h now t root a 0
   pub played : r ≡ 0 → 0 < slotId h now t → 0 < slotId h now (slotTable h now slot)
       → StepKnown h now t root a (slotId h now (slotTable h now slot))
+
+-- a bucket: four cells, one behind the other
+pub record Bucket (h : Context) (a : ℕ) : Type 0 where
+  pub number : ℕ
+  pub is : a ≡ cellAt h (4 * number)
+  pub room : a + 4 * cellSize h ≤ scratchAt
+
+-- one of them
+pub record CellIn (h : Context) (a r : ℕ) : Type 0 where
+  pub number : ℕ
+  pub few : number < 4
+  pub is : r ≡ a + number * cellSize h
+
+-- the bucket of the table in a slot and a key, by the sum of the table's bytes
+abbrev pub tableSum : Context → List ℕ → (slot : ℕ) → ℕ
+tableSum h work slot = sumOf 5 work slot (1 + getD work slot 0 * (h .fluents + h .characters))
+
+abbrev pub bucketAt : Context → List ℕ → (slot : ℕ) → Key → ℕ
+bucketAt h work slot k =
+    tablesAt h
+    + 4 * cellSize h
+    * ((tableSum h work slot + k .who % 8 * 37 + k .number % 32 * 5 + k .nesting % 4)
+    % ((scratchAt - tablesAt h) / (4 * cellSize h)))
+
+-- a cell holds something of the table in a slot by a key
+pub record Holds (h : Context) (work : List ℕ) (slot a : ℕ) (k : Key) : Type 0 where
+  pub some : 0 < getD work a 0
+  pub key : keyAt work a ≡ k
+  pub same : table.tableOf (slotTable h work (a + 7)) work ≡ table.tableOf (slotTable h work slot) work
+
+-- r is the mark in a cell of the bucket that does, or 0 where none does
+pub record FoundIn (h : Context) (work : List ℕ) (slot : ℕ) (k : Key) (r : ℕ) : Type 0 where
+  pub found : 0 < r → (i : ℕ) × (i < 4) × Holds h work slot (bucketAt h work slot k + i * cellSize h) k
+      × (getD work (bucketAt h work slot k + i * cellSize h) 0 ≡ r)
+  pub none : r ≡ 0 → (i : ℕ) → i < 4 → ¬ Holds h work slot (bucketAt h work slot k + i * cellSize h) k
+
+-- what is known of the table in a slot is put into a cell
+pub record CellPut (h : Context) (slot a mark : ℕ) (k : Key) (was now : List ℕ) : Type 0 where
+  pub marked : getD now a 0 ≡ mark
+  pub key : keyAt now a ≡ k
+  pub part : (i : ℕ) → i < 1 + getD was slot 0 * (h .fluents + h .characters)
+      → getD now (a + 7 + i) 0 ≡ getD was (slot + i) 0
+  pub low : table.Below was now a
+  pub high : table.Above was now (a + cellSize h)

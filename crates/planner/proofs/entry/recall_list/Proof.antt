@@ -18,4 +18,4 @@ recall-list-spec =
     (λ c. search needs)
     (λ c.
     let at-recall = c .before .before in
-    (at-recall .recall .ensures .0, λ _. at-recall .recall .ensures .1)))
+    (at-recall .recall .ensures .0, at-recall .recall .ensures .1)))

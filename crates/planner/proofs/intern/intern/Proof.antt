@@ -27,7 +27,7 @@ returns-2 c =
     let k = at-keep .keep in
     let nowhere : at-find .find .result ≡ 0 = omega (arith, at-if1 .if1 .left) in
     let none = subst (FoundOn (a .p) (a .work .now) (a .t) (at-head-of .head-of .result)) nowhere (at-find .find .ensures) in
-    (stored-linked (a .p) (start .pre) (k .kept .0) (at-link .link .kept .0) (at-head-of .head-of .ensures) none (omega (arith, at-if2 .if2 .taken)) (k .ensures .0) (at-link .link .ensures), k .ensures .1)
+    (stored-linked (a .p) (start .pre) (k .kept .0) (at-link .link .kept .0) (at-head-of .head-of .ensures) none (omega (arith, at-if2 .if2 .taken)) (k .ensures .0) (at-link .link .ensures), λ _ _. omega (arith, at-if2 .if2 .taken))
 
 returns-3 : tie.Need-returns-3
 returns-3 c =

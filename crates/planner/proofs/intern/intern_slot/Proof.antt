@@ -3,7 +3,7 @@ use Prim.Native.Nat.{_<_}
 use mathlib.Core.Path.{sym, subst}
 use native.Mathlib.Omega.{arith}
 use Rattle.pack.specs.declared.table.Table.{Table}
-use Rattle.planner.specs.Inner.Memory.{Before, Fits, Stored}
+use Rattle.planner.specs.Inner.Memory.{Roomy, Before, Fits, Stored}
 use Rattle.planner.proofs.TrueMemory.{naming-new}
 use borrow.Author.Needs.{needs}
 use Rattle.planner.proofs.intern.intern_slot.Statement.{statement}
@@ -38,4 +38,4 @@ intern-slot-spec =
     let start = at-table-in .before .before .before in
     let a = start .args in
     let k = at-intern .intern in
-    naming-new (a .p) (k .kept .0) (start .pre) (subst (λ (t : Table). Stored (a .p) t (a .work .now) (k .last .0) (k .result)) (at-table-in .table-in .ensures) (k .ensures .0)) (subst (λ (t : Table). Fits (a .p) t → 0 < k .result) (at-table-in .table-in .ensures) (k .ensures .1))))
+    naming-new (a .p) (k .kept .0) (start .pre) (subst (λ (t : Table). Stored (a .p) t (a .work .now) (k .last .0) (k .result)) (at-table-in .table-in .ensures) (k .ensures .0)) (subst (λ (t : Table). Roomy (a .p) (k .last .0) → Fits (a .p) t → 0 < k .result) (at-table-in .table-in .ensures) (k .ensures .1))))

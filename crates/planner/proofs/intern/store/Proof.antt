@@ -26,12 +26,12 @@ store-spec =
     omega (arith, start .pre .laid .blocks))
     (λ c.
     let start = c .before .before .before .before .before .before in
-    omega (arith, part-most (start .args .t .nodes * start .args .t .width) (start .args .p .block) (start .pre .laid .blocks), table-size (start .args .p) (start .pre)))
+    omega (arith, part-most (start .args .t .nodes * start .args .t .width) (start .args .p .block) (omega (arith, start .pre .laid .blocks)), table-size (start .args .p) (start .pre)))
     (λ c.
     let at-wide = c .before in
     let at-slice-known2 = at-wide .before in
     let start = at-slice-known2 .before .before .before .before in
-    omega (arith, part-most (start .args .t .nodes * start .args .t .width) (start .args .p .block) (start .pre .laid .blocks), table-size (start .args .p) (start .pre), at-wide .wide .ensures, at-slice-known2 .slice-known2 .given (start .args .p .memory + 48)))
+    omega (arith, part-most (start .args .t .nodes * start .args .t .width) (start .args .p .block) (omega (arith, start .pre .laid .blocks)), table-size (start .args .p) (start .pre), at-wide .wide .ensures, at-slice-known2 .slice-known2 .given (start .args .p .memory + 48)))
     (λ c.
     let at-wide = c .before .before in
     let start = at-wide .before .before .before .before .before in

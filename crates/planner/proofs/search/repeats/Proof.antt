@@ -12,15 +12,11 @@ use Rattle.chart.specs.Contracts.Level.{SameByte}
 use native.Mathlib.Omega.{arith}
 use borrow.Author.Needs.{needs}
 use Rattle.planner.specs.Inner.Lists.{slotTable}
-use Rattle.planner.proofs.TrueMemory.{unset, state-moved}
+use Rattle.planner.proofs.TrueMemory.{unset, set-not, state-moved}
 use Rattle.planner.proofs.SameBytes.{same-state-bytes}
 use Rattle.planner.proofs.EarliestList.{slots-upto, slots-most}
 use Rattle.planner.proofs.search.repeats.Statement.{statement}
 use Rattle.planner.proofs.search.repeats.Tie as tie
-
--- a flag that is set
-set-not : {A : Type 0} → true ≡ false → A
-set-not e = let z : _≡_ {A = ℕ} 1 0 = ap (λ (b : Bool). pick b 1 0) e in absurd (omega arith)
 
 abbrev Inv-loop : tie.InvT-loop
 Inv-loop work p slot done n i₀ i = (i ≤ done) × ((j : ℕ) → j < i → ((q : ℕ) → q < n → SameByte work slot (j * p .stride) q) → ⊥)

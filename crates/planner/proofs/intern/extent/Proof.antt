@@ -4,8 +4,8 @@ use mathlib.Core.Path.{sym, ap}
 use native.Mathlib.Omega.{arith}
 use borrow.Author.Needs.{needs}
 use Rattle.planner.proofs.TrueMemory.{table-size}
-use Rattle.planner.proofs.search.extent.Statement.{statement}
-use Rattle.planner.proofs.search.extent.Tie as tie
+use Rattle.planner.proofs.intern.extent.Statement.{statement}
+use Rattle.planner.proofs.intern.extent.Tie as tie
 
 mul-result : tie.Need-mul-result
 mul-result c =

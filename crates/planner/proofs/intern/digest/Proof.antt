@@ -5,8 +5,8 @@ use native.Mathlib.Nat.{mod-lt}
 use native.Mathlib.Omega.{arith}
 use borrow.Author.Needs.{needs}
 use Rattle.chart.specs.Laws.Sums.{sumOf, sum-none, sum-more}
-use Rattle.planner.proofs.intern.hash.Statement.{statement}
-use Rattle.planner.proofs.intern.hash.Tie as tie
+use Rattle.planner.proofs.intern.digest.Statement.{statement}
+use Rattle.planner.proofs.intern.digest.Tie as tie
 
 abbrev Inv-loop : tie.InvT-loop
 Inv-loop work from n h₀ i₀ h i = (i ≤ n) × (h < 4294967296) × (h ≡ sumOf 5 work from i)
@@ -62,7 +62,7 @@ returns c =
     let a = start .args in
     let l = at-loop .loop in
     let e : l .i ≡ a .n = omega (arith, l .inv .0, c .loop-test .left) in
-    ap (λ (s : ℕ). s % 127) (l .inv .2 ∙ ap (sumOf 5 (a .work .now) (a .from)) e)
+    (l .inv .2 ∙ ap (sumOf 5 (a .work .now) (a .from)) e, l .inv .1)
 
-pub hash-spec : {M : Type 1} → statement M
-hash-spec = tie.close (tie.spec Inv-loop μ-loop loop-holds mul-h add-wide shared-slice-read-wide (λ c κs. search needs) add-h add-i (λ c. search needs) loop-again returns)
+pub digest-spec : {M : Type 1} → statement M
+digest-spec = tie.close (tie.spec Inv-loop μ-loop loop-holds mul-h add-wide shared-slice-read-wide (λ c κs. search needs) add-h add-i (λ c. search needs) loop-again returns)

@@ -1,0 +1,9 @@
+-- One of the two. Assumes nothing.
+use mathlib.Core.Path.{refl}
+use mathlib.Core.Logic.{inl, inr}
+use borrow.Author.Needs.{needs}
+use Rattle.planner.proofs.cell.lower.Statement.{statement}
+use Rattle.planner.proofs.cell.lower.Tie as tie
+
+pub lower-spec : {M : Type 1} → statement M
+lower-spec = tie.close (tie.spec (λ c. search needs) (λ c. search needs) (λ c. search needs) (λ c. search needs) (λ c. inr refl) (λ c. inl refl))
