@@ -18,9 +18,9 @@ use Rattle.transition.specs.Contracts.Stage.{scratchAt}
 use Rattle.planner.specs.declared.limits.Context.{Context}
 use Rattle.planner.specs.declared.entry.Key.{Key}
 use Rattle.planner.specs.Inner.Lists.{slotTable}
-use Rattle.planner.specs.Inner.Memory.{Laid, takenAt, headsAt, linksAt, stepsAt, tablesAt, keyAt, Fact, Memory, Before, InSlot, Only, Spent, CellFact, Cells, cellSize, cellAt, Bucket, tableSum, Holds, FoundIn, CellPut, KeyPut, Recalled, Remembered}
+use Rattle.planner.specs.Inner.Memory.{Laid, idAt, takenAt, headsAt, linksAt, stepsAt, tablesAt, keyAt, Fact, Memory, Before, InSlot, Only, Spent, CellFact, Cells, cellSize, cellAt, Bucket, tableSum, Holds, FoundIn, CellPut, KeyPut, Recalled, Remembered}
 use Rattle.planner.proofs.Chains.{table-moved, grown-same}
-use Rattle.planner.proofs.TrueMemory.{fact-same, fact-none, key-same, rows-mean, stride-on, cell-same, memory-quiet}
+use Rattle.planner.proofs.TrueMemory.{fact-same, fact-none, key-same, rows-mean, stride-on, cell-same, memory-but}
 
 module _ (h : Context) where
   abbrev w : ℕ
@@ -45,19 +45,19 @@ module _ (h : Context) where
       (omega (arith, same, mul-le-mul-right (cellSize h) few, size-most laid), omega (arith, same, way-in b l))
 
   -- there are buckets
-  some-buckets : Laid h → 0 < (scratchAt - tablesAt h) / (4 * cellSize h)
+  some-buckets : Laid h → 0 < (scratchAt - stepsAt h) / (4 * cellSize h)
   some-buckets laid =
       let size = 4 * cellSize h in
-      let room = scratchAt - tablesAt h in
+      let room = scratchAt - stepsAt h in
       let n = room / size in
       let rest : room % size < size = mod-lt room (omega arith) in
       by-cases (decLt 0 n) (λ l. l) (λ l. let none : n ≡ 0 = omega (arith, l) in absurd (omega (arith, div-add-mod room size, rest, ap (λ (k : ℕ). size * k) none, laid .blocks, laid .room, size-most laid)))
 
   -- the one that a number leads to
-  pub bucket-placed : Laid h → (x : ℕ) → Bucket h (tablesAt h + 4 * cellSize h * (x % ((scratchAt - tablesAt h) / (4 * cellSize h))))
+  pub bucket-placed : Laid h → (x : ℕ) → Bucket h (stepsAt h + 4 * cellSize h * (x % ((scratchAt - stepsAt h) / (4 * cellSize h))))
   bucket-placed laid x =
       let size = 4 * cellSize h in
-      let room = scratchAt - tablesAt h in
+      let room = scratchAt - stepsAt h in
       let n = room / size in
       let few : x % n < n = mod-lt x (some-buckets laid) in
       record { number = x % n; is = omega arith; room = omega (arith, stride-on size {i = x % n} {j = n} few, div-add-mod room size, laid .room) }
@@ -66,9 +66,9 @@ module _ (h : Context) where
   pub record Reckoned (x size tables : ℕ) : Type 0 where
     pub some : 0 < (scratchAt - tables) / size
     pub room : tables + size * (x % ((scratchAt - tables) / size)) + size ≤ scratchAt
-    pub is : tables + size * (x % ((scratchAt - tables) / size)) ≡ tablesAt h + 4 * cellSize h * (x % ((scratchAt - tablesAt h) / (4 * cellSize h)))
+    pub is : tables + size * (x % ((scratchAt - tables) / size)) ≡ stepsAt h + 4 * cellSize h * (x % ((scratchAt - stepsAt h) / (4 * cellSize h)))
 
-  pub reckoned : Laid h → (x : ℕ) {size tables : ℕ} → size ≡ 4 * cellSize h → tables ≡ tablesAt h → Reckoned x size tables
+  pub reckoned : Laid h → (x : ℕ) {size tables : ℕ} → size ≡ 4 * cellSize h → tables ≡ stepsAt h → Reckoned x size tables
   reckoned laid x {size} {tables} e f =
       subst (λ (s : ℕ). Reckoned x s tables) (sym e) (subst (Reckoned x (4 * cellSize h)) (sym f) (record { some = some-buckets laid; room = bucket-placed laid x .room; is = refl }))
 
@@ -87,7 +87,7 @@ module _ (h : Context) where
 
   -- only one cell changes
   module _ (was now : List ℕ) (n : ℕ) (other : (q : ℕ) → (q < cellAt h n) ⊎ (cellAt h n + cellSize h ≤ q) → getD now q 0 ≡ getD was q 0) where
-    low : (q : ℕ) → q < tablesAt h → getD now q 0 ≡ getD was q 0
+    low : (q : ℕ) → q < stepsAt h → getD now q 0 ≡ getD was q 0
     low q l = other q (inl (omega (arith, l)))
 
     spent-was : Spent h now → Spent h was
@@ -104,11 +104,12 @@ module _ (h : Context) where
     one-memory : {th : Theory} {K limit : ℕ} → Spent h was → limit ≤ h .memory → (Cells th K h was → Spent h was → 0 < getD now (cellAt h n) 0 → CellFact th K h now (cellAt h n)) → Memory th K h limit was → Memory th K h limit now
     one-memory sp few new m =
         let taken = low (takenAt h) (omega arith) in
-        memory-quiet h
+        let sp′ : Spent h now = record { once = omega (arith, sp .once, low (h .memory + 49) (omega arith)); none = taken ∙ sp .none } in
+        memory-but h
         (grown-same h
         (record { taken = omega (arith, taken); within = λ l. omega (arith, ap (λ (k : ℕ). h .block * k) taken, l); tables = λ q l g. absurd (omega (arith, l, g, ap (λ (k : ℕ). h .block * k) (sp .none))) })
         (λ b l. low (headsAt h + b) (omega (arith, l))) (λ k l. low (linksAt h + k) (omega (arith, l))))
-        (λ q l. low q (omega (arith, l, few))) (λ q _ l. low q (omega (arith, l))) (λ q _ l. low q l) (one-cells new) m
+        (λ q l. low q (omega (arith, l, few))) (λ i l. inl (low (idAt h (h .stride * i + 1)) (omega arith))) (λ i l un. absurd (un sp′)) (λ i l un. absurd (un sp′)) ((λ _. sp′), one-cells new) m
 
   module _ (was now : List ℕ) (slot mark : ℕ) (k : Key) {a i : ℕ} (sp : Spent h was) (bucket : Bucket h a) (l : i < 4) where
     abbrev n : ℕ

@@ -42,7 +42,7 @@ use Rattle.planner.specs.Inner.Lists.{counted, slotTable, Other, AboveBy
 use Rattle.planner.specs.Inner.Lists as inner
 use Rattle.planner.specs.Inner.Memory.{takenAt, stepsAt, keptTable, HasId, StepFact, StepEntry, Memory, Fact, Place, Before, InSlot, Only, Interning, StepRead, Noted, Slot, Again, LeftNoted}
 use Rattle.planner.specs.Inner.Explain.{Stage, Free, Told, Advanced}
-use Rattle.planner.proofs.TrueMemory.{fact-same, rows-mean, before-now, named-state, memory-apart, memory-fewer, nameless, nameless-only, memory-nameless}
+use Rattle.planner.proofs.TrueMemory.{unspent, fact-same, rows-mean, before-now, named-state, memory-apart, memory-fewer, nameless, nameless-only, memory-nameless}
 
 -- Told: passed on
 pub told-none : {M : List ℕ → Type 0} {slot : ℕ} (was : List ℕ) {P : Type 0} → M was → (P → ⊥) → Told M slot was was false P
@@ -193,7 +193,7 @@ module _ {th : Theory} {T : List Node} {pack places : List ℕ} {h : Context} {w
         (subst (λ (k : ℕ). StepFact th h mid (getD mid at 0) k a next) (read .row)
         (subst (λ (k : ℕ). StepFact th h mid (getD mid at 0) (getD mid (at + 1) 0) k next) (read .acted)
         (subst (λ (k : ℕ). StepFact th h mid (getD mid at 0) (getD mid (at + 1) 0) (getD mid (at + 2) 0) k) e
-        (subst (λ (a : ℕ). StepEntry th h mid a) (sym (place .is)) (mid-memory .0 .steps (place .number) (place .few)) (omega (arith, read .read, read .some))))))
+        (subst (λ (a : ℕ). StepEntry th h mid a) (sym (place .is)) (mid-memory .0 .steps (unspent h (mid-memory .1 (read .some))) (place .number) (place .few)) (omega (arith, read .read, read .some))))))
 
     known-state : stateOf (keptTable h mid id) mid root ≡ meaning (t .characters) T root
     known-state = named-state h (before-now h long (stage-before x bound)) (mid-memory .1 (read .some)) root ∙ row-state mid (λ q l. n .only .low q (omega (arith, l, bound)))

@@ -161,11 +161,21 @@ module _ (h : Context) where
             (rows-mean (h .characters) (sym moved)) (x .fact);
       }
 
-  -- all of them
-  pub cells-same : {th : Theory} {K : ℕ} {was now : List ℕ} → getD now (h .memory + 49) 0 ≡ getD was (h .memory + 49) 0 → getD now (takenAt h) 0 ≡ getD was (takenAt h) 0 → ((q : ℕ) → tablesAt h ≤ q → q < scratchAt → getD now q 0 ≡ getD was q 0) → Cells th K h was → Cells th K h now
-  cells-same once taken f c sp i l z =
-      let e0 = f (cellAt h i) (omega arith) (omega (arith, l)) in
-      cell-same (cellAt h i) (λ q g u _. f q (omega (arith, g)) (omega (arith, u, l))) (c (record { once = omega (arith, once, sp .once); none = sym taken ∙ sp .none }) i l (omega (arith, e0, z)))
+  -- all of them, and that there are cells
+  pub cells-same : {th : Theory} {K : ℕ} {was now : List ℕ} → getD now (h .memory + 49) 0 ≡ getD was (h .memory + 49) 0 → getD now (takenAt h) 0 ≡ getD was (takenAt h) 0 → ((q : ℕ) → stepsAt h ≤ q → q < scratchAt → getD now q 0 ≡ getD was q 0) → (Spent h was → Spent h now) × (Cells th K h was → Cells th K h now)
+  cells-same once taken f = (
+    λ sp. record { once = omega (arith, once, sp .once); none = taken ∙ sp .none },
+    λ c sp i l z.
+        let e0 = f (cellAt h i) (omega arith) (omega (arith, l)) in
+        cell-same (cellAt h i) (λ q g u _. f q (omega (arith, g)) (omega (arith, u, l))) (c (record { once = omega (arith, once, sp .once); none = sym taken ∙ sp .none }) i l (omega (arith, e0, z))),
+  )
+
+  -- where a table is kept there are none
+  pub unspent : {work : List ℕ} {t : Table} {n : ℕ} → HasId h work t n → Spent h work → ⊥
+  unspent {n = n} x sp = omega (arith, x .kept .inside .inside, kept-from h n (x .kept .inside .some), ap (λ (k : ℕ). h .block * k) (sp .none))
+
+  pub cells-unspent : {th : Theory} {K : ℕ} {was now : List ℕ} {t : Table} {n : ℕ} → getD now (h .memory + 49) 0 ≡ getD was (h .memory + 49) 0 → getD now (takenAt h) 0 ≡ getD was (takenAt h) 0 → HasId h was t n → (Spent h was → Spent h now) × (Cells th K h was → Cells th K h now)
+  cells-unspent once taken x = (λ sp. absurd (unspent x sp), λ _ sp. absurd (unspent x (record { once = omega (arith, once, sp .once); none = sym taken ∙ sp .none })))
 
   -- a table in a slot, as one of its fields
   pub slot-table : {work : List ℕ} {t : Table} {limit : ℕ} → Before h work t → (x : InSlot h work t limit) → tableOf (slotTable h work (h .stride * x .number)) work ≡ tableOf t work
@@ -241,21 +251,21 @@ module _ (h : Context) where
     -- the memory where tables that are kept and all but some entries stay
     pub memory-but : {th : Theory} {K limit : ℕ} → ((q : ℕ) → q < limit → getD now q 0 ≡ getD was q 0)
         → ((i : ℕ) → h .stride * i + h .stride ≤ limit → (getD now (idAt h (h .stride * i + 1)) 0 ≡ getD was (idAt h (h .stride * i + 1)) 0) ⊎ SlotEntry h now i)
-        → ((i : ℕ) → i < h .lists / 2 → ((q : ℕ) → stepsAt h + 4 * i ≤ q → q < stepsAt h + 4 * i + 4 → getD now q 0 ≡ getD was q 0) ⊎ StepEntry th h now (stepsAt h + 4 * i))
-        → ((i : ℕ) → i < h .lists → ((q : ℕ) → factsAt h + 7 * i ≤ q → q < factsAt h + 7 * i + 7 → getD now q 0 ≡ getD was q 0) ⊎ FactEntry th K h now (factsAt h + 7 * i)) → (Cells th K h was → Cells th K h now) → Memory th K h limit was → Memory th K h limit now
+        → ((i : ℕ) → i < h .lists / 2 → ¬ Spent h now → ((q : ℕ) → stepsAt h + 4 * i ≤ q → q < stepsAt h + 4 * i + 4 → getD now q 0 ≡ getD was q 0) ⊎ StepEntry th h now (stepsAt h + 4 * i))
+        → ((i : ℕ) → i < h .lists → ¬ Spent h now → ((q : ℕ) → factsAt h + 7 * i ≤ q → q < factsAt h + 7 * i + 7 → getD now q 0 ≡ getD was q 0) ⊎ FactEntry th K h now (factsAt h + 7 * i)) → (Spent h was → Spent h now) × (Cells th K h was → Cells th K h now) → Memory th K h limit was → Memory th K h limit now
     memory-but low a b c d m = record {
       laid = m .laid;
       within = g .wider .within (m .within);
       chains = g .chains (m .chains);
       slots = λ i l. ⊎-elim (λ e. slot-entry (m .laid) low i l e (m .slots i l)) (λ x. x) (a i l);
-      steps = λ i l. ⊎-elim (λ e. step-entry (stepsAt h + 4 * i) e (m .steps i l)) (λ x. x) (b i l);
-      facts = λ i l. ⊎-elim (λ e. fact-entry (factsAt h + 7 * i) e (m .facts i l)) (λ x. x) (c i l);
-      cells = d (m .cells);
+      steps = λ un i l. ⊎-elim (λ e. step-entry (stepsAt h + 4 * i) e (m .steps (λ sp. un (d .0 sp)) i l)) (λ x. x) (b i l un);
+      facts = λ un i l. ⊎-elim (λ e. fact-entry (factsAt h + 7 * i) e (m .facts (λ sp. un (d .0 sp)) i l)) (λ x. x) (c i l un);
+      cells = d .1 (m .cells);
     }
 
     -- entries all stay
-    pub memory-quiet : {th : Theory} {K limit : ℕ} → ((q : ℕ) → q < limit → getD now q 0 ≡ getD was q 0) → ((q : ℕ) → h .memory ≤ q → q < takenAt h → getD now q 0 ≡ getD was q 0) → ((q : ℕ) → stepsAt h ≤ q → q < tablesAt h → getD now q 0 ≡ getD was q 0) → (Cells th K h was → Cells th K h now) → Memory th K h limit was → Memory th K h limit now
-    memory-quiet low ids mid = memory-but low (λ i l. inl (ids (idAt h (h .stride * i + 1)) (omega arith) (omega arith))) (λ i l. inl (λ q a b. mid q (omega (arith, a)) (omega (arith, b, l)))) (λ i l. inl (λ q a b. mid q (omega (arith, a)) (omega (arith, b, l))))
+    pub memory-quiet : {th : Theory} {K limit : ℕ} → ((q : ℕ) → q < limit → getD now q 0 ≡ getD was q 0) → ((q : ℕ) → h .memory ≤ q → q < takenAt h → getD now q 0 ≡ getD was q 0) → ((q : ℕ) → stepsAt h ≤ q → q < tablesAt h → getD now q 0 ≡ getD was q 0) → (Spent h was → Spent h now) × (Cells th K h was → Cells th K h now) → Memory th K h limit was → Memory th K h limit now
+    memory-quiet low ids mid = memory-but low (λ i l. inl (ids (idAt h (h .stride * i + 1)) (omega arith) (omega arith))) (λ i l _. inl (λ q a b. mid q (omega (arith, a)) (omega (arith, b, l)))) (λ i l _. inl (λ q a b. mid q (omega (arith, a)) (omega (arith, b, l))))
 
   -- only slots and the scratch change
   pub memory-apart : {th : Theory} {K limit : ℕ} {was now : List ℕ} → ((q : ℕ) → q < limit → getD now q 0 ≡ getD was q 0) → ((q : ℕ) → h .memory ≤ q → q < scratchAt → getD now q 0 ≡ getD was q 0) → Memory th K h limit was → Memory th K h limit now
@@ -276,8 +286,8 @@ module _ (h : Context) where
     within = omega (arith, ap (λ (k : ℕ). h .block * k) (f (takenAt h) (omega arith) (omega arith) (λ e. omega (arith, e))), laid .room);
     chains = chained-none h (λ q l g. f q (omega (arith, l)) (omega (arith, g)) (λ e. omega (arith, e, l)));
     slots = λ i l z. absurd (omega (arith, z, f (idAt h (h .stride * i + 1)) (omega arith) (omega arith) (λ e. omega (arith, e))));
-    steps = λ i l z. absurd (omega (arith, z, f (stepsAt h + 4 * i) (omega arith) (omega (arith, l)) (λ e. omega (arith, e))));
-    facts = λ i l z. absurd (omega (arith, z, f (factsAt h + 7 * i + 6) (omega arith) (omega (arith, l)) (λ e. omega (arith, e))));
+    steps = λ _ i l z. absurd (omega (arith, z, f (stepsAt h + 4 * i) (omega arith) (omega (arith, l)) (λ e. omega (arith, e))));
+    facts = λ _ i l z. absurd (omega (arith, z, f (factsAt h + 7 * i + 6) (omega arith) (omega (arith, l)) (λ e. omega (arith, e))));
     cells = c;
   }
 
@@ -384,12 +394,12 @@ module _ (h : Context) where
         new-links : (m : ℕ) → m < 256 → getD last (linksAt h + m) 0 ≡ getD was (linksAt h + m) 0
         new-links m l = below (linksAt h + m) (λ z. omega (arith, z)) (omega (arith, l))
 
-        pub placed-new : Placed h t was last (taken + 1)
-        placed-new = record {
+        pub placed-new : ¬ Spent h was → Placed h t was last (taken + 1)
+        placed-new un = record {
           small = omega (arith, fits, is);
           alike = λ z. kept-as (before-now (length-set mid (takenAt h) v ∙ long) b) (taken + 1) (omega arith) (omega (arith, ap (λ (k : ℕ). h .block * k) new-taken, new-end)) new-count new-byte;
           only = record { low = λ q l. below q (λ z. omega (arith, z, l)) (omega (arith, l)); high = λ q l. above q (omega (arith, l, new-end, new-room)) };
-          memory = λ p K limit few m. memory-quiet (grown-same h new-wider new-heads new-links) (λ q l. below q (λ z. omega (arith, z, l, few)) (omega (arith, l, few))) (λ q low high. below q (λ z. omega (arith, z, high)) (omega (arith, high))) (λ q low high. below q (λ z. omega (arith, z, low)) (omega (arith, high))) (λ _ sp. absurd (omega (arith, sp .none, new-taken, is))) m;
+          memory = λ p K limit few m. memory-quiet (grown-same h new-wider new-heads new-links) (λ q l. below q (λ z. omega (arith, z, l, few)) (omega (arith, l, few))) (λ q low high. below q (λ z. omega (arith, z, high)) (omega (arith, high))) (λ q low high. below q (λ z. omega (arith, z, low)) (omega (arith, high))) ((λ sp. absurd (un sp)), λ _ sp. absurd (omega (arith, sp .none, new-taken, is))) m;
           before = λ z c b l. let same = new-heads b l in omega (arith, same, c .heads b l, e);
           older = λ c b n l x.
               let on = chain-back h new-wider new-heads new-links b n l x in
@@ -463,7 +473,7 @@ module _ (h : Context) where
         memory = λ p K limit few m.
             let grown = linked-grown h mark-few here (x .small) some l (x .before some (m .chains)) before₁ (rows-now ∙ rows-mid) new-alike hash-now (f .none refl) (m .chains) (x .older (m .chains)) in
             memory-quiet grown (λ q g. linked-low q (omega (arith, g, few))) (λ q _ g. linked-low q (omega (arith, g))) (λ q g u. l .others q (λ z. omega (arith, z, g, here, mark-few)) (λ z. omega (arith, z, u)))
-            (cells-same (linked-low (h .memory + 49) (omega arith)) (linked-low (takenAt h) (omega arith)) (λ q g _. linked-high q g)) (x .memory p K limit few m);
+            (cells-same (linked-low (h .memory + 49) (omega arith)) (linked-low (takenAt h) (omega arith)) (λ q g _. l .others q (λ z. omega (arith, z, g, here, mark-few)) (λ z. omega (arith, z, g, x .small)))) (x .memory p K limit few m);
       }
 
     -- where the id of a table in a slot stands
@@ -519,7 +529,7 @@ module _ (h : Context) where
       slot-stands = getD-set-same mid at r 0 (omega (arith, long, b .room))
 
       slot-memory : {p : Theory} {K limit : ℕ} → limit ≤ h .memory → InSlot h was t limit → Memory p K h limit was → Memory p K h limit now
-      slot-memory {p} {K} {limit} few s m = memory-but grown (λ q l. other q (λ z. omega (arith, z, l, few))) (λ i l. slots s i (omega (arith, l, few, b .laid .some))) (λ i l. inl (λ q a b. other q (λ z. omega (arith, z, a)))) (λ i l. inl (λ q a b. other q (λ z. omega (arith, z, a))))
+      slot-memory {p} {K} {limit} few s m = memory-but grown (λ q l. other q (λ z. omega (arith, z, l, few))) (λ i l. slots s i (omega (arith, l, few, b .laid .some))) (λ i l _. inl (λ q a b. other q (λ z. omega (arith, z, a)))) (λ i l _. inl (λ q a b. other q (λ z. omega (arith, z, a))))
           (cells-same (other (h .memory + 49) (λ z. omega (arith, z))) (other (takenAt h) (λ z. omega (arith, z))) (λ q l _. other q (λ z. omega (arith, z, l)))) (x .memory p K limit few m)
 
       pub naming-new : (Roomy h mid → Fits h t → 0 < r) → Interning h t was now r
@@ -561,7 +571,7 @@ module _ (h : Context) where
         told = λ p K limit few s m.
             let (m′, named) = x .interning .told p K limit few s m in
             let e′ : getD mid (factsAt h + 7 * place .number + 6) 0 ≡ r = ap (λ (a : ℕ). getD mid (a + 6) 0) (sym (place .is)) ∙ e in
-            let (kept, fact) = m′ .facts (place .number) (place .few) (omega (arith, e′, some)) in
+            let (kept, fact) = m′ .facts (unspent (named some)) (place .number) (place .few) (omega (arith, e′, some)) in
             let here = subst (λ (a : ℕ). Fact p K (getD mid a 0) (keyAt mid a) (stateOf (keptTable h mid (getD mid (a + 6) 0)) mid)) (sym (place .is)) fact in
             (m′, fact-same p K refl key (rows-mean (h .characters) (ap (λ (n : ℕ). tableOf (keptTable h mid n) mid) e) ∙ named-rows (before-now long b) (named some) ∙ rows-mean (t .characters) (before-same mid b (x .interning .only .low))) here);
       }
@@ -630,11 +640,11 @@ module _ (h : Context) where
           only = record { low = λ q l. low q (omega (arith, l, bounds)) ∙ x .interning .only .low q l; high = λ q l. high q (omega (arith, l, bounds)) ∙ x .interning .only .high q l };
           memory = λ p K limit few s y fact.
               let (m′, named) = x .interning .told p K limit few s y in
-              memory-but put-grown (λ q l. low q (omega (arith, l, few, bounds))) (λ i l. inl (low (idAt h (h .stride * i + 1)) (omega (arith, bounds)))) (λ i l. inl (λ q g u. low q (omega (arith, u, l, bounds))))
-              (λ i l. by-cases (ℕ-discrete i (place .number))
+              memory-but put-grown (λ q l. low q (omega (arith, l, few, bounds))) (λ i l. inl (low (idAt h (h .stride * i + 1)) (omega (arith, bounds)))) (λ i l _. inl (λ q g u. low q (omega (arith, u, l, bounds))))
+              (λ i l _. by-cases (ℕ-discrete i (place .number))
               (λ z. inr (subst (λ (i : ℕ). FactEntry p K h noted (factsAt h + 7 * i)) (sym z) (subst (FactEntry p K h noted) (place .is) (new p K (named some) fact))))
               (λ z. inl (λ q g u. by-cases (decLe i (place .number)) (λ v. low q (omega (arith, u, v, z, place .is))) (λ v. high q (omega (arith, g, v, place .is))))))
-              (cells-same (low (h .memory + 49) (omega (arith, bounds))) (low (takenAt h) (omega (arith, bounds))) (λ q l _. high q (omega (arith, l, bounds)))) m′;
+              (cells-unspent (low (h .memory + 49) (omega (arith, bounds))) (low (takenAt h) (omega (arith, bounds))) (named some)) m′;
         }
 
 -- three bytes that nothing is asked of
@@ -734,11 +744,11 @@ module _ (h : Context) where
       only = record { low = λ q l. put .low q (omega (arith, l, step-bounds)); high = λ q l. put .high q (omega (arith, l, step-bounds)) };
       memory = λ p K limit few s m f.
           memory-but h step-kept (λ q l. put .low q (omega (arith, l, few, step-bounds))) (λ i l. inl (put .low (idAt h (h .stride * i + 1)) (omega (arith, step-bounds))))
-          (λ i l. by-cases (ℕ-discrete i (place .number))
+          (λ i l _. by-cases (ℕ-discrete i (place .number))
           (λ z. inr (subst (λ (i : ℕ). StepEntry p h now (stepsAt h + 4 * i)) (sym z) (subst (StepEntry p h now) (place .is) (new-step (f id (slot-named h b e s m some))))))
           (λ z. inl (λ q g u. by-cases (decLe i (place .number)) (λ v. put .low q (omega (arith, u, v, z, place .is))) (λ v. put .high q (omega (arith, g, v, place .is))))))
-          (λ i l. inl (λ q g u. put .high q (omega (arith, g, step-bounds))))
-          (cells-same h (put .low (h .memory + 49) (omega (arith, step-bounds))) (put .low (takenAt h) (omega (arith, step-bounds))) (λ q l _. put .high q (omega (arith, l, step-bounds)))) m;
+          (λ i l _. inl (λ q g u. put .high q (omega (arith, g, step-bounds))))
+          (cells-unspent h (put .low (h .memory + 49) (omega (arith, step-bounds))) (put .low (takenAt h) (omega (arith, step-bounds))) (slot-named h b e s m some)) m;
     }
 
   -- one slot more
@@ -782,7 +792,7 @@ module _ (h : Context) where
     pub memory-nameless : {p : Theory} {K : ℕ} → Memory p K h slot was → Memory p K h (slot + h .stride) nameless
     memory-nameless m = memory-more (s .number) (s .is)
         (memory-but h (grown-by h (nameless-other (takenAt h) (λ z. omega (arith, z))) (λ q l _. nameless-other q (λ z. omega (arith, z, l))) (λ q l. nameless-other q (λ z. omega (arith, z, l)))) (λ q l. nameless-other q (λ z. omega (arith, z, l, s .before)))
-        (λ i l. inl (nameless-other (idAt h (h .stride * i + 1)) (slot-other s i l))) (λ i l. inl (λ q g u. nameless-other q (λ z. omega (arith, z, g)))) (λ i l. inl (λ q g u. nameless-other q (λ z. omega (arith, z, g))))
+        (λ i l. inl (nameless-other (idAt h (h .stride * i + 1)) (slot-other s i l))) (λ i l _. inl (λ q g u. nameless-other q (λ z. omega (arith, z, g)))) (λ i l _. inl (λ q g u. nameless-other q (λ z. omega (arith, z, g))))
         (cells-same h (nameless-other (h .memory + 49) (λ z. omega (arith, z))) (nameless-other (takenAt h) (λ z. omega (arith, z))) (λ q l _. nameless-other q (λ z. omega (arith, z, l)))) m)
         (λ z. let e : getD nameless (idAt h (h .stride * s .number + 1)) 0 ≡ 0 = ap (λ (q : ℕ). getD nameless q 0) (sym (slot-index s)) ∙ getD-set-same was (idAt h (slot + 1)) 0 0 (omega (arith, s .before, s .laid .room, s .room)) in absurd (omega (arith, e, z)))
 
@@ -819,7 +829,7 @@ module _ (h : Context) where
     again-count = let x : slot ≡ slot + 0 = omega arith in let y : keptAt h next + 0 ≡ keptAt h next = omega arith in ap (λ (q : ℕ). getD again q 0) x ∙ again-byte 0 (omega arith) ∙ ap (λ (q : ℕ). getD was q 0) y
 
     again-memory : {p : Theory} {K : ℕ} → Memory p K h slot was → Memory p K h slot again
-    again-memory m = memory-but h again-grown again-low (λ i l. inl (again-other (idAt h (h .stride * i + 1)) (slot-other s i l) ∙ copied .high (idAt h (h .stride * i + 1)) (omega (arith, s .before, again-size)))) (λ i l. inl (λ q g u. again-high q (omega (arith, g)))) (λ i l. inl (λ q g u. again-high q (omega (arith, g))))
+    again-memory m = memory-but h again-grown again-low (λ i l. inl (again-other (idAt h (h .stride * i + 1)) (slot-other s i l) ∙ copied .high (idAt h (h .stride * i + 1)) (omega (arith, s .before, again-size)))) (λ i l _. inl (λ q g u. again-high q (omega (arith, g)))) (λ i l _. inl (λ q g u. again-high q (omega (arith, g))))
         (cells-same h (again-high (h .memory + 49) (omega arith)) (again-high (takenAt h) (omega arith)) (λ q l _. again-high q (omega (arith, l)))) m
 
     again-named : HasId h again (slotTable h again slot) next

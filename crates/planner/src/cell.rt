@@ -13,6 +13,7 @@ use crate::intern::digest;
 use crate::intern::extent;
 use crate::limits::Context;
 use crate::regions::ROWS;
+use crate::regions::STEPS;
 use crate::regions::WAYS;
 use chart::bytes::copy_part;
 use chart::values::first_other;
@@ -43,12 +44,13 @@ pub fn bucket_at(work: &[u8], p: Context, slot: usize, k: Key) -> usize
     ensures { λ r. ⌜ (r ≡ bucketAt p (now (work .entry)) slot k) × Bucket p r ⌝ }
 {
     let size = WAYS * cell_size(p);
-    let buckets = (NUMBERS - p.tables) / size;
+    let base = p.memory + STEPS;
+    let buckets = (NUMBERS - base) / size;
     let h = digest(work, slot, extent(work, p, slot))
         + k.who % 8 * 37
         + k.number % 32 * 5
         + k.nesting % 4;
-    p.tables + size * (h % buckets)
+    base + size * (h % buckets)
 }
 
 // Whether a cell holds what is known of the table in a slot by a key.

@@ -132,7 +132,7 @@ pub fn has_id(work: &[u8], p: Context, t: Table, id: usize) -> bool
 // Puts a table behind those that are kept, where there is room: its id, or 0.
 pub fn store(work: &mut [u8], p: Context, t: Table) -> usize
     requires { ⌜ Before p (now work) t ⌝ }
-    ensures { λ r. ⌜ Placed p t (now (work .entry)) (now (work .exit)) r
+    ensures { λ r. ⌜ (¬ Spent p (now (work .entry)) → Placed p t (now (work .entry)) (now (work .exit)) r)
         × (getD (now (work .entry)) (takenAt p) 0 + t .nodes * t .width / p .block < 255 → 0 < r) ⌝ }
 {
     let n = t.nodes * t.width;

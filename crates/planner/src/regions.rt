@@ -30,8 +30,8 @@ pub const BLOCKS: usize = 255;
 // So many blocks are taken where a search is large.
 pub const ENOUGH: usize = 20;
 
-// Once all has been forgotten cells stand in the place of the tables, with room for one of so many rows, so many to a
-// bucket.
+// Once all has been forgotten cells stand in the place of all three, with room for a table of so many rows, so many to
+// a bucket.
 pub const ROWS: usize = 8;
 
 pub const WAYS: usize = 4;

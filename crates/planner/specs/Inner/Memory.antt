@@ -183,13 +183,13 @@ pub record Spent (h : Context) (work : List ℕ) : Type 0 where
   pub once : 0 < getD work (h .memory + 49) 0
   pub none : getD work (takenAt h) 0 ≡ 0
 
--- then cells of one size stand in the place of the tables, each with a mark and its key, a byte of which nothing is
+-- then cells of one size stand in the place of steps, lists and tables, each with a mark and its key, a byte of which nothing is
 -- asked, and a table of at most 8 rows behind its count
 abbrev pub cellSize : Context → ℕ
 cellSize h = 8 + 8 * (h .fluents + h .characters)
 
 abbrev pub cellAt : Context → ℕ → ℕ
-cellAt h i = tablesAt h + cellSize h * i
+cellAt h i = stepsAt h + cellSize h * i
 
 -- a cell is empty, or what it says of its table is true
 pub record CellFact (p : Theory) (foresight : ℕ) (h : Context) (work : List ℕ) (a : ℕ) : Type 0 where
@@ -207,8 +207,8 @@ pub record Memory (p : Theory) (foresight : ℕ) (h : Context) (limit : ℕ) (wo
   pub within : tablesAt h + h .block * getD work (takenAt h) 0 ≤ scratchAt
   pub chains : Chained h work
   pub slots : (i : ℕ) → h .stride * i + h .stride ≤ limit → SlotEntry h work i
-  pub steps : (i : ℕ) → i < h .lists / 2 → StepEntry p h work (stepsAt h + 4 * i)
-  pub facts : (i : ℕ) → i < h .lists → FactEntry p foresight h work (factsAt h + 7 * i)
+  pub steps : ¬ Spent h work → (i : ℕ) → i < h .lists / 2 → StepEntry p h work (stepsAt h + 4 * i)
+  pub facts : ¬ Spent h work → (i : ℕ) → i < h .lists → FactEntry p foresight h work (factsAt h + 7 * i)
   pub cells : Cells p foresight h work
 
 -- the id of the table in a slot, or 0 where it has none
@@ -457,10 +457,10 @@ tableSum h work slot = sumOf 5 work slot (1 + getD work slot 0 * (h .fluents + h
 
 abbrev pub bucketAt : Context → List ℕ → (slot : ℕ) → Key → ℕ
 bucketAt h work slot k =
-    tablesAt h
+    stepsAt h
     + 4 * cellSize h
     * ((tableSum h work slot + k .who % 8 * 37 + k .number % 32 * 5 + k .nesting % 4)
-    % ((scratchAt - tablesAt h) / (4 * cellSize h)))
+    % ((scratchAt - stepsAt h) / (4 * cellSize h)))
 
 -- a cell holds something of the table in a slot by a key
 pub record Holds (h : Context) (work : List ℕ) (slot a : ℕ) (k : Key) : Type 0 where

@@ -35,7 +35,7 @@ store-spec =
     (λ c.
     let at-wide = c .before .before in
     let start = at-wide .before .before .before .before .before in
-    (placed-none (start .args .p), λ f. absurd (omega (arith, f, at-wide .wide .ensures, c .if1 .taken))))
+    (λ _. placed-none (start .args .p), λ f. absurd (omega (arith, f, at-wide .wide .ensures, c .if1 .taken))))
     (λ c.
     let at-wide = c .before .before .before in
     let at-slice-known2 = at-wide .before in
