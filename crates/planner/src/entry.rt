@@ -2,7 +2,6 @@
 // of its table and a key; one entry for each hash, each true.
 use crate::cell::recall_cell;
 use crate::cell::remember_cell;
-use crate::intern::has_overflowed;
 use crate::intern::id_of;
 use crate::intern::in_cells;
 use crate::limits::Context;
@@ -168,33 +167,6 @@ pub fn remember(work: &mut [u8], p: Context, slot: usize, mark: u8, k: Key)
         put_key(work, at, mark, k);
         work[at + 6] = id as u8;
     }
-}
-
-// As `recall`, of a character's lists: nothing is kept of them once there was no room.
-pub fn recall_list(work: &mut [u8], p: Context, slot: usize, k: Key) -> u8
-    requires { ⌜ Before p (now work) (slotTable p (now work) slot) ⌝ }
-    ensures { λ r. ⌜ Recalled p (slotTable p (now (work .entry)) slot) k (now (work .entry)) (now (work .exit)) r
-        × (Roomy p (now (work .entry)) → Recalls p (slotTable p (now (work .entry)) slot) k (now (work .entry))
-        (now (work .exit)) r) ⌝ }
-{
-    if has_overflowed(work, p) {
-        return 0;
-    }
-    recall(work, p, slot, k)
-}
-
-// As `remember`, of a character's lists.
-pub fn remember_list(work: &mut [u8], p: Context, slot: usize, mark: u8, k: Key)
-    requires { ⌜ Before p (now work) (slotTable p (now work) slot) ⌝ }
-    ensures { λ _. ⌜ Remembered p (slotTable p (now (work .entry)) slot) mark k (now (work .entry))
-        (now (work .exit))
-        × (Roomy p (now (work .entry)) → Notes p (slotTable p (now (work .entry)) slot) mark k (now (work .entry))
-        (now (work .exit))) ⌝ }
-{
-    if has_overflowed(work, p) {
-        return;
-    }
-    remember(work, p, slot, mark, k)
 }
 
 // As `remember`, of what was found out since so many steps had been made: once there was no room, what took few steps

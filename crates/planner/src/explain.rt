@@ -11,8 +11,6 @@ use crate::entry::Goal;
 use crate::entry::deed_key;
 use crate::entry::goal_key;
 use crate::entry::recall;
-use crate::entry::recall_list;
-use crate::entry::remember_list;
 use crate::entry::remember_worth;
 use crate::intern::table_in;
 use crate::limits::Context;
@@ -184,19 +182,20 @@ pub fn extends(
         return false;
     }
     let key = goal_key(goal, quest.left);
-    let known = recall_list(work, p, slot, key);
+    let known = recall(work, p, slot, key);
     if known == 1 {
         return false;
     }
     if known == 2 {
         return true;
     }
+    let since = steps_made(work, p);
     let fewer = Quest {
         goal,
         left: quest.left - 1,
     };
     let found = extends_by(pack, places, p, work, slot, fewer);
-    remember_list(work, p, slot, mark_of(found), key);
+    remember_worth(work, p, slot, mark_of(found), key, since);
     found
 }
 

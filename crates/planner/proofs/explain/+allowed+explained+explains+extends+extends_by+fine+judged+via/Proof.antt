@@ -58,8 +58,6 @@ use Rattle.planner.proofs.intern.table_in.Reads as table-in-reads
 use Rattle.planner.proofs.entry.deed_key.Reads as deed-key-reads
 use Rattle.planner.proofs.entry.goal_key.Reads as goal-key-reads
 use Rattle.planner.proofs.entry.recall.Reads as recall-reads
-use Rattle.planner.proofs.entry.recall_list.Reads as recall-list-reads
-use Rattle.planner.proofs.entry.remember_list.Reads as remember-list-reads
 use Rattle.planner.proofs.entry.remember_worth.Reads as remember-worth-reads
 use Rattle.planner.proofs.belief.place_belief.Reads as place-belief-reads
 use Rattle.planner.proofs.steps.steps_made.Reads as steps-made-reads
@@ -157,7 +155,7 @@ abbrev judged-calls : ℕ → judged-lts.Claims
 judged-calls t = (deed-key-reads.Asked, deed-key-reads.Learnt, recall-reads.Asked, recall-reads.Learnt, steps-made-reads.Asked, steps-made-reads.Learnt, explains-below t, explains.Post, mark-of-reads.Asked, mark-of-reads.Learnt, remember-worth-reads.Asked, remember-worth-reads.Learnt)
 
 abbrev extends-calls : ℕ → extends-lts.Claims
-extends-calls t = (table-in-reads.Asked, table-in-reads.Learnt, utility-reads.Asked, utility-reads.Learnt, within-reach-reads.Asked, within-reach-reads.Learnt, goal-key-reads.Asked, goal-key-reads.Learnt, recall-list-reads.Asked, recall-list-reads.Learnt, extends-by-below t, extends-by.Post, mark-of-reads.Asked, mark-of-reads.Learnt, remember-list-reads.Asked, remember-list-reads.Learnt)
+extends-calls t = (table-in-reads.Asked, table-in-reads.Learnt, utility-reads.Asked, utility-reads.Learnt, within-reach-reads.Asked, within-reach-reads.Learnt, goal-key-reads.Asked, goal-key-reads.Learnt, recall-reads.Asked, recall-reads.Learnt, steps-made-reads.Asked, steps-made-reads.Learnt, extends-by-below t, extends-by.Post, mark-of-reads.Asked, mark-of-reads.Learnt, remember-worth-reads.Asked, remember-worth-reads.Learnt)
 
 abbrev allowed-calls : ℕ → allowed-lts.Claims
 allowed-calls t = (consenters-reads.Asked, consenters-reads.Learnt, consenter-reads.Asked, consenter-reads.Learnt, fine-below t, fine.Post)
@@ -720,8 +718,8 @@ extends-returns-3 t c =
 extends-goal-key-requires : (t : ℕ) → extends-lts.Need-goal-key-requires (extends-calls t) (extends-at t) extends.Post
 extends-goal-key-requires t c κs = search needs
 
-extends-recall-list-requires : (t : ℕ) → extends-lts.Need-recall-list-requires (extends-calls t) (extends-at t) extends.Post
-extends-recall-list-requires t c κs =
+extends-recall-requires : (t : ℕ) → extends-lts.Need-recall-requires (extends-calls t) (extends-at t) extends.Post
+extends-recall-requires t c κs =
     let at-table-in = c .before .before .before .before .before .before .before .before .before .before .before .before .before .before in
     let start = at-table-in .before .before .before .before .before .before in
     let P = start .pre .1 in
@@ -739,7 +737,7 @@ extends-returns-4 t c =
     let start = at-table-in .before .before .before .before .before .before in
     let P = start .pre .1 in
     let a = start .args in
-    let r = at-recall .recall-list in
+    let r = at-recall .recall in
     λ th T y mem.
     let (m, fact) = r .ensures .0 .told th (a .p .foresight .0) (a .slot + a .p .stride) (omega (arith, P .4)) (y .slotted) mem in
     told-no (λ q l. r .ensures .0 .only .low q (omega (arith, l, P .4))) (r .ensures .0 .only .high) m (known y key fact .no (c .if4 .taken))
@@ -755,58 +753,65 @@ extends-returns-5 t c =
     let start = at-table-in .before .before .before .before .before .before in
     let P = start .pre .1 in
     let a = start .args in
-    let r = at-recall .recall-list in
+    let r = at-recall .recall in
     λ th T y mem.
     let (m, fact) = r .ensures .0 .told th (a .p .foresight .0) (a .slot + a .p .stride) (omega (arith, P .4)) (y .slotted) mem in
     told-yes (λ q l. r .ensures .0 .only .low q (omega (arith, l, P .4))) (r .ensures .0 .only .high) m (known y key fact .yes (c .if5 .taken))
 
-extends-sub-left : (t : ℕ) → extends-lts.Need-sub-t18 (extends-calls t) (extends-at t) extends.Post
+extends-steps-made-requires : (t : ℕ) → extends-lts.Need-steps-made-requires (extends-calls t) (extends-at t) extends.Post
+extends-steps-made-requires t c κs =
+    let at-recall = c .before .before .before .before .before in
+    let start = at-recall .before .before .before .before .before .before .before .before .before .before .before .before .before .before .before .before .before .before .before .before .before in
+    let (th, (T, (y, mem))) = start .pre .1 .0 in
+    (omega (arith, y .laid .room), omega (arith, y .room, at-recall .recall .kept .0))
+
+extends-sub-left : (t : ℕ) → extends-lts.Need-sub-t19 (extends-calls t) (extends-at t) extends.Post
 extends-sub-left t c =
-    let at-if2 = c .before .before .before .before .before .before .before .before .before .before .before .before in
+    let at-if2 = c .before .before .before .before .before .before .before .before .before .before .before .before .before .before in
     omega (arith, at-if2 .if2 .left)
 
 extends-extends-by-requires : (t : ℕ) → extends-lts.Need-extends-by-requires (extends-calls t) (extends-at t) extends.Post
 extends-extends-by-requires t c κs =
-    let at-recall = c .before .before .before .before .before .before in
+    let at-recall = c .before .before .before .before .before .before .before .before in
     let at-if2 = at-recall .before .before .before .before .before .before .before in
     let at-table-in = at-if2 .before .before .before .before .before .before .before .before in
     let start = at-table-in .before .before .before .before .before .before in
     let (m, P) = start .pre in
     let a = start .args in
     let (th, (T, (y, mem))) = P .0 in
-    let r = at-recall .recall-list in
+    let r = at-recall .recall in
     (omega (arith, m, at-if2 .if2 .left), ((th, (T, (slot-same (a .slot) y (λ q l. r .ensures .0 .only .low q (omega (arith, l, P .4))) (r .kept .0), r .ensures .0 .told th (a .p .foresight .0) (a .slot + a .p .stride) (omega (arith, P .4)) (y .slotted) mem .0))), P .1, P .2, P .3, free-fewer (a .p) (a .slot) (1 + a .quest .left + (1 + a .p .foresight .0) * a .quest .goal .nesting .0) (2 + (a .quest .left - 1) + (1 + a .p .foresight .0) * a .quest .goal .nesting .0) (omega (arith, at-if2 .if2 .left)) (P .4)))
 
 extends-mark-of-requires : (t : ℕ) → extends-lts.Need-mark-of-requires (extends-calls t) (extends-at t) extends.Post
 extends-mark-of-requires t c κs = search needs
 
-extends-remember-list-requires : (t : ℕ) → extends-lts.Need-remember-list-requires (extends-calls t) (extends-at t) extends.Post
-extends-remember-list-requires t c κs =
+extends-remember-worth-requires : (t : ℕ) → extends-lts.Need-remember-worth-requires (extends-calls t) (extends-at t) extends.Post
+extends-remember-worth-requires t c κs =
     let at-extends-by = c .before .before .before .before in
-    let at-recall = at-extends-by .before .before .before .before .before .before .before in
+    let at-recall = at-extends-by .before .before .before .before .before .before .before .before .before in
     let at-table-in = at-recall .before .before .before .before .before .before .before .before .before .before .before .before .before .before .before in
     let start = at-table-in .before .before .before .before .before .before in
     let P = start .pre .1 in
     let a = start .args in
     let (th, (T, (y, mem))) = P .0 in
-    let r = at-recall .recall-list in
+    let r = at-recall .recall in
     let x = at-extends-by .extends-by in
     let told = x .ensures th T (slot-same (a .slot) y (λ q l. r .ensures .0 .only .low q (omega (arith, l, P .4))) (r .kept .0)) (r .ensures .0 .told th (a .p .foresight .0) (a .slot + a .p .stride) (omega (arith, P .4)) (y .slotted) mem .0) in
-    stage-before (slot-same (a .slot) (slot-same {now = r .last .0} (a .slot) y (λ q l. r .ensures .0 .only .low q (omega (arith, l, P .4))) (r .kept .0)) (told .low) (x .kept .1 .1 .1 .0)) (omega (arith, P .4))
+    (stage-before (slot-same (a .slot) (slot-same {now = r .last .0} (a .slot) y (λ q l. r .ensures .0 .only .low q (omega (arith, l, P .4))) (r .kept .0)) (told .low) (x .kept .1 .1 .1 .0)) (omega (arith, P .4)), at-extends-by .before .before .before .steps-made .ensures)
 
 extends-same-length-6 : (t : ℕ) → extends-lts.Need-same-length-6 (extends-calls t) (extends-at t) extends.Post
 extends-same-length-6 t c =
     let at-remember = c .before .before in
     let at-extends-by = at-remember .before .before .before .before .before in
-    let at-recall = at-extends-by .before .before .before .before .before .before .before in
-    at-remember .remember-list .kept .0 ∙ at-extends-by .extends-by .kept .1 .1 .1 .0 ∙ at-recall .recall-list .kept .0
+    let at-recall = at-extends-by .before .before .before .before .before .before .before .before .before in
+    at-remember .remember-worth .kept .0 ∙ at-extends-by .extends-by .kept .1 .1 .1 .0 ∙ at-recall .recall .kept .0
 
 extends-returns-6 : (t : ℕ) → extends-lts.Need-returns-6 (extends-calls t) (extends-at t) extends.Post
 extends-returns-6 t c =
     let at-remember = c .before .before in
     let at-mark-of = at-remember .before in
     let at-extends-by = at-mark-of .before .before .before .before in
-    let at-recall = at-extends-by .before .before .before .before .before .before .before in
+    let at-recall = at-extends-by .before .before .before .before .before .before .before .before .before in
     let key = at-recall .before .before .goal-key .ensures in
     let at-if2 = at-recall .before .before .before .before .before .before .before in
     let at-if1 = at-if2 .before .before in
@@ -816,8 +821,8 @@ extends-returns-6 t c =
     let P = start .pre .1 in
     let a = start .args in
     let some : 0 < a .quest .left = omega (arith, at-if2 .if2 .left) in
-    let rem = at-remember .remember-list .ensures .0 in
-    let r = at-recall .recall-list in
+    let rem = at-remember .remember-worth .ensures .0 in
+    let r = at-recall .recall in
     let x = at-extends-by .extends-by in
     λ th T y mem.
     let s = meaning (a .p .characters) T in
@@ -1148,15 +1153,16 @@ pub +allowed+explained+explains+extends+extends-by+fine+judged+via-spec : {M : T
     (extends-same-length-3 t)
     (extends-returns-3 t)
     (extends-goal-key-requires t)
-    (extends-recall-list-requires t)
+    (extends-recall-requires t)
     (extends-same-length-4 t)
     (extends-returns-4 t)
     (extends-same-length-5 t)
     (extends-returns-5 t)
+    (extends-steps-made-requires t)
     (extends-sub-left t)
     (extends-extends-by-requires t)
     (extends-mark-of-requires t)
-    (extends-remember-list-requires t)
+    (extends-remember-worth-requires t)
     (extends-same-length-6 t)
     (extends-returns-6 t))
     (λ t. extends-by-lts.spec (extends-by-calls t)
