@@ -18,7 +18,7 @@ use Rattle.transition.specs.Contracts.Stage.{scratchAt}
 use Rattle.planner.specs.declared.limits.Context.{Context}
 use Rattle.planner.specs.declared.entry.Key.{Key}
 use Rattle.planner.specs.Inner.Lists.{slotTable}
-use Rattle.planner.specs.Inner.Memory.{Laid, idAt, takenAt, headsAt, linksAt, stepsAt, tablesAt, keyAt, Fact, Memory, Before, InSlot, Only, Spent, CellFact, Cells, cellSize, cellAt, Bucket, tableSum, Holds, FoundIn, CellPut, KeyPut, Recalled, Remembered}
+use Rattle.planner.specs.Inner.Memory.{Laid, idAt, takenAt, headsAt, linksAt, stepsAt, tablesAt, keyAt, Fact, Memory, Before, InSlot, Only, Spent, CellFact, Cells, cellSize, cellAt, Bucket, tableSum, bucketAt, rankAt, Holds, FoundIn, CellPut, CellKept, KeyPut, Recalled, Remembered}
 use Rattle.planner.proofs.Chains.{table-moved, grown-same}
 use Rattle.planner.proofs.TrueMemory.{fact-same, fact-none, key-same, rows-mean, stride-on, cell-same, memory-but}
 
@@ -129,7 +129,7 @@ module _ (h : Context) where
     }
 
     -- a table of few rows is put into the cell
-    pub remembered-cell : getD was slot 0 ≤ 8 → CellPut h slot (a + i * cellSize h) mark k was now → Remembered h (slotTable h was slot) mark k was now
+    pub remembered-cell : getD was slot 0 ≤ 6 → CellPut h slot (a + i * cellSize h) mark k was now → Remembered h (slotTable h was slot) mark k was now
     remembered-cell few put = record {
       only = record { low = λ q g. put .low q (omega (arith, g, here)); high = λ q g. put .high q (omega (arith, g, way-in bucket l)) };
       memory = λ th K limit less s m f. one-memory was now n (λ q x. ⊎-elim (λ z. put .low q (omega (arith, z, here))) (λ z. put .high q (omega (arith, z, here))) x) sp less
@@ -160,7 +160,7 @@ module _ (h : Context) where
       record { laid = b .laid; fluents = refl; characters = refl; wide = refl; narrow = b .laid .narrow; few = omega (arith, e, b .few); before = omega (arith, ap (λ (n : ℕ). n * w) e, b .before); room = omega (arith, long, b .room) }
 
   -- the mark and the key, the rank, and the table
-  module _ (slot rank : ℕ) {was put now : List ℕ} {at mark n : ℕ} {k : Key} (b : Before h was (slotTable h was slot)) (few : getD was slot 0 ≤ 8) (from : h .memory ≤ at) (key : KeyPut was put at mark k) (copied : PartCopied (set put (at + 6) rank) now slot (at + 7) n) (size : n ≡ 1 + getD (set put (at + 6) rank) slot 0 * w) where
+  module _ (slot rank : ℕ) {was put now : List ℕ} {at mark n : ℕ} {k : Key} (b : Before h was (slotTable h was slot)) (few : getD was slot 0 ≤ 6) (from : h .memory ≤ at) (key : KeyPut was put at mark k) (copied : PartCopied (set put (at + 6) rank) now slot (at + 7) n) (size : n ≡ 1 + getD (set put (at + 6) rank) slot 0 * w) where
     ranked : (q : ℕ) → q ≢ at + 6 → getD (set put (at + 6) rank) q 0 ≡ getD put q 0
     ranked q e = getD-set-other put (at + 6) q rank 0 e
 
@@ -184,3 +184,26 @@ module _ (h : Context) where
       low = λ q l. copied .low q (omega (arith, l)) ∙ below q l;
       high = λ q l. copied .high q (omega (arith, l, long, mul-le-mul-right w few)) ∙ ranked q (λ e. omega (arith, e, l)) ∙ key .high q (omega (arith, l));
     }
+
+  -- four cells, one after the other
+  pub four : (P : ℕ → Type 0) → P 0 → P 1 → P 2 → P 3 → (i : ℕ) → i < 4 → P i
+  four P a b c d i l = by-cases (ℕ-discrete i 0) (λ e. subst P (sym e) a) (λ n0. by-cases (ℕ-discrete i 1) (λ e. subst P (sym e) b) (λ n1. by-cases (ℕ-discrete i 2) (λ e. subst P (sym e) c) (λ n2. subst P (let e : 3 ≡ i = omega (arith, l, n0, n1, n2) in e) d)))
+
+  -- none of the bucket's cells is empty
+  pub kept-higher : (was : List ℕ) (at : ℕ) {now : List ℕ} {slot mark a : ℕ} {k : Key} → a ≡ bucketAt h was slot k → ((i : ℕ) → i < 4 → rankAt was at ≤ rankAt was (a + i * cellSize h)) → 0 < rankAt was at → CellKept h slot mark k was now
+  kept-higher was at e least some = record { stands = λ _ _ _ i l none. absurd (omega (arith, least i l, ap (λ (a : ℕ). rankAt was (a + i * cellSize h)) e, none, some)) }
+
+  -- one is filled
+  pub kept-put : {was now : List ℕ} {slot mark a j : ℕ} {k : Key} → Before h was (slotTable h was slot) → h .memory ≤ a → a ≡ bucketAt h was slot k → j < 4 → CellPut h slot (a + j * cellSize h) mark k was now → CellKept h slot mark k was now
+  kept-put {was} {now} {slot} {mark} {a} {j} {k} b from e l put =
+      let at = a + j * cellSize h in
+      let here : at ≡ bucketAt h was slot k + j * cellSize h = ap (λ (a : ℕ). a + j * cellSize h) e in
+      let slotted = table-moved h was now slot slot (λ i g. put .low (slot + i) (omega (arith, g, b .before, from))) in
+      record {
+        stands = λ _ _ some i few none. (
+          j,
+          l,
+          subst (λ (q : ℕ). Holds h now slot q k) here (record { some = omega (arith, put .marked, some); key = put .key; same = table-moved h was now slot (at + 7) (put .part) ∙ sym slotted }),
+          ap (λ (q : ℕ). getD now q 0) (sym here) ∙ put .marked,
+        );
+      }

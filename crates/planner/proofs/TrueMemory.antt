@@ -152,7 +152,7 @@ module _ (h : Context) where
   pub cell-same : {th : Theory} {K : ℕ} {was now : List ℕ} (a : ℕ) → ((q : ℕ) → a ≤ q → q < a + cellSize h → q ≢ a + 6 → getD now q 0 ≡ getD was q 0) → CellFact th K h was a → CellFact th K h now a
   cell-same {th} {K} {was} {now} a f x =
       let at : (d : ℕ) → d < 8 → d ≢ 6 → getD now (a + d) 0 ≡ getD was (a + d) 0 = λ d l n. f (a + d) (omega arith) (omega (arith, l)) (λ e. n (omega (arith, e))) in
-      let most : getD was (a + 7) 0 * w ≤ 8 * w = mul-le-mul-right w (x .few) in
+      let most : getD was (a + 7) 0 * w ≤ 6 * w = mul-le-mul-right w (x .few) in
       let moved = table-moved h was now (a + 7) (a + 7) (λ j m. f (a + 7 + j) (omega arith) (omega (arith, m, most)) (λ e. omega (arith, e))) in
       record {
         few = omega (arith, at 7 (omega arith) (λ e. omega (arith, e)), x .few);

@@ -2,9 +2,9 @@
 // before, four to a bucket.
 //
 // A cell holds one thing that is known, with the table that it is known of, so nothing points at it and another may be
-// put in its place at any time: the one that took the fewest steps to find out goes, and what stays too long for that
-// is worth less each time. A table is held byte for byte against the one in a cell, so what is known of a state is
-// found exactly where it stands.
+// put in its place at any time: of a bucket the one goes that took the fewest steps to find out, and where all took
+// more than the new one, the rank of the lowest falls. A table is held byte for byte against the one in a cell, so what
+// is known of a state is found exactly where it stands.
 use crate::entry::Key;
 use crate::entry::keyed;
 use crate::entry::put_key;
@@ -22,13 +22,13 @@ use transition::regions::NUMBERS;
 ghost use mathlib.Core.Path.{_≡_};
 ghost use mathlib.Core.Bool.{true, false};
 ghost use mathlib.Core.Logic.{_⊎_};
-ghost use Prim.Native.Nat.{_+_, _*_, _<_, _≤_};
+ghost use Prim.Native.Nat.{ℕ, _+_, _*_, _<_, _≤_};
 ghost use lib.ListN.{length, getD};
 ghost use Rattle.chart.specs.Call.{workRoom};
 ghost use Rattle.transition.specs.Contracts.Stage.{scratchAt};
 ghost use Rattle.planner.specs.Inner.Lists.{slotTable};
 ghost use Rattle.planner.specs.Inner.Memory.{Laid, Before, Spent, cellSize, Bucket, CellIn, bucketAt};
-ghost use Rattle.planner.specs.Inner.Memory.{Holds, FoundIn, CellPut, Remembered};
+ghost use Rattle.planner.specs.Inner.Memory.{rankAt, Holds, FoundIn, CellPut, CellKept, Remembered};
 
 // How many bytes a cell takes: a mark and its key, a rank, and a table of few rows with its count.
 pub fn cell_size(p: Context) -> usize
@@ -38,7 +38,7 @@ pub fn cell_size(p: Context) -> usize
     8 + ROWS * (p.fluents + p.characters)
 }
 
-// Where the bucket begins in which it stands what is known of the table in a slot by a key.
+// Where the bucket begins in which something known of the table in a slot, by a key, would stand.
 pub fn bucket_at(work: &[u8], p: Context, slot: usize, k: Key) -> usize
     requires { ⌜ Before p (now work) (slotTable p (now work) slot) ⌝ }
     ensures { λ r. ⌜ (r ≡ bucketAt p (now (work .entry)) slot k) × Bucket p r ⌝ }
@@ -89,7 +89,8 @@ pub fn recall_cell(work: &[u8], p: Context, slot: usize, k: Key) -> u8
 // Which of two cells has the lower rank.
 pub fn lower(work: &[u8], a: usize, b: usize) -> usize
     requires { ⌜ (a + 7 ≤ length (now work)) × (b + 7 ≤ length (now work)) ⌝ }
-    ensures { λ r. ⌜ (r ≡ a) ⊎ (r ≡ b) ⌝ }
+    ensures { λ r. ⌜ ((r ≡ a) ⊎ (r ≡ b)) × (rankAt (now (work .entry)) r ≤ rankAt (now (work .entry)) a)
+        × (rankAt (now (work .entry)) r ≤ rankAt (now (work .entry)) b) ⌝ }
 {
     if work[b + 6] < work[a + 6] {
         return b;
@@ -100,7 +101,9 @@ pub fn lower(work: &[u8], a: usize, b: usize) -> usize
 // Which of a bucket's cells has the lowest.
 pub fn lowest(work: &[u8], p: Context, first: usize) -> usize
     requires { ⌜ Laid p × Bucket p first × (workRoom ≤ length (now work)) ⌝ }
-    ensures { λ r. ⌜ CellIn p first r ⌝ }
+    ensures { λ r. ⌜ CellIn p first r
+        × ((i : ℕ) → i < 4
+        → rankAt (now (work .entry)) r ≤ rankAt (now (work .entry)) (first + i * cellSize p)) ⌝ }
 {
     let size = cell_size(p);
     let one = lower(work, first, first + size);
@@ -125,7 +128,7 @@ pub fn rank_of(steps: usize) -> u8 {
 // Puts what is known of the table in a slot into a cell.
 pub fn put_cell(work: &mut [u8], p: Context, slot: usize, at: usize, mark: u8, k: Key, rank: u8)
     requires { ⌜ Before p (now work) (slotTable p (now work) slot) × (at + cellSize p ≤ scratchAt)
-        × (getD (now work) slot 0 ≤ 8) × (p .memory ≤ at) × (k .who < 256) × (k .nesting < 256) × (k .number < 256)
+        × (getD (now work) slot 0 ≤ 6) × (p .memory ≤ at) × (k .who < 256) × (k .nesting < 256) × (k .number < 256)
         × (k .base < 65536) ⌝ }
     ensures { λ _. ⌜ CellPut p slot at mark k (now (work .entry)) (now (work .exit)) ⌝ }
 {
@@ -138,7 +141,9 @@ pub fn put_cell(work: &mut [u8], p: Context, slot: usize, at: usize, mark: u8, k
 // Puts it down where its bucket has nothing but what took longer to find out.
 pub fn remember_cell(work: &mut [u8], p: Context, slot: usize, mark: u8, k: Key, steps: usize)
     requires { ⌜ Before p (now work) (slotTable p (now work) slot) × Spent p (now work) ⌝ }
-    ensures { λ _. ⌜ Remembered p (slotTable p (now (work .entry)) slot) mark k (now (work .entry)) (now (work .exit)) ⌝ }
+    ensures { λ _. ⌜ Remembered p (slotTable p (now (work .entry)) slot) mark k (now (work .entry))
+        (now (work .exit))
+        × CellKept p slot mark k (now (work .entry)) (now (work .exit)) ⌝ }
 {
     if ROWS < wide(work[slot]) {
         return;

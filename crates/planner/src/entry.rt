@@ -169,8 +169,8 @@ pub fn remember(work: &mut [u8], p: Context, slot: usize, mark: u8, k: Key)
     }
 }
 
-// As `remember`, of what was found out since so many steps had been made: once there was no room, what took few steps
-// is found out anew.
+// As `remember`, of what was found out since so many steps had been made: once there was no room it is put into a cell,
+// and what took few steps is found out anew.
 pub fn remember_worth(work: &mut [u8], p: Context, slot: usize, mark: u8, k: Key, since: usize)
     requires { ⌜ Before p (now work) (slotTable p (now work) slot) × (since < 16777216) ⌝ }
     ensures { λ _. ⌜ Remembered p (slotTable p (now (work .entry)) slot) mark k (now (work .entry))

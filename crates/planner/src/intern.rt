@@ -3,7 +3,8 @@
 //
 // An id is the number of the table's first block, from 1 on. Those of tables with the same hash stand on a chain, and a
 // table is held byte for byte against each of them, so one that is kept is found under its id, and under no other.
-// Where there is no room, all is forgotten (`cell` says what is kept from then on). A state is handed on as the slot that its table stands in.
+// Where there is no room all is forgotten, and no table is interned from then on: what is known stands in cells then
+// (`cell`). A state is handed on as the slot that its table stands in.
 use crate::limits::Context;
 use crate::regions::BLOCKS;
 use crate::regions::ENOUGH;

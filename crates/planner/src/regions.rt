@@ -32,7 +32,7 @@ pub const ENOUGH: usize = 20;
 
 // Once all has been forgotten cells stand in the place of all three, with room for a table of so many rows, so many to
 // a bucket.
-pub const ROWS: usize = 8;
+pub const ROWS: usize = 6;
 
 pub const WAYS: usize = 4;
 

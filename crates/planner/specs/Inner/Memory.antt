@@ -183,17 +183,17 @@ pub record Spent (h : Context) (work : List ℕ) : Type 0 where
   pub once : 0 < getD work (h .memory + 49) 0
   pub none : getD work (takenAt h) 0 ≡ 0
 
--- then cells of one size stand in the place of steps, lists and tables, each with a mark and its key, a byte of which nothing is
--- asked, and a table of at most 8 rows behind its count
+-- then cells of one size stand in the place of steps, lists and tables, each with a mark and its key, a byte of which
+-- nothing is asked, and a table of at most 6 rows behind its count
 abbrev pub cellSize : Context → ℕ
-cellSize h = 8 + 8 * (h .fluents + h .characters)
+cellSize h = 8 + 6 * (h .fluents + h .characters)
 
 abbrev pub cellAt : Context → ℕ → ℕ
 cellAt h i = stepsAt h + cellSize h * i
 
 -- a cell is empty, or what it says of its table is true
 pub record CellFact (p : Theory) (foresight : ℕ) (h : Context) (work : List ℕ) (a : ℕ) : Type 0 where
-  pub few : getD work (a + 7) 0 ≤ 8
+  pub few : getD work (a + 7) 0 ≤ 6
   pub fact : Fact p foresight (getD work a 0) (keyAt work a) (table.stateOf (slotTable h work (a + 7)) work)
 
 abbrev pub Cells : (p : Theory) (foresight : ℕ) (h : Context) (work : List ℕ) → Type 0
@@ -473,6 +473,17 @@ pub record FoundIn (h : Context) (work : List ℕ) (slot : ℕ) (k : Key) (r : �
   pub found : 0 < r → (i : ℕ) × (i < 4) × Holds h work slot (bucketAt h work slot k + i * cellSize h) k
       × (getD work (bucketAt h work slot k + i * cellSize h) 0 ≡ r)
   pub none : r ≡ 0 → (i : ℕ) → i < 4 → ¬ Holds h work slot (bucketAt h work slot k + i * cellSize h) k
+
+-- what decides which cell of a bucket is filled
+abbrev pub rankAt : List ℕ → ℕ → ℕ
+rankAt work a = getD work (a + 6) 0
+
+-- where a cell of the bucket is empty, what is known of a table of few rows stands in one of them afterwards
+pub record CellKept (h : Context) (slot mark : ℕ) (k : Key) (was now : List ℕ) : Type 0 where
+  pub stands : getD was slot 0 ≤ 6 → Storable 1 k → 0 < mark → (i : ℕ) → i < 4
+      → rankAt was (bucketAt h was slot k + i * cellSize h) ≡ 0
+      → (j : ℕ) × (j < 4) × Holds h now slot (bucketAt h was slot k + j * cellSize h) k
+      × (getD now (bucketAt h was slot k + j * cellSize h) 0 ≡ mark)
 
 -- what is known of the table in a slot is put into a cell
 pub record CellPut (h : Context) (slot a mark : ℕ) (k : Key) (was now : List ℕ) : Type 0 where

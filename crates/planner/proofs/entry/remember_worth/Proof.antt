@@ -25,7 +25,7 @@ returns-2 c =
     let at-if1 = at-remember-cell .before .before .before .before .before in
     let at-in-cells = at-if1 .before in
     let sp = at-in-cells .in-cells .ensures .0 (at-if1 .if1 .taken) in
-    (at-remember-cell .remember-cell .ensures, λ room. absurd (omega (arith, room, sp .once)))
+    (at-remember-cell .remember-cell .ensures .0, λ room. absurd (omega (arith, room, sp .once)))
 
 pub remember-worth-spec : {M : Type 1} → statement M
 remember-worth-spec =
