@@ -111,7 +111,7 @@ pub fn lowest(work: &[u8], p: Context, first: usize) -> usize
     lower(work, one, other)
 }
 
-// The rank of what took so many steps to find out: how many bits that number has.
+// The rank of what took so many steps to find out: how many bits that number has, or as many as a byte can tell.
 pub fn rank_of(steps: usize) -> u8 {
     let mut left = steps;
     let mut rank: u8 = 0;
@@ -138,7 +138,7 @@ pub fn put_cell(work: &mut [u8], p: Context, slot: usize, at: usize, mark: u8, k
     copy_part(work, slot, at + 7, n);
 }
 
-// Puts it down where its bucket has nothing but what took longer to find out.
+// Puts it down, unless all that its bucket holds took longer to find out: then the rank of the lowest falls.
 pub fn remember_cell(work: &mut [u8], p: Context, slot: usize, mark: u8, k: Key, steps: usize)
     requires { ⌜ Before p (now work) (slotTable p (now work) slot) × Spent p (now work) ⌝ }
     ensures { λ _. ⌜ Remembered p (slotTable p (now (work .entry)) slot) mark k (now (work .entry))

@@ -1,5 +1,6 @@
 -- What is known of states, behind the slots: tables that are kept, each under a number that is its id, and
--- what is known of steps and lists by these ids. Every entry is true, whatever it is replaced by. Assumes nothing.
+-- what is known of steps and lists by these ids; once there was no room, cells that hold both. Every entry and every
+-- cell is true, whatever it is replaced by. Assumes nothing.
 use mathlib.Core.Path.{_≡_}
 use mathlib.Core.Logic.{_≢_, _⊎_}
 use mathlib.Core.List.{List}
