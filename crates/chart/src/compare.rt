@@ -17,7 +17,7 @@ use pack::number::Number;
 use pack::table::Table;
 
 // How many nodes the first and the second of two charts have, of how many fluents and characters.
-#[derive(Drop)]
+#[derive(Clone, Copy)]
 pub struct TwoCharts {
     pub first: usize,
     pub second: usize,

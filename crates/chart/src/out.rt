@@ -7,7 +7,7 @@ ghost use Rattle.chart.specs.Duties.Out.{Shifts, PartPut, RowPutIn, RowsPut};
 use pack::table::Table;
 
 // What is added to each belief, and then taken away.
-#[derive(Drop)]
+#[derive(Clone, Copy)]
 pub struct Shift {
     pub more: u8,
     pub less: u8,

@@ -11,7 +11,7 @@ use pack::number::wide;
 use pack::table::Table;
 
 // Where the classes stand in the work buffer: those of the level that is made, those so far, and the first row of each.
-#[derive(Drop)]
+#[derive(Clone, Copy)]
 pub struct Regions {
     pub level: usize,
     pub classes: usize,

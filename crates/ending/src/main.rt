@@ -1,4 +1,6 @@
 // The program `ending`: a pack on standard input, its shortest ending on standard output, for T 4, K 3 and E 2.
+#![tactic(auto)]
+
 mod text;
 
 ghost use Rattle.std.specs.Prelude.{◌≡◌, ◌≤◌, length};

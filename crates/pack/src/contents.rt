@@ -31,7 +31,7 @@ pub fn read_head<'a>(r: Reader<'a>) -> Head
 }
 
 // How many actions and triggers there are.
-#[derive(Drop)]
+#[derive(Clone, Copy)]
 pub struct Counts {
     pub answer: Checked,
     pub actions: usize,
@@ -63,7 +63,7 @@ pub fn read_theory<'a, 'b>(r: Reader<'a>, h: Head, nodes: Number, places: &'b mu
 }
 
 // What a pack holds: its dimensions and counts, and the place of its first node's first value.
-#[derive(Drop)]
+#[derive(Clone, Copy)]
 pub struct Contents {
     pub answer: Checked,
     pub characters: usize,

@@ -32,7 +32,7 @@ pub fn written_value(s: &[u8], at: usize) -> u8
 }
 
 // What is asked of an effect: that it is meant for whom, or for anybody's belief.
-#[derive(Drop)]
+#[derive(Clone, Copy)]
 pub enum Wanted {
     For(usize),
     Belief,

@@ -7,7 +7,7 @@ use crate::number::{Checked, Number, read_between};
 use crate::refusal::LIMIT;
 
 // The domain sizes: as many of these as there are fluents.
-#[derive(Drop)]
+#[derive(Clone, Copy)]
 pub struct Domains {
     pub answer: Checked,
     pub sizes: [u8; 24],
@@ -44,7 +44,7 @@ pub fn read_domains(s: &[u8], at: usize, fluents: usize) -> Domains
     }
 }
 
-#[derive(Drop)]
+#[derive(Clone, Copy)]
 pub struct Head {
     pub answer: Checked,
     pub characters: usize,

@@ -1,5 +1,7 @@
 // The pack layer: the bytes of a story pack are read or refused, and the places of its parts are found.
 // What each function reads is said by a parser: see pack/specs/Grammar.antt. What is in which module:
+#![tactic(auto)]
+
 pub mod action; // actions, with the places of their parts
 pub mod condition; // conditions, checked
 pub mod contents; // a whole pack

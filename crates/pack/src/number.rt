@@ -6,14 +6,14 @@ ghost use Rattle.pack.specs.Duties.Said.{said, behind, value_of};
 use crate::refusal::{ABSENT, BLANK, ENDS, FORM, ORDER};
 
 // What reading a number finds: its value and the place after it, or a refusal's number and place.
-#[derive(Drop)]
+#[derive(Clone, Copy)]
 pub enum Number {
     Is(usize, usize),
     Refused(u8, usize),
 }
 
 // What checking a part finds: the place after it, or a refusal's number and place.
-#[derive(Drop)]
+#[derive(Clone, Copy)]
 pub enum Checked {
     Passed(usize),
     Refused(u8, usize),

@@ -15,7 +15,7 @@ use crate::trigger::triggers_after;
 use crate::utility::utilities_after;
 
 // The bytes, and the place of what comes next.
-#[derive(Drop)]
+#[derive(Clone, Copy)]
 pub struct Reader<'a> {
     pub src: &'a [u8],
     pub at: usize,

@@ -6,7 +6,7 @@ ghost use Rattle.pack.specs.Duties.Table.{table_of, TableFits, bytes_at};
 use crate::number::wide;
 
 // Where the rows of a table begin, how many there are, and what each has: values, then beliefs.
-#[derive(Drop)]
+#[derive(Clone, Copy)]
 pub struct Table {
     pub rows: usize,
     pub nodes: usize,

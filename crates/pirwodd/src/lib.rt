@@ -1,5 +1,7 @@
 // The calls as C and Rust call them. Each hands back 0 for an answer or a refusal's number, and writes numbers into a
 // lent report: what the answer says, or the refusal's place. What that is for each call stands in specs/Exports.antt.
+#![tactic(auto)]
+
 ghost use Rattle.std.specs.Prelude.{◌≡◌, [], ◌∷◌, set, leb};
 ghost use Rattle.pack.specs.Reading.{pick, told};
 ghost use Rattle.chart.specs.Promises.{chart_said};

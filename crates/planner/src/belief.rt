@@ -13,7 +13,7 @@ use pack::number::wide;
 use transition::regions::{MADE, NUMBERS};
 
 // A row of the table in a slot.
-#[derive(Drop)]
+#[derive(Clone, Copy)]
 pub struct Row {
     pub slot: usize,
     pub row: usize,

@@ -15,7 +15,7 @@ use pack::number::wide;
 
 // What a list is looked for: whose it is, at which nesting its actions are to be explained, and above which utility it
 // is to end.
-#[derive(Drop)]
+#[derive(Clone, Copy)]
 pub struct Goal {
     pub who: usize,
     pub nesting: Nesting,
@@ -26,7 +26,7 @@ pub struct Goal {
 pub const AUTHOR: usize = 7;
 
 // A character and an action, which is to be explained to it at a nesting.
-#[derive(Drop)]
+#[derive(Clone, Copy)]
 pub struct Deed {
     pub who: usize,
     pub nesting: Nesting,
@@ -34,7 +34,7 @@ pub struct Deed {
 }
 
 // What an entry is found by: the numbers of a goal or of a deed, as its bytes keep them.
-#[derive(Drop)]
+#[derive(Clone, Copy)]
 pub struct Key {
     pub who: usize,
     pub nesting: usize,

@@ -23,7 +23,7 @@ use pack::places::{ACTION, CHARACTER_UTILITIES, CONSENTERS};
 use pack::write::{consenter, consenters};
 
 // A character's goal, and how many more actions may lead to it.
-#[derive(Drop)]
+#[derive(Clone, Copy)]
 pub struct Quest {
     pub goal: Goal,
     pub left: usize,

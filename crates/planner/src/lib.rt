@@ -1,5 +1,7 @@
 // The planner layer: explanations and endings. What it promises stands in specs/; here are the answers that its public
 // calls hand back.
+#![tactic(auto)]
+
 pub mod belief;
 pub mod bound;
 pub mod cell;
@@ -16,7 +18,7 @@ pub mod steps;
 pub mod verdict;
 
 // What Explained hands back: yes or no, or a refusal's number and place.
-#[derive(Drop)]
+#[derive(Clone, Copy)]
 pub enum Judged {
     Verdict(bool),
     Refused(u8, usize),
@@ -24,7 +26,7 @@ pub enum Judged {
 
 // What Search hands back: the length of the list and the author's utility ("worth") at the start and at the list's end;
 // 13 is a refusal's number, "no ending".
-#[derive(Drop)]
+#[derive(Clone, Copy)]
 pub enum Found {
     Ending(usize, usize, usize),
     Refused(u8, usize),

@@ -10,19 +10,19 @@ use pack::contents::Contents;
 use transition::regions::NUMBERS;
 
 // The story limit T: how many actions an ending may have, 1 to 8.
-#[derive(Drop)]
+#[derive(Clone, Copy)]
 pub struct Story(pub usize);
 
 // The foresight limit K: how many actions a list that explains an action may have, 1 to 6.
-#[derive(Drop)]
+#[derive(Clone, Copy)]
 pub struct Foresight(pub usize);
 
 // The nesting limit E: how often an explanation may rest on another, 0 to 3.
-#[derive(Drop)]
+#[derive(Clone, Copy)]
 pub struct Nesting(pub usize);
 
 // The limits of a search that its context does not hold: on the author's list, and on explanations within others.
-#[derive(Drop)]
+#[derive(Clone, Copy)]
 pub struct Limits {
     pub story: Story,
     pub nesting: Nesting,
@@ -31,7 +31,7 @@ pub struct Limits {
 // What stays the same through a call: a pack's counts, the foresight limit, how many bytes a slot of the work buffer
 // takes, where the memory begins behind the slots, how many entries it has for what is known of lists (and half as many
 // for steps), where its tables begin, and how many bytes each block takes that they are kept in.
-#[derive(Drop)]
+#[derive(Clone, Copy)]
 pub struct Context {
     pub actions: usize,
     pub triggers: usize,

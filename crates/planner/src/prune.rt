@@ -16,7 +16,7 @@ use pack::write::write_effects;
 
 // For whose utility actions are tried, 0 for the author and c + 1 for character c; how many more may follow; and above
 // which utility they are to lead.
-#[derive(Drop)]
+#[derive(Clone, Copy)]
 pub struct Hope {
     pub whose: usize,
     pub left: usize,

@@ -36,7 +36,7 @@ use pack::refusal::NO_ENDING;
 
 // The list that was found: how many actions it has, and the author's utility at its end; no actions where there is
 // none.
-#[derive(Drop)]
+#[derive(Clone, Copy)]
 pub struct Ended {
     pub count: usize,
     pub after: usize,
@@ -44,7 +44,7 @@ pub struct Ended {
 
 // The actions of the author's list that are ahead: how many are done before them, how many are left, and which goal
 // they are to lead to.
-#[derive(Drop)]
+#[derive(Clone, Copy)]
 pub struct Ahead {
     pub done: usize,
     pub left: usize,
@@ -52,7 +52,7 @@ pub struct Ahead {
 }
 
 // The nodes of a pack: where the first is read, and how many there are.
-#[derive(Drop)]
+#[derive(Clone, Copy)]
 pub struct Nodes {
     pub first: usize,
     pub count: usize,

@@ -1,5 +1,7 @@
 // The pack reader as Rust calls it, for tests and benchmarks only. A caller lends bytes and a report of 64-bit numbers;
 // the result is 0 or a refusal's number. What the report then has is said in specs/Report.antt.
+#![tactic(auto)]
+
 ghost use Rattle.std.specs.Prelude.{◌≤◌, length, ◌≡◌};
 ghost use Rattle.pack.specs.Duties.Contents.{replied_count};
 ghost use Rattle.probe.specs.Report.{counts, chart_count, PackProbed, ChartProbed};

@@ -26,7 +26,7 @@ use pack::table::Table;
 
 // The table in which it happens; which of a row's seven slots stand for the row having taken part and for the row as it
 // was, the others being its characters'; where the observation conditions are; and the row in which it happens.
-#[derive(Drop)]
+#[derive(Clone, Copy)]
 pub struct Change {
     pub table: Table,
     pub acted: usize,
@@ -128,7 +128,7 @@ pub fn put_old(h: Change, work: &mut [u8], m: usize, to: usize)
 }
 
 // Of which row a slot's row is made, and whether that one took part; and whether it is told something besides.
-#[derive(Drop)]
+#[derive(Clone, Copy)]
 pub struct Source {
     pub row: usize,
     pub took: bool,

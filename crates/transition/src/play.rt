@@ -15,7 +15,7 @@ use pack::places::PLACES;
 use pack::table::Table;
 
 // How many nodes a chart has, of how many fluents and characters.
-#[derive(Drop)]
+#[derive(Clone, Copy)]
 pub struct Size {
     pub nodes: usize,
     pub fluents: usize,

@@ -12,7 +12,7 @@ use pack::refusal::{CONDITION, STATES};
 use pack::table::Table;
 
 // An action, and how many triggers there are that may fire after it.
-#[derive(Drop)]
+#[derive(Clone, Copy)]
 pub struct Move {
     pub action: usize,
     pub triggers: usize,
