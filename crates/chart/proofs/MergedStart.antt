@@ -99,5 +99,5 @@ module _ {pack : List ℕ} {first nodes f c : ℕ} {chart-was work : List ℕ} (
           record {
             answer = e ∙ sym size ∙ ap (λ (t : List Node). length (chart_bytes t)) (sym chart_is);
             result = out ∙ ap (λ (t : List Node). chart_bytes t ++ drop (length (chart_bytes t)) chart-was) (sym chart_is);
-            scratch = cleared_all work clear (λ q h. y.high q (omega arith) ∙ x.above q (omega (arith, read_small p.read))) longer p.work-room;
+            scratch = cleared_all work clear (λ q h. y.high q (omega arith) ∙ x.above q (omega (arith, read_small p.read))) longer p.work_room_lem;
           }

@@ -189,10 +189,10 @@ module _ (C : ℕ) {K : Type 0} (Real : K → Type 0) (val : K → List ℕ) (ne
           (pass_row C Real val next rows row (λ k. of (key_at old m size k)) (λ k. of (key_at now m size k)) g.pass
           (λ k h. ap of (r.kept k (omega (arith, g.count_met))))
           (λ k h. real_now k (omega (arith, met_now)))
-          (omega (arith, long, g.count-met))
+          (omega (arith, long, g.count_met))
           (r.holds ∙ holds ∙ ap (λ (k : ℕ). val (of (key_at old m size k))) (sym long))
           (cells-length now (t + i * w + f) C)
-          (subst (λ (k : ℕ). Fresh k row.beliefs) (sym g.count-met) r.fresh)
+          (subst (λ (k : ℕ). Fresh k row.beliefs) (sym g.count_met) r.fresh)
           (λ d ld. ap (λ x. of (key_at now m size x)) (cells_at now (t + i * w + f) C d ld) ∙ ap of (r.names d ld)
           ∙ names d ld ∙ ap (λ (k : ℕ). next (of (key_at old m size k)) d) (sym long)));
       count_met = ap numbered rows_now ∙ pass_count C Real val next rows row ∙ met_now;
