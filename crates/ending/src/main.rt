@@ -53,8 +53,8 @@ fn more(input: &mut Stdin) -> bool {
     read_some(input, &mut rest) > 0
 }
 
-// Reads to the input's end. A proved loop has to end, and nothing says that the input does: it takes as many turns as no
-// run uses up.
+// Reads to the input's end. A proved loop has to end, and nothing says that the input does: it has more turns than any
+// run takes.
 fn drain(input: &mut Stdin) {
     for _ in 0..u64::MAX {
         if !more(input) {
