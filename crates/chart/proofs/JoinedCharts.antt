@@ -90,16 +90,16 @@ module _ {first second work : List ℕ} {n m f c : ℕ} (p : Joinable first n se
   w = f + c
 
   pub join_room : (1 + n * w ≤ 961) × ((1 + n * w) + m * w ≤ 1921)
-  join_room = (read_small p.read, omega (arith, read_small p.read, read_small p.read-other))
+  join_room = (read_small p.read, omega (arith, read_small p.read, read_small p.read_other))
 
   pub join_inside : (1 + n * w ≤ length first) × (1 + m * w ≤ length second)
-  join_inside = (inside p.read, inside p.read-other)
+  join_inside = (inside p.read, inside p.read_other)
 
   pub join_shifts : (i d : ℕ) → i < n → d < c → Shifts first 0 1 (1 + i * w + f + d)
   join_shifts i d h l = let (e, g) = read_belief p.read i d h l in (omega (arith, e), omega (arith, e, read_closed p.read i d (omega (arith, read_long p.read)) l, read_long p.read, p.read.few))
 
   pub join_shifts_other : (i d : ℕ) → i < m → d < c → Shifts second n 1 (1 + i * w + f + d)
-  join_shifts_other i d h l = let (e, g) = read_belief p.read-other i d h l in (omega (arith, e), omega (arith, e, read_closed p.read-other i d (omega (arith, read_long p.read-other)) l, read_long p.read-other, p.read-other.few, p.read.few))
+  join_shifts_other i d h l = let (e, g) = read_belief p.read_other i d h l in (omega (arith, e), omega (arith, e, read_closed p.read_other i d (omega (arith, read_long p.read_other)) l, read_long p.read_other, p.read_other.few, p.read.few))
 
   module _ {mid now : List ℕ} (x : RowsPut first work mid w f c 1 1 0 1 n) (y : RowsPut second mid now w f c 1 (1 + n * w) n 1 m) where
     values : (j q : ℕ) → j < n → q < f → get_or now (1 + j * w + q) 0 ≡ get_or first (1 + j * w + q) 0
@@ -115,7 +115,7 @@ module _ {first second work : List ℕ} {n m f c : ℕ} (p : Joinable first n se
     sound i d h l =
         by_cases (dec_lt i n)
         (λ g. let z : 0 + i ≡ i = omega arith in omega (arith, ap (λ (i : ℕ). get_or now (1 + i * w + f + d) 0) z, placed_below p.read now (n + m) 0 here (omega arith) values beliefs i d g l))
-        (λ g. let z : n + (i - n) ≡ i = omega arith in omega (arith, ap (λ (i : ℕ). get_or now (1 + i * w + f + d) 0) z, placed_below p.read-other now (n + m) n refl (omega arith) y.values y.beliefs (i - n) d (omega arith) l))
+        (λ g. let z : n + (i - n) ≡ i = omega arith in omega (arith, ap (λ (i : ℕ). get_or now (1 + i * w + f + d) 0) z, placed_below p.read_other now (n + m) n refl (omega arith) y.values y.beliefs (i - n) d (omega arith) l))
 
     pub joined : Joined first n second m f c work now
     joined = record {

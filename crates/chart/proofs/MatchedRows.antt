@@ -127,7 +127,7 @@ module _ {work : List ℕ} {n m f c : ℕ} {chain : List ℕ} (p : Matchable wor
 
         pub match_writable : Writable now chain 6144 k
         unfolding ways
-        match_writable = record { ways = ways; room = omega (arith, short, p.chain-room) }
+        match_writable = record { ways = ways; room = omega (arith, short, p.chain_room_lem) }
 
         -- a value of a row is a byte
         value : (i q : ℕ) → i < n + m → q < f → get_or (node T i).values q 0 ≡ get_or now (1 + i * w + q) 0
@@ -169,7 +169,7 @@ module _ {work : List ℕ} {n m f c : ℕ} {chain : List ℕ} (p : Matchable wor
                 true = differs;
                 said = record {
                   answer = ap (λ (l : ℕ). gives (after l fluent)) (sym e);
-                  result = front_back chain chain' size (omega (arith, e, short, p.chain-room)) same-long y.high ∙ ap₂ (λ (f : List ℕ) (l : ℕ). f ++ drop l chain) g (sym e);
+                  result = front_back chain chain' size (omega (arith, e, short, p.chain_room_lem)) same-long y.high ∙ ap₂ (λ (f : List ℕ) (l : ℕ). f ++ drop l chain) g (sym e);
                 };
                 high = high;
               }
@@ -182,8 +182,8 @@ read_full r = let long = read_long r in ((read_closed r, omega (arith, r.some)),
 module _ {first second work : List ℕ} {n m f c : ℕ} (p : Joinable first n second m f c work) {mid : List ℕ} (x : Joined first n second m f c work mid) (long : length mid ≡ length work) where
   pub charts_matchable : (chain : List ℕ) → chain_room ≤ length chain → Matchable mid n m f c chain
   charts_matchable chain room = record {
-    some = (p.read.some, p.read-other.some);
-    few = (p.read.few, p.read-other.few);
+    some = (p.read.some, p.read_other.some);
+    few = (p.read.few, p.read_other.few);
     slim = read_slim p.read;
     sound = x.sound;
     room = omega (arith, long, p.room);

@@ -177,7 +177,7 @@ module _ {T : List Node} {r s : ℕ} {bytes : List ℕ} {n c m q count done d : 
       pairs_new : Pairs T r s now n c m q (count + 1) done (d + 1)
       pairs_new = record {
         met = met_new g.met there hd {X' = left_at now q} {Y' = right_at now q} {from' = from_at now q} {char' = char_at now q}
-            (λ e l. (left_same e l, right_same e l, from_same e l, byte e 4 l (omega arith))) (p.left ∙ ex) (p.right ∙ ey) p.from-entry p.char;
+            (λ e l. (left_same e l, right_same e l, from_same e l, byte e 4 l (omega arith))) (p.left ∙ ex) (p.right ∙ ey) p.from_entry p.char;
         inside = λ e l. by_cases (dec_lt e count) (λ h. let (a, b) = g.inside e h in (omega (arith, left_same e h), omega (arith, right_same e h)))
             (λ h. let w : e ≡ count = omega arith in (omega (arith, ap (left_at now q) w, p.left), omega (arith, ap (right_at now q) w, p.right)));
         marked = λ e l. by_cases (dec_lt e count) (λ h. old_mark e h)

@@ -38,25 +38,25 @@ module _ (C : ℕ) (T : List Node) where
 module _ (C : ℕ) (T : List Node) (closed : Closed C T) where
   -- classes of equal values are exact for the empty chain
   pub exactly_values : (key : ℕ → ℕ) → ((i j : ℕ) → i < length T → j < length T → (key i ≡ key j) ↔ (val C T i ≡ val C T j)) → Exactly C T 1 key
-  exactly_values key h = moore.exact-suc C (val C T) (target T) (length T) closed 0 (λ i. 0) key (moore.exact-zero C (val C T) (target T) (length T)) (λ i j li lj. Iff.trans (h i j li lj) (λ x. (x, λ d l. refl), λ x. x.0))
+  exactly_values key h = moore.exact_suc C (val C T) (target T) (length T) closed 0 (λ i. 0) key (moore.exact_zero C (val C T) (target T) (length T)) (λ i j li lj. Iff.trans (h i j li lj) (λ x. (x, λ d l. refl), λ x. x.0))
 
   pub exactly_as : (k : ℕ) (key key' : ℕ → ℕ) → ((i : ℕ) → i < length T → key' i ≡ key i) → Exactly C T k key → Exactly C T k key'
   exactly_as k key key' h e i j li lj = (λ x. (e i j li lj).0 (sym (h i li) ∙ x ∙ h j lj), λ s. h i li ∙ (e i j li lj).1 s ∙ sym (h j lj))
 
   pub exactly_next : (k : ℕ) (key key' : ℕ → ℕ) → Exactly C T k key → ((i j : ℕ) → i < length T → j < length T → (key' i ≡ key' j) ↔ Next C T key i j) → Exactly C T (suc k) key'
-  exactly_next k key key' e h = moore.exact-suc C (val C T) (target T) (length T) closed k key key' e h
+  exactly_next k key key' e h = moore.exact_suc C (val C T) (target T) (length T) closed k key key' e h
 
   -- rows that agree on values and on the classes of beliefs agree on shorter chains, and so are of one class
   pub next_finer : (k : ℕ) (key : ℕ → ℕ) → Exactly C T k key → (i j : ℕ) → i < length T → j < length T → Next C T key i j → key i ≡ key j
   next_finer k key e i j li lj x =
-      let deeper = (moore.same-suc C (val C T) (target T) k i j).1 (x.0, λ d h. (e (target T i d) (target T j d) (closed i d li h) (closed j d lj h)).0 (x.1 d h)) in
+      let deeper = (moore.same_suc C (val C T) (target T) k i j).1 (x.0, λ d h. (e (target T i d) (target T j d) (closed i d li h) (closed j d lj h)).0 (x.1 d h)) in
       (e i j li lj).1 (λ ch l. deeper ch (omega arith))
 
   -- no more classes one level on: then they are what the rows mean
   pub stops : (k : ℕ) (key key' : ℕ → ℕ) → Exactly C T k key → Exactly C T (suc k) key' → (count : ℕ) → Numbered key (length T) → classes key (length T) ≡ count → ((i : ℕ) → i < length T → key' i < count)
       → (i j : ℕ) → i < length T → j < length T → (key i ≡ key j) ↔ (meaning C T i ≡ meaning C T j)
   stops k key key' e e' count num met below =
-      exact C T closed k key e (moore.stop-count C (val C T) (target T) (length T) closed k key key' e e' count
+      exact C T closed k key e (moore.stop_count C (val C T) (target T) (length T) closed k key key' e e' count
       (λ q h. let (r, lr, z, _) = first key (length T) num q (omega arith) in (r, lr, z)) below)
 
 -- Over the bytes: rows are alike exactly where the table says so
@@ -150,7 +150,7 @@ module _ {was : List ℕ} {n w f c t a : ℕ} (wide : f + c ≤ w) (source : t +
     where
       -- rows of one class have the same values
       shallow : (i j : ℕ) → i < length table_was → j < length table_was → 0 < depth → class_at now k i ≡ class_at now k j → val c table_was i ≡ val c table_was j
-      shallow i j hi hj h x = let s = (e i j hi hj).0 x in ((moore.same-suc c (val c table_was) (target table_was) 0 i j).0 (λ ch l. s ch (omega arith))).0
+      shallow i j hi hj h x = let s = (e i j hi hj).0 x in ((moore.same_suc c (val c table_was) (target table_was) 0 i j).0 (λ ch l. s ch (omega arith))).0
 
   -- and what it gives: one deeper
   pub level_exact : (depth k : ℕ) {b r next : ℕ} {now now' : List ℕ} → Exactly c table_was depth (class_at now k) → Below was now a → Leveled now now' n w f c t b k r next → Exactly c table_was (suc depth) (class_at now' b)

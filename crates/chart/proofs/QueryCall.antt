@@ -58,12 +58,12 @@ module _ {pack places : List ℕ} (chart chain : List ℕ) (fluent : ℕ) (work 
     pub ask_look : Lookable chart n p.fluents p.characters chain fluent work
     ask_look =
         let x = accepted_now.2.0 in
-        let (valid, fluent-there) = and_true (all_below p.characters chain) (ltb fluent p.fluents) (sym here ∙ x.in-range) in record {
+        let (valid, fluent-there) = and_true (all_below p.characters chain) (ltb fluent p.fluents) (sym here ∙ x.in_range_lem) in record {
           table = first.table;
           read = read;
           valid = below_valid p.characters chain valid;
           there = ltb-true fluent p.fluents fluent-there;
-          room = leb-true work_room (length work) x.enough-there;
+          room = leb-true work_room (length work) x.enough_there;
         }
 
     pub ask_value : (now : List ℕ) (v : ℕ) → Looked chart n p.fluents p.characters chain fluent work now v → Asked pack chart chain fluent work now (queried.Value v)

@@ -58,7 +58,7 @@ module _ {pack places : List ℕ} (chart work : List ℕ) {p : Contents} (got : 
         let y = accepted_now.2.0 in
         let x = y.the_pack in
         let f = y.found in
-        let (chart_room_lem, work_room_lem) = and_true (fits chart_room chart) (fits work_room work) y.enough-there in
+        let (chart_room_lem, work_room_lem) = and_true (fits chart_room chart) (fits work_room work) y.enough_there in
         record {
           table = x.nodes;
           end = f.rows.end;

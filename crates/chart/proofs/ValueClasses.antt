@@ -116,7 +116,7 @@ module _ {was : List ℕ} {n w f t a k r i count : ℕ} (v : Valuable was n w f 
     room = omega (arith, v.room, v.fewer, v.row);
     above = omega (arith, v.room, v.fewer, v.row, v.classes, v.nexts);
     nexts = x.nexts;
-    ends = subst (λ (b : ℕ). Last (lead_mark was w f t r) count b last) e (subst (Last (lead_mark was w f t r) count b) (sym z) (x.heads-last b h));
+    ends = subst (λ (b : ℕ). Last (lead_mark was w f t r) count b last) e (subst (Last (lead_mark was w f t r) count b) (sym z) (x.heads_last b h));
   }
 
   -- bytes below a, the leading rows and what stands for each class are as they were
@@ -132,7 +132,7 @@ module _ {was : List ℕ} {n w f t a k r i count : ℕ} (v : Valuable was n w f 
         (subst (λ (b : ℕ). Last (lead_mark now w f t r) q b (get_or was (a + q) 0)) (sym (lead_mark_lem q h)) (last_as (x.nexts q h) (λ p l. lead_mark_lem p (omega arith))))
 
     old_head : (b : ℕ) → b < 131 → Last (lead_mark now w f t r) count b (get_or heads b 0)
-    old_head b h = last_as (x.heads-last b h) lead_mark_lem
+    old_head b h = last_as (x.heads_last b h) lead_mark_lem
 
     pub chained_same : Chained now heads w f t a r count
     chained_same = record { marks = x.marks; heads_last = old_head; nexts = old_next }

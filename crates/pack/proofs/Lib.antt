@@ -1,4 +1,3 @@
-pub mod Again
 pub mod InRange
 pub mod Tests
 pub mod Turns

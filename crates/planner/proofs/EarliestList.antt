@@ -248,7 +248,7 @@ module _ {th : Theory} {T : List Node} {pack places : List ℕ} {h : Context} {w
         let (i, li, g) = place (action_of th a).consenters 0 d m in
         let z = (x.theorized.found.action a l nothing).consenters in
         let low = consenter_below (dims th.characters th.domains) pack (get_or places (9 * a + 2) 0) (action_of th a).consenters z.end z.reads i li in
-        f d m (λ w. omega (arith, low, g, w, x.tabled.over.characters, x.same-characters))
+        f d m (λ w. omega (arith, low, g, w, x.tabled.over.characters, x.same_characters))
 
     pub agreed_to : Agreeing th All (Explained th K e) s a (action_of th a).consenters → Agreed th K e h.characters a s
     agreed_to f d m q = f d m tt

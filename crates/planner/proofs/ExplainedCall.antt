@@ -71,7 +71,7 @@ module _ {th : Theory} {T : List Node} {pack places : List ℕ} {h : Context} {c
     pub judge_stage : Stage th T pack places h mid judge_from (0 + h.stride)
     judge_stage = record {
       theorized = x.theorized;
-      tabled = read_tabled x.read (record { small = x.theorized.small; characters = x.same-characters; fluents = x.same-fluents }) x.room y;
+      tabled = read_tabled x.read (record { small = x.theorized.small; characters = x.same_characters; fluents = x.same_fluents }) x.room y;
       same_fluents = refl;
       same_characters = refl;
       behind = omega (arith, judge_fits);
@@ -140,7 +140,7 @@ module _ {pack places : List ℕ} (chart : List ℕ) (c a K e : ℕ) (work : Lis
     -- the numbers are those of something there
     pub judge_ranges : (c < p.characters) × (a < p.actions) × (0 < K) × (K ≤ 6) × (e ≤ 3)
     judge_ranges =
-        let (who, rest) = and_true (ltb c p.characters) (ltb a p.actions && (foresight_limit K && nesting_limit e)) (sym here ∙ accepted_now.2.0.in-range) in
+        let (who, rest) = and_true (ltb c p.characters) (ltb a p.actions && (foresight_limit K && nesting_limit e)) (sym here ∙ accepted_now.2.0.in_range_lem) in
         let (what, limits) = and_true (ltb a p.actions) (foresight_limit K && nesting_limit e) rest in
         let (foresight, nesting) = and_true (foresight_limit K) (nesting_limit e) limits in
         let (low, high) = and_true (leb 1 K) (leb K 6) foresight in
@@ -168,7 +168,7 @@ module _ {pack places : List ℕ} (chart : List ℕ) (c a K e : ℕ) (work : Lis
           foreseen = (low, high);
           laid = laid_fits p (record { 0 = K }) (1 + (1 + K) * e) (omega (arith, who)) judge_sizes;
           slots = laid_free p (record { 0 = K }) (1 + (1 + K) * e);
-          room = leb-true work_room (length work) x.enough-there;
+          room = leb-true work_room (length work) x.enough_there;
         }
 
     pub judge_able : (h : Context) → h ≡ context → Judgeable pack places h chart n c a h.foresight.0 e work

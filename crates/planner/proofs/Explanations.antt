@@ -65,8 +65,8 @@ module _ {th : Theory} {T : List Node} {pack places : List ℕ} {h : Context} {w
   stage_same low long = record {
     theorized = x.theorized;
     tabled = tabled_same x.tabled (λ q l. low q (omega (arith, x.behind))) long;
-    same_fluents = x.same-fluents;
-    same_characters = x.same-characters;
+    same_fluents = x.same_fluents;
+    same_characters = x.same_characters;
     behind = x.behind;
     room = omega (arith, long, x.room);
     laid = x.laid;
@@ -78,8 +78,8 @@ module _ {th : Theory} {T : List Node} {pack places : List ℕ} {h : Context} {w
   pub stage_before : slot ≤ h.memory → Before h was t
   stage_before f = record {
     laid = x.laid;
-    fluents = x.same-fluents;
-    characters = x.same-characters;
+    fluents = x.same_fluents;
+    characters = x.same_characters;
     wide = x.tabled.fits.wide;
     narrow = omega (arith, small x.tabled, x.tabled.fits.wide);
     few = x.tabled.few;
@@ -124,7 +124,7 @@ module _ {th : Theory} {T : List Node} {pack places : List ℕ} {h : Context} {w
       record {
         theorized = x.theorized;
         tabled = record {
-          over = record { small = x.tabled.over.small; characters = x.tabled.over.characters ∙ sym x.same-characters; fluents = x.tabled.over.fluents ∙ sym x.same-fluents };
+          over = record { small = x.tabled.over.small; characters = x.tabled.over.characters ∙ sym x.same_characters; fluents = x.tabled.over.fluents ∙ sym x.same_fluents };
           fits = record { wide = refl; inside = omega (arith, size, f, long, x.room, x.laid.room); closed = closed };
           same = refl;
           few = few;
@@ -150,15 +150,15 @@ module _ {th : Theory} {T : List Node} {pack places : List ℕ} {h : Context} {w
 
       starts : Starts C (y.plays e).0 next_table
       starts =
-          subst (λ (w : ℕ). Starts C (y.plays e).0 (rows_at now w h.fluents h.characters (slot + 1) (get_or now slot 0))) (sym x.tabled.fits.wide ∙ ap (λ (k : ℕ). k + t.characters) (sym x.same-fluents) ∙ ap (λ (k : ℕ). h.fluents + k) (sym x.same-characters))
-          (subst (λ (k : ℕ). Starts C (y.plays e).0 (rows_at now t.width h.fluents k (slot + 1) (get_or now slot 0))) (sym x.same-characters)
-          (subst (λ (k : ℕ). Starts C (y.plays e).0 (rows_at now t.width k C (slot + 1) (get_or now slot 0))) (sym x.same-fluents) left.starts))
+          subst (λ (w : ℕ). Starts C (y.plays e).0 (rows_at now w h.fluents h.characters (slot + 1) (get_or now slot 0))) (sym x.tabled.fits.wide ∙ ap (λ (k : ℕ). k + t.characters) (sym x.same_fluents) ∙ ap (λ (k : ℕ). h.fluents + k) (sym x.same_characters))
+          (subst (λ (k : ℕ). Starts C (y.plays e).0 (rows_at now t.width h.fluents k (slot + 1) (get_or now slot 0))) (sym x.same_characters)
+          (subst (λ (k : ℕ). Starts C (y.plays e).0 (rows_at now t.width k C (slot + 1) (get_or now slot 0))) (sym x.same_fluents) left.starts))
 
       pub next_written : Written h.characters next_table
-      next_written = subst (λ (c : ℕ). Written c next_table) (sym x.same-characters) starts.0
+      next_written = subst (λ (c : ℕ). Written c next_table) (sym x.same_characters) starts.0
 
       pub next_state : meaning h.characters next_table 0 ≡ (y.plays e).0
-      next_state = ap (λ (c : ℕ). meaning c next_table 0) x.same-characters ∙ starts.1
+      next_state = ap (λ (c : ℕ). meaning c next_table 0) x.same_characters ∙ starts.1
 
       pub next_plays : Plays th (meaning C T root) a (meaning h.characters next_table 0)
       next_plays = subst (Plays th (meaning C T root) a) (sym next_state) (y.plays e).1
@@ -180,7 +180,7 @@ module _ {th : Theory} {T : List Node} {pack places : List ℕ} {h : Context} {w
   rows_by now w f c = rows_at now w f c (slot + 1) (get_or now slot 0)
 
   same_rows : (now : List ℕ) → rows_by now (h.fluents + h.characters) h.fluents h.characters ≡ rows_by now t.width t.fluents t.characters
-  same_rows now = ap (λ (f : ℕ). rows_by now (f + h.characters) f h.characters) x.same-fluents ∙ ap (λ (c : ℕ). rows_by now (t.fluents + c) t.fluents c) x.same-characters ∙ ap (λ (w : ℕ). rows_by now w t.fluents t.characters) x.tabled.fits.wide
+  same_rows now = ap (λ (f : ℕ). rows_by now (f + h.characters) f h.characters) x.same_fluents ∙ ap (λ (c : ℕ). rows_by now (t.fluents + c) t.fluents c) x.same_characters ∙ ap (λ (w : ℕ). rows_by now w t.fluents t.characters) x.tabled.fits.wide
 
   -- it is known
   module _ {K : ℕ} {mid : List ℕ} {id next a at : ℕ} (n : Interning h t was mid id) (long : length mid ≡ length was) (read : StepRead mid at id root a) (place : Place (h.lists / 2) (steps_at h) 4 at) (e : get_or mid (at + 3) 0 ≡ next) (m : Memory th K h slot was) where
@@ -203,7 +203,7 @@ module _ {th : Theory} {T : List Node} {pack places : List ℕ} {h : Context} {w
       plays = λ z.
           let (some, table, few) = y.played z in
           let (k, (s, plays, starts)) = known_fact.left some in
-          (s, subst (λ (u : State). Plays th u a s) known_state plays, record { few = few; starts = subst (λ (c : ℕ). Starts c s (rows_by now t.width t.fluents t.characters)) x.same-characters (subst (Starts h.characters s) (sym table ∙ same_rows now) starts) });
+          (s, subst (λ (u : State). Plays th u a s) known_state plays, record { few = few; starts = subst (λ (c : ℕ). Starts c s (rows_by now t.width t.fluents t.characters)) x.same_characters (subst (Starts h.characters s) (sym table ∙ same_rows now) starts) });
       none = λ z s plays. known_fact.none (y.refused z) s (subst (λ (u : State). Plays th u a s) (sym known_state) plays);
       low = λ q l. y.low q l ∙ n.only.low q (omega (arith, l, bound));
       high = λ q l. y.high q l ∙ n.only.high q l;
@@ -224,7 +224,7 @@ module _ {th : Theory} {T : List Node} {pack places : List ℕ} {h : Context} {w
 
     -- the memory lies behind the slot and before the scratch
     left_mid : (q : ℕ) → h.memory ≤ q → q < scratch_at → get_or left q 0 ≡ get_or mid q 0
-    left_mid q l g = y.only.mid q (omega (arith, l, f, x.laid.wide, x.same-fluents, x.same-characters, x.tabled.fits.wide)) g
+    left_mid q l g = y.only.mid q (omega (arith, l, f, x.laid.wide, x.same_fluents, x.same_characters, x.tabled.fits.wide)) g
 
     left_memory : Memory th K h slot left
     left_memory = memory_apart h y.only.low left_mid before
@@ -235,14 +235,14 @@ module _ {th : Theory} {T : List Node} {pack places : List ℕ} {h : Context} {w
         let (s, plays, l) = y.plays e in
         let most : get_or left slot 0 * t.width ≤ 32 * t.width = mul-le-mul_right t.width l.few in
         let count : get_or now slot 0 ≡ get_or left slot 0 = only.low slot (omega (arith, f)) in
-        let same : rows_by now t.width t.fluents t.characters ≡ rows_by left t.width t.fluents t.characters = ap (λ (k : ℕ). rows_at now t.width t.fluents t.characters (slot + 1) k) count ∙ rows_same left now t.width t.fluents t.characters (slot + 1) (slot + 1) (get_or left slot 0) (omega (arith, x.tabled.fits.wide)) (λ q g. only.low (slot + 1 + q) (omega (arith, g, most, f, x.laid.wide, x.same-fluents, x.same-characters, x.tabled.fits.wide))) in
+        let same : rows_by now t.width t.fluents t.characters ≡ rows_by left t.width t.fluents t.characters = ap (λ (k : ℕ). rows_at now t.width t.fluents t.characters (slot + 1) k) count ∙ rows_same left now t.width t.fluents t.characters (slot + 1) (slot + 1) (get_or left slot 0) (omega (arith, x.tabled.fits.wide)) (λ q g. only.low (slot + 1 + q) (omega (arith, g, most, f, x.laid.wide, x.same_fluents, x.same_characters, x.tabled.fits.wide))) in
         (s, plays, record { few = omega (arith, count, l.few); starts = subst (Starts t.characters s) (sym same) l.starts })
 
     -- it is noted
     pub step_left : {now : List ℕ} → r ≡ 0 → LeftNoted h t root a slot left now → Advanced th K h (meaning t.characters T root) a t was now slot r
     step_left {now} e z =
         let (s, plays, l) = y.plays e in
-        let starts : Starts h.characters s (table_of (slot_table h left slot) left) = subst (λ (c : ℕ). Starts c s (table_of (slot_table h left slot) left)) (sym x.same-characters) (subst (Starts t.characters s) (sym (same_rows left)) l.starts) in
+        let starts : Starts h.characters s (table_of (slot_table h left slot) left) = subst (λ (c : ℕ). Starts c s (table_of (slot_table h left slot) left)) (sym x.same_characters) (subst (Starts t.characters s) (sym (same_rows left)) l.starts) in
         let memory = z.memory th K left_in left_memory (s, subst (λ (u : State). Plays th u a s) (sym (row-state left left_low)) plays, starts) in
         record {
           plays = left_stays z.only;
@@ -262,7 +262,7 @@ module _ {th : Theory} {T : List Node} {pack places : List ℕ} {h : Context} {w
       high = λ q l. z.only.high q l ∙ left_high q l;
       memory = z.memory th K slot (omega (arith, bound)) left_in left_memory (λ k named. record {
         kept = named.kept;
-        none = λ _ s plays. plays_refuses (subst (λ (u : State). Plays th u a s) (named_state h (record { laid = x.laid; fluents = x.same-fluents; characters = x.same-characters; wide = x.tabled.fits.wide; narrow = omega (arith, small x.tabled, x.tabled.fits.wide); few = x.tabled.few; before = omega (arith, x.behind, bound); room = omega (arith, long, x.room) }) named root ∙ row-state left left_low) plays) (y.refuses e);
+        none = λ _ s plays. plays_refuses (subst (λ (u : State). Plays th u a s) (named_state h (record { laid = x.laid; fluents = x.same_fluents; characters = x.same_characters; wide = x.tabled.fits.wide; narrow = omega (arith, small x.tabled, x.tabled.fits.wide); few = x.tabled.few; before = omega (arith, x.behind, bound); room = omega (arith, long, x.room) }) named root ∙ row-state left left_low) plays) (y.refuses e);
         left = λ g. absurd (omega (arith, g));
       });
       further = λ g. absurd (e g);
@@ -378,7 +378,7 @@ module _ (th : Theory) (K e who x : ℕ) (s : State) where
 runs_each : {S A : Type 0} (p : S → Reader A) (next : S → A → S) (P : A → Type 0) (s : List ℕ) → ((z : S) (at : ℕ) (a : A) (n : ℕ) → p z s at ≡ done a n → P a)
     → (k : ℕ) (z : S) (at : ℕ) (xs : List A) (n : ℕ) → runs p next z k s at ≡ done xs n → (y : A) (i : ℕ) → i < length xs → P (get_or xs i y)
 unfolding runs
-runs_each p next P s f zero z at xs n e y i l = let q = Rattle.pack.specs.Laws.Reading.same-value e in absurd (omega (arith, ap length q))
+runs_each p next P s f zero z at xs n e y i l = let q = Rattle.pack.specs.Laws.Reading.same_value e in absurd (omega (arith, ap length q))
 runs_each {A = A} p next P s f (suc k) z at xs n e y i l =
     let b = both (p z s at) (λ a n. mapped (λ rest. a ∷ rest) (runs p next (next z a) k s n)) xs n e in
     let u = unmapped (λ rest. b.value ∷ rest) (runs p next (next z b.value) k s b.place) xs n b.right in
@@ -396,7 +396,7 @@ consenter_below d s at cs n e i l =
     runs_each (rising_at d.characters) (λ least v. v + 1) (λ v. v < d.characters) s
     (λ z at a n e. let c = both (item d.characters s at) (λ v n. pick (ltb v z) (refused 6 at) (done v n)) a n e in
     let (low, g) = failed (ltb c.value z) 6 at (done c.value c.place) a n c.right in
-    omega (arith, between_within 0 d.characters 4 s at c.value c.place c.left, Rattle.pack.specs.Laws.Reading.same-value g))
+    omega (arith, between_within 0 d.characters 4 s at c.value c.place c.left, Rattle.pack.specs.Laws.Reading.same_value g))
     b.value 0 b.place cs n b.right 0 i l
 
 -- fewer slots are free where more are

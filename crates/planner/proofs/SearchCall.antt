@@ -104,7 +104,7 @@ module _ {th : Theory} {T : List Node} {pack places : List ℕ} {h : Context} {f
     seek_slot = record {
       theorized = x.theorized;
       tabled = record {
-        over = record { small = x.theorized.small; characters = x.same-characters; fluents = x.same-fluents };
+        over = record { small = x.theorized.small; characters = x.same_characters; fluents = x.same_fluents };
         fits = record { wide = refl; inside = omega (arith, rows_small, seek_first, x.laid.room, long, x.room); closed = y.starts.0.ordered.closed };
         same = refl;
         few = y.few;
@@ -181,7 +181,7 @@ module _ {th : Theory} {T : List Node} {pack places : List ℕ} {h : Context} {f
         put_down : list' ≡ chosen ++ drop (length chosen) list
         put_down =
             let p = (z.some pos).2 in
-            let short : r.count ≤ length list = omega (arith, z.within, x.storied, x.list-room) in
+            let short : r.count ≤ length list = omega (arith, z.within, x.storied, x.list_room_lem) in
             front_back list list' r.count short listed (λ q l. p.high q (omega (arith, l, best.long)))
             ∙ ap₂ (λ (l : List ℕ) (k : ℕ). l ++ drop k list) (ext_get_or 0 (cells list' 0 r.count) chosen (cells-length list' 0 r.count ∙ sym best.long) (λ i l.
             let z' : i < r.count = omega (arith, l, cells-length list' 0 r.count) in
@@ -245,7 +245,7 @@ module _ {pack places : List ℕ} (T K E : ℕ) (list work : List ℕ) {p : Cont
     -- the limits are within theirs
     pub search_ranges : (T ≤ 8) × (0 < K) × (K ≤ 6) × (E ≤ 3)
     search_ranges =
-        let (told, rest) = and_true (story_limit T) (foresight_limit K && nesting_limit E) (sym within ∙ accepted_now.2.0.in-range) in
+        let (told, rest) = and_true (story_limit T) (foresight_limit K && nesting_limit E) (sym within ∙ accepted_now.2.0.in_range_lem) in
         let (foresight, nesting) = and_true (foresight_limit K) (nesting_limit E) rest in
         let (least, most) = and_true (leb 1 K) (leb K 6) foresight in
         (leb-true T 8 (and_true (leb 1 T) (leb T 8) told).1, leb-true 1 K least, leb-true K 6 most, leb-true E 3 nesting)
@@ -263,7 +263,7 @@ module _ {pack places : List ℕ} (T K E : ℕ) (list work : List ℕ) {p : Cont
         let y = accepted_now.2.0 in
         let x = y.the_pack in
         let g = y.found in
-        let (list_room_lem, work_room_lem) = and_true (fits list_room list) (fits work_room work) y.enough-there in
+        let (list_room_lem, work_room_lem) = and_true (fits list_room list) (fits work_room work) y.enough_there in
         let (told, least, most, nested) = search_ranges in
         let some = ((pack_exactly pack bytes x).0 y.accepted).0.characters.0 in
         record {
@@ -289,7 +289,7 @@ module _ {pack places : List ℕ} (T K E : ℕ) (list work : List ℕ) {p : Cont
         let (ns, g, (y, replies)) = accepted_now in
         let z = subst (λ (h : Context). SearchPutFrom pack places h p.first p.nodes T h.foresight.0 E list list' work work' v) made put theory the_nodes ready in
         let same : meaning p.characters the_nodes 0 ≡ meaning theory.characters the_nodes 0 = ap (λ (k : ℕ). meaning k the_nodes 0) (sym y.found.characters) in
-        let so : search_table theory T K E the_nodes ≡ z.answer = (search_table_iff theory the_nodes (fits_table theory.characters theory.domains the_nodes fit) T K E z.answer).0 (subst (λ (s : State). Searched theory T K E s z.answer) same z.is-so) in
+        let so : search_table theory T K E the_nodes ≡ z.answer = (search_table_iff theory the_nodes (fits_table theory.characters theory.domains the_nodes fit) T K E z.answer).0 (subst (λ (s : State). Searched theory T K E s z.answer) same z.is_so) in
         let gave : the_reply ≡ answer_reply z.answer = replies ∙ ap answer_reply so in
         record {
           answer = z.said ∙ sym (ap (told summary) gave);

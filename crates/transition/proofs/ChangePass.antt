@@ -63,7 +63,7 @@ module _ (s : Scene) (h : Change) (t : Table) where
       (rw (e ∙ one) (going_start C (There C) (values_of s C) (next s C) of was b (slots_of t) u t.width t.fluents (subst (λ (k : ℕ). Numbering was b (slots_of t) k) one g.numbering) (subst (There C) (sym first) tt)), first)
 
   pub making_real : {was now : List ℕ} {b u i count : ℕ} → Making was now b u i count → i < count → There C (of (key_at now b (slots_of t) i))
-  making_real g l = g.pass.real _ (omega (arith, g.count-met))
+  making_real g l = g.pass.real _ (omega (arith, g.count_met))
 
   pub making_row : {was old now : List ℕ} {b u i count more : ℕ} → Laid old t b u → t.fluents + t.characters ≤ t.width → Making was old b u i count → i < count → RowMade s h t old now b u i count more → Making was now b u (i + 1) more
   making_row {was} {old} {now} {b} {u} {i} {count} {more} laid wide g l r =

@@ -60,7 +60,7 @@ module _ (effects : State → List Effect) (takes : State → ℕ → Bool) (C :
     (quiet : (m : ℕ) → m < length t → Silent (effects (meaning C t m)))
     (values : (m : ℕ) → m < length t → (node u m).values ≡ write 0 (effects (meaning C t m)) (node t m).values) (same : (m : ℕ) → m < length t → (node u m).beliefs ≡ (node t m).beliefs) where
   pub stays : Ordered C t → 0 < length t → meaning C u 0 ≡ change effects takes (meaning C t 0)
-  stays o h = changed.change-built effects takes C t tells (λ m d e v. untold_write (effects (meaning C t m)) (suc d) e v) rows (omega arith) refl
+  stays o h = changed.change_built effects takes C t tells (λ m d e v. untold_write (effects (meaning C t m)) (suc d) e v) rows (omega arith) refl
     where
       tells : ℕ → ℕ → Bool
       tells m d = told (effects (meaning C t m)) (suc d)
@@ -89,7 +89,7 @@ module _ {s : Scene} {pack effects was : List ℕ} {t : Table} (x : Caused s pac
   row_inside m h = omega (arith, row_in t.nodes t.width m h, x.tabled.fits.inside)
 
   abbrev pub row_telling : (m : ℕ) → m < t.nodes → Telling pack (get_or effects m 0)
-  row_telling m h = record { dimensions = s.dimensions; small = x.tabled.over.small; effects = s.causes (at s t.characters m); stand = x.effects-stand m h }
+  row_telling m h = record { dimensions = s.dimensions; small = x.tabled.over.small; effects = s.causes (at s t.characters m); stand = x.effects_stand m h }
 
   module _ {mid : List ℕ} {m : ℕ} (h : m < t.nodes) (long : length mid ≡ length was) where
     pub row_tellable : Tellable pack (get_or effects m 0) mid (row m) t.fluents
@@ -99,7 +99,7 @@ module _ {s : Scene} {pack effects was : List ℕ} {t : Table} (x : Caused s pac
     rewritten_more {now} g w = record {
       values = below_more (λ i. cells now (row i) t.fluents ≡ write 0 (s.causes (at s t.characters i)) (cells was (row i) t.fluents)) m
           (λ i l. cells_same mid now (row i) (row i) t.fluents (λ q k. w.only.below (row i + q) (omega (arith, row_in m t.width i l, x.tabled.fits.wide))) ∙ g.values i l)
-          (w.values s.dimensions x.tabled.over.small x.tabled.over.fluents (s.causes (at s t.characters m)) (x.effects-stand m h)
+          (w.values s.dimensions x.tabled.over.small x.tabled.over.fluents (s.causes (at s t.characters m)) (x.effects_stand m h)
           ∙ ap (write 0 (s.causes (at s t.characters m))) (cells_same was mid (row m) (row m) t.fluents (λ q k. g.kept (row m + q) (λ i l. inr (omega (arith, row_in m t.width i l, x.tabled.fits.wide))))));
       kept = λ p b. ⊎_elim (w.only.below p) (w.only.above p) (b m (omega arith)) ∙ g.kept p (λ i l. b i (omega arith));
     }
@@ -166,7 +166,7 @@ module _ {was : List ℕ} {t : Table} {slot : ℕ} (p : SlotTable was t slot) wh
   sized k l = omega (arith, rows_most l p.slim)
 
   within : (k : ℕ) → k ≤ 32 → slot + 1 + k * w ≤ scratch_at
-  within k l = let most : k * w ≤ 32 * w = mul-le-mul_right w l in omega (arith, most, p.slot-room)
+  within k l = let most : k * w ≤ 32 * w = mul-le-mul_right w l in omega (arith, most, p.slot_room_lem)
 
   pub slot_levels : Levels was n w f C t.rows 47508 47736 47964
   slot_levels = record { few = omega (arith, p.few); wide = p.wide; source = omega (arith, within n p.few, p.rows); new = omega (arith, p.few); old = omega (arith, p.few); leads = omega (arith, p.few, p.room) }
@@ -194,11 +194,11 @@ module _ {was : List ℕ} {t : Table} {slot : ℕ} (p : SlotTable was t slot) wh
     slot_apart h = record {
       holds = record {
         some = p.some;
-        count = λ l. z.low slot (omega (arith, p.slot-room)) ∙ p.count;
+        count = λ l. z.low slot (omega (arith, p.slot_room_lem)) ∙ p.count;
         starts = λ l. subst (λ (a : ℕ). Starts C (state_of t was 0) (rows_at mid w f C a n)) p.rows (classed_apart slot_classed (omega (arith, (z.few few_classes).1)), ap (λ (T : List Node). meaning C T 0) same_table);
         many = λ l a. omega (arith, p.few);
       };
-      only = record { low = λ q l. z.low q (omega (arith, p.slot-room)); mid = λ q l k. z.low q (omega arith); high = λ q l. z.high q (omega (arith, p.few)) };
+      only = record { low = λ q l. z.low q (omega (arith, p.slot_room_lem)); mid = λ q l k. z.low q (omega arith); high = λ q l. z.high q (omega (arith, p.few)) };
     }
 
     pub slot_room_lem : length mid ≡ length was → Room mid n w f C t.rows 47736 48192
@@ -213,14 +213,14 @@ module _ {was : List ℕ} {t : Table} {slot : ℕ} (p : SlotTable was t slot) wh
       pub slot_done : {now' : List ℕ} → length now ≡ length was → PartCopied (set now slot r) now' 48192 (slot + 1) (r * w) → Acted (state_of t was 0) t was now' slot r
       slot_done {now'} long c =
           let (pos, most, narrow, inside) = slot_few in
-          let (holds, only) = put_down t was now now' p.wide p.slot-room (omega arith) (omega (arith, long, p.room)) pos most (o.written, o.means ∙ ap (λ (T : List Node). meaning C T 0) same_table)
+          let (holds, only) = put_down t was now now' p.wide p.slot_room_lem (omega arith) (omega (arith, long, p.room)) pos most (o.written, o.means ∙ ap (λ (T : List Node). meaning C T 0) same_table)
           (λ q l. o.low q (omega arith) ∙ z.low q (omega arith)) (λ q l. o.high q (omega (arith, narrow)) ∙ z.high q (omega (arith, p.few))) c in
           record { holds = holds; only = only }
 
 -- A round in a slot
 module _ {s : Scene} {pack places effects was : List ℕ} {h : Change} {t : Table} (x : Stands s pack places effects h was t) where
   pub round_caused : Caused s pack effects was t
-  round_caused = record { tabled = x.tabled; effects_stand = x.effects-stand; long = x.long }
+  round_caused = record { tabled = x.tabled; effects_stand = x.effects_stand; long = x.long }
 
   module _ {slot : ℕ} (p : StageRoom was t slot) (y : Slotted (table_of t was) was t slot) {mid : List ℕ} (g : Rewritten s t was mid t.nodes) where
     slim : t.width ≤ 30
@@ -231,7 +231,7 @@ module _ {s : Scene} {pack places effects was : List ℕ} {h : Change} {t : Tabl
     slot_only = record {
       low = λ q l. g.kept q (λ i k. inl (omega (arith, y.rows)));
       mid = λ q l k. beyond q l;
-      high = λ q l. beyond q (omega (arith, p.slot-room));
+      high = λ q l. beyond q (omega (arith, p.slot_room_lem));
     }
       where
         beyond : (q : ℕ) → slot + slot_room t.width ≤ q → get_or mid q 0 ≡ get_or was q 0
@@ -246,7 +246,7 @@ module _ {s : Scene} {pack places effects was : List ℕ} {h : Change} {t : Tabl
       count = g.kept slot (λ i k. inl (omega (arith, y.rows))) ∙ y.count;
       rows = y.rows;
       ordered = rewritten_ordered round_caused g y.written.ordered;
-      slot_room_lem = p.slot-room;
+      slot_room_lem = p.slot_room_lem;
       room = omega (arith, p.room);
     }
 

@@ -83,12 +83,12 @@ module _ {pack places : List ℕ} (chart : List ℕ) (action : ℕ) (out work : 
     fit = let x = accepted_now.2.0 in chart_fits (record { bytewise = pack-bytes; accepted = x.accepted }) (record { bytewise = chart-bytes; accepted = first.read })
 
     inside : action < p.actions
-    inside = let x = accepted_now.2.0 in ltb-true action p.actions (sym is-there ∙ x.in-range)
+    inside = let x = accepted_now.2.0 in ltb-true action p.actions (sym is-there ∙ x.in_range_lem)
 
     step_ready : Stepping theory first.table pack places p.actions p.triggers action chart n p.fluents p.characters out work
     step_ready =
         let x = accepted_now.2.0 in
-        let (out_room, work_room_lem) = and_true (fits chart_room out) (fits work_room work) x.enough-there in
+        let (out_room, work_room_lem) = and_true (fits chart_room out) (fits work_room work) x.enough_there in
         record {
           theorized = record { small = small_pack pack x.the_pack x.accepted; found = x.found.theory; short = short-pack pack x.the_pack x.accepted; marked = marked };
           there = inside;

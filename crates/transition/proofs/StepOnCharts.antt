@@ -43,13 +43,13 @@ module _ {p : Theory} {T : List Node} {pack places : List ℕ} {actions triggers
     pub step_setting : Setting p T pack places actions triggers mid step_from 961
     step_setting = record {
       theorized = x.theorized;
-      tabled = read_tabled x.read (record { small = x.theorized.small; characters = x.same-characters; fluents = x.same-fluents }) x.work-room y;
-      room = record { source = omega (arith, read_small x.read); slot_room_lem = omega arith; room = omega (arith, y.long, x.work-room) };
+      tabled = read_tabled x.read (record { small = x.theorized.small; characters = x.same_characters; fluents = x.same_fluents }) x.work_room_lem y;
+      room = record { source = omega (arith, read_small x.read); slot_room_lem = omega arith; room = omega (arith, y.long, x.work_room_lem) };
     }
 
     module _ {mid' : List ℕ} {r : ℕ} (z : PlayedIn p (meaning c T 0) action step_from mid mid' 961 r) where
       same_state : meaning c T 0 ≡ meaning p.characters T 0
-      same_state = ap (λ (c : ℕ). meaning c T 0) (sym x.same-characters)
+      same_state = ap (λ (c : ℕ). meaning c T 0) (sym x.same_characters)
 
       is : (o : Outcome) → Steps p (meaning p.characters T 0) action o → step_table p T action ≡ o
       is o s = (step_table_iff p T (fits_table p.characters p.domains T x.fit) action o).0 s
@@ -65,7 +65,7 @@ module _ {p : Theory} {T : List Node} {pack places : List ℕ} {actions triggers
           record {
             answer = sym (ap (λ (o : Outcome). told length (outcome_reply o)) e);
             result = sym (ap (λ (o : Outcome). result_after (outcome_reply o) out) e);
-            scratch = cleared_all work cl behind long x.work-room;
+            scratch = cleared_all work cl behind long x.work_room_lem;
           }
 
       module _ (e : r ≡ 0) where
@@ -83,13 +83,13 @@ module _ {p : Theory} {T : List Node} {pack places : List ℕ} {actions triggers
 
         leaves_is : step_table p T action ≡ leaves U
         leaves_is =
-            let w : Starts p.characters (z.plays e).0 U = subst (λ (c : ℕ). Starts c (z.plays e).0 U) (sym x.same-characters) left.starts in
+            let w : Starts p.characters (z.plays e).0 U = subst (λ (c : ℕ). Starts c (z.plays e).0 U) (sym x.same_characters) left.starts in
             is (leaves U) (Steps.left w.0 (subst (λ (s : State). Plays p s action (meaning p.characters U 0)) same_state (subst (λ (s : State). Plays p (meaning c T 0) action s) (sym w.1) (z.plays e).1)))
 
         pub step_writes : {rows : ℕ} → rows ≡ n → length mid' ≡ length work → ((rows < 256) × (f + c ≤ f + c) × (f + c ≤ f + c) × (962 + rows * (f + c) ≤ length mid') × (1 + rows * (f + c) ≤ length out)) × Sound mid' rows (f + c) f c 962
         step_writes {rows} k long =
             let size : rows * (f + c) ≤ 960 = subst (λ (k : ℕ). k * (f + c) ≤ 960) (sym k) rows_small in (
-              (omega (arith, k, left.few), omega arith, omega arith, omega (arith, size, long, x.work-room), omega (arith, size, x.out-room)),
+              (omega (arith, k, left.few), omega arith, omega arith, omega (arith, size, long, x.work_room_lem), omega (arith, size, x.out_room)),
               subst (λ (k : ℕ). Sound mid' k (f + c) f c 962) (sym k) (ordered_sound left.starts.0.ordered),
             )
 
@@ -98,12 +98,12 @@ module _ {p : Theory} {T : List Node} {pack places : List ℕ} {actions triggers
         unfolding result_after
         step_left {rows} k {out'} {now} {m} put long cl longer =
             let (size, z) = subst (λ (k : ℕ). (m ≡ 1 + k * (f + c)) × RowsPut mid' (set out 0 k) out' (f + c) f c 962 1 1 0 k) k put in
-            let fit : ChartFits c p.domains U = subst (λ (c' : ℕ). ChartFits c' p.domains U) x.same-characters (x.kept U leaves_is) in
-            let (bytes, long-bytes) = chart_out out p.domains refl x.same-fluents x.theorized.small.sizes z (omega (arith, x.out-room)) fit (omega (arith, rows_small, x.out-room)) long in
+            let fit : ChartFits c p.domains U = subst (λ (c' : ℕ). ChartFits c' p.domains U) x.same_characters (x.kept U leaves_is) in
+            let (bytes, long-bytes) = chart_out out p.domains refl x.same_fluents x.theorized.small.sizes z (omega (arith, x.out_room)) fit (omega (arith, rows_small, x.out_room)) long in
             record {
               answer = ap gives (size ∙ sym long-bytes) ∙ sym (ap (λ (o : Outcome). told length (outcome_reply o)) leaves_is);
               result = bytes ∙ sym (ap (λ (o : Outcome). result_after (outcome_reply o) out) leaves_is);
-              scratch = cleared_all work cl behind longer x.work-room;
+              scratch = cleared_all work cl behind longer x.work_room_lem;
             }
 
 -- 10, 11 and 12 are no refusals of the checks: the work buffer is cleared after them

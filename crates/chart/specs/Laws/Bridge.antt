@@ -3,7 +3,7 @@
 use Rattle.std.specs.Prelude.{ℕ, ◌<◌, ◌≡◌, ◌↔◌, length}
 use Rattle.std.proofs.Math.Path.{refl, fun_ext}
 use Rattle.std.proofs.Common.{sym, ◌∙◌, ap, arith}
-use Rattle.std.proofs.Math.Logic.{Iff·trans}
+use Rattle.std.proofs.Math.Logic.Iff
 use mathlib.Core.List.{List, [], ◌∷◌}
 use Rattle.chart.specs.Laws.Moore as moore
 use Rattle.pack.specs.State.{State, node, meaning, target, Closed}
@@ -31,7 +31,7 @@ module _ (C : ℕ) (t : List Node) where
       → moore.Stable C val (target t) (length t) closed k
       → (i j : ℕ) → i < length t → j < length t → (cls i ≡ cls j) ↔ (meaning C t i ≡ meaning C t j)
   exact closed k cls e st i j li lj =
-      Iff·trans (moore.exact-all C val (target t) (length t) closed k cls e st i j li lj)
+      Iff.trans (moore.exact_all C val (target t) (length t) closed k cls e st i j li lj)
       (λ x. meaning_at i ∙ x ∙ sym (meaning_at j), λ x. sym (meaning_at i) ∙ x ∙ meaning_at j)
 
   -- class numbers of any level: rows that mean the same are of one class

@@ -31,7 +31,7 @@ same? C t closed i j li lj =
     yes (meaning_at C t i ∙ moore.bound C (val C t) (target t) (length t) closed i j li lj s ∙ sym (meaning_at C t j)))
     (λ (a : moore.Apart C (val C t) (target t) (length t - 1) i j).
     no (λ e. a.2 (ap (λ (s : State). s a.0) (sym (meaning_at C t i) ∙ e ∙ meaning_at C t j))))
-    (moore.same-or-apart C (val C t) (target t) (length t - 1) i j)
+    (moore.same_or_apart C (val C t) (target t) (length t - 1) i j)
 
 more : {A : Type 0} → Dec A → ℕ → ℕ
 more (yes f) k = suc k

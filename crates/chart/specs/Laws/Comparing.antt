@@ -3,7 +3,8 @@
 use Rattle.std.specs.Prelude.{ℕ, ◌+◌, ◌-◌, ◌<◌, ◌≤◌, ◌≡◌, refl, cond, ◌≢◌, ◌↔◌, get_or, ltb}
 use Rattle.std.proofs.Common.{sym, ◌∙◌, inl, inr, ⊎_elim, ext_get_or}
 use Rattle.std.proofs.Math.Path.{ap, subst, fun_ext}
-use Rattle.std.proofs.Math.Logic.{by_cases, Dec·and, Dec·not}
+use Rattle.std.proofs.Math.Logic.{by_cases}
+use Rattle.std.proofs.Math.Logic.Dec
 use mathlib.Core.List.{List, [], ◌∷◌, List-discrete}
 use Rattle.std.proofs.Math.ListN.{length}
 use borrow.Author.Tests.{lt-ltb, le-ltb}
@@ -41,7 +42,7 @@ differ_valid C t u (c ∷ chain) n m h =
 valid? : (C : ℕ) (chain : List ℕ) → Dec (Valid C chain)
 unfolding Valid
 valid? C [] = yes tt
-valid? C (c ∷ chain) = Dec·and (dec_lt c C) (valid? C chain)
+valid? C (c ∷ chain) = Dec.and (dec_lt c C) (valid? C chain)
 
 -- two tables as one: the second's rows behind the first's
 module _ (C : ℕ) (t u : List Node) (ct : Closed C t) (cu : Closed C u) where
@@ -122,7 +123,7 @@ module _ (C F : ℕ) (t u : List Node) (ct : Closed C t) (cu : Closed C u) (st :
 
   good? : (chain : List ℕ) → Dec (Good chain)
   good? chain =
-      Dec·and (valid? C chain) (Dec·not (List-discrete ℕ_discrete (meaning C t 0 chain) (meaning C u 0 chain)))
+      Dec.and (valid? C chain) (Dec.not (List-discrete ℕ_discrete (meaning C t 0 chain) (meaning C u 0 chain)))
 
   pub compare : (r : Verdict) × (Long r ≤ (length t + length u) - 2) × Compared C (meaning C t 0) (meaning C u 0) r
   compare = ⊎_elim none found (seek C Good good? (λ l g. g.0) ((length t + length u) - 2))

@@ -3,7 +3,8 @@
 use Rattle.std.specs.Prelude.{◌≡◌, refl, ◌⊎◌, ◌≢◌}
 use Rattle.std.proofs.Common.{sym, ap, inl, inr, eq-or-lt_of_le, le_of_suc-le-suc, le_trans, arith}
 use Rattle.std.proofs.Math.Path.{subst}
-use Rattle.std.proofs.Math.Logic.{⊎_elim, by_cases, Dec·and, Dec·not}
+use Rattle.std.proofs.Math.Logic.{⊎_elim, by_cases}
+use Rattle.std.proofs.Math.Logic.Dec
 use Prim.Native.Nat.{ℕ, zero, suc, ◌≤◌, ◌<◌, suc-le-suc, zero-le}
 use Rattle.std.proofs.Math.Decide.{ℕ_discrete, dec_le, dec_lt}
 
@@ -67,7 +68,7 @@ count_one p N n l x =
 
 -- One fewer, where one that counts is left out
 without : {Q : ℕ → Type 0} → ((n : ℕ) → Dec (Q n)) → (x n : ℕ) → Dec (Q n × (n ≢ x))
-without q x n = Dec·and (q n) (Dec·not (ℕ_discrete n x))
+without q x n = Dec.and (q n) (Dec.not (ℕ_discrete n x))
 
 count_without : {Q : ℕ → Type 0} (q : (n : ℕ) → Dec (Q n)) (N x : ℕ) → x < N → Q x
     → suc (count (without q x) N) ≤ count q N
@@ -81,17 +82,17 @@ pub count_inj : {P Q : ℕ → Type 0} (p : (n : ℕ) → Dec (P n)) (q : (n : �
     → ((n m i : ℕ) → n < m → m < N → P m → F n i → F m i → ⊥)
     → count p N ≤ count q M
 unfolding count tick
-count_inj p q F zero M im inj = zero-le
+count_inj {P} {Q} p q F zero M im inj = zero-le
 count_inj {P} {Q} p q F (suc N) M im inj =
     elim (p N) as (λ d. tick d (count p N) ≤ count q M) [
       | yes x ↦
           let t = im N (omega arith) x in
-          le_trans (suc-le-suc (count_inj p (without q t.0) F N M
+          le_trans (suc-le-suc (count_inj {Q = λ n. Q n × (n ≢ t.0)} p (without q t.0) F N M
           (λ n l y. let u = im n (omega arith) y in
           (u.0, u.1, (u.2, λ e. inj n N t.0 l (omega arith) x (subst (F n) e u.3) t.3), u.3))
           (λ n m i l k. inj n m i l (omega arith))))
           (count_without q M t.0 t.1 t.2)
-      | no x ↦ count_inj p q F N M (λ n l. im n (omega arith)) (λ n m i l k. inj n m i l (omega arith))
+      | no x ↦ count_inj {Q = Q} p q F N M (λ n l. im n (omega arith)) (λ n m i l k. inj n m i l (omega arith))
     ]
 
 -- below b all have P, or there is a least one that has Q

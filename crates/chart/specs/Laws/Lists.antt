@@ -29,8 +29,11 @@ stands (x ∷ l) d zero h = mathlib.Core.List.Memᴰ.head refl
 stands (x ∷ l) d (suc i) h = mathlib.Core.List.Memᴰ.tail (stands l d i (omega arith))
 
 pub place : {A : Type 0} (l : List A) (d x : A) → Memᴰ x l → (i : ℕ) × (i < length l) × (get_or l i d ≡ x)
-place l d x (mathlib.Core.List.Memᴰ.head e) = (0, omega arith, sym e)
-place l d x (mathlib.Core.List.Memᴰ.tail m) = let (i, h, e) = place _ d x m in (suc i, omega arith, e)
+place [] d x m = elim m [ ]
+place (y ∷ l) d x m =
+    ⊎_elim (λ (e : x ≡ y). (0, omega arith, sym e))
+    (λ (m : Memᴰ x l). let (i, h, e) = place l d x m in (suc i, omega arith, e))
+    (mathlib.Core.List.Memᴰ.cases_cons m)
 
 -- the numbers below n
 pub below : ℕ → List ℕ
@@ -52,8 +55,11 @@ below_out (suc n) i m =
     (mathlib.Core.List.Memᴰ.cases_cons m)
 
 pub map_in : {A B : Type 0} (f : A → B) (l : List A) (x : A) → Memᴰ x l → Memᴰ (f x) (map f l)
-map_in f l x (mathlib.Core.List.Memᴰ.head e) = mathlib.Core.List.Memᴰ.head (ap f e)
-map_in f l x (mathlib.Core.List.Memᴰ.tail m) = mathlib.Core.List.Memᴰ.tail (map_in f _ x m)
+map_in f [] x m = elim m [ ]
+map_in f (y ∷ l) x m =
+    ⊎_elim (λ (e : x ≡ y). mathlib.Core.List.Memᴰ.head (ap f e))
+    (λ (m : Memᴰ x l). mathlib.Core.List.Memᴰ.tail (map_in f l x m))
+    (mathlib.Core.List.Memᴰ.cases_cons m)
 
 pub map_out : {A B : Type 0} (f : A → B) (l : List A) (y : B) → Memᴰ y (map f l)
     → (x : A) × Memᴰ x l × (y ≡ f x)

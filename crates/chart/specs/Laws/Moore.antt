@@ -3,7 +3,8 @@
 use Rattle.std.specs.Prelude.{◌≡◌, refl, ◌⊎◌, ◌↔◌, ◌≢◌, cond, length, ltb}
 use Rattle.std.proofs.Math.Path.{sym, fun_ext}
 use Rattle.std.proofs.Common.{◌∙◌, ap, ⊎_elim, le_of_suc-le-suc, le_trans, arith}
-use Rattle.std.proofs.Math.Logic.{inl, inr, by_cases, Iff·trans, Iff·symm}
+use Rattle.std.proofs.Math.Logic.{inl, inr, by_cases}
+use Rattle.std.proofs.Math.Logic.Iff
 use mathlib.Core.List.{List, [], ◌∷◌, List-discrete}
 use Prim.Native.Nat.{ℕ, zero, suc, ◌-◌, ◌≤◌, ◌<◌, suc-le-suc}
 use Rattle.std.proofs.Math.Nat.{zero-lt-suc}
@@ -126,10 +127,10 @@ module _ (C : ℕ) (val : ℕ → List ℕ) (bel : ℕ → ℕ → ℕ) where
         let e : (c : ℕ) → c < C
         → (key (bel n c) ≡ key (bel m c))
         ↔ Same k (bel n c) (bel m c) = λ c h. ex (bel n c) (bel m c) (closed n c ln h) (closed m c lm h) in
-        Iff·trans (r n m ln lm) (Iff·trans (
+        Iff.trans (r n m ln lm) (Iff.trans (
           (λ p. (p.0, λ c h. (e c h).0 (p.1 c h))),
           (λ p. (p.0, λ c h. (e c h).1 (p.1 c h))),
-        ) (Iff·symm (same_suc k n m)))
+        ) (Iff.symm (same_suc k n m)))
 
     -- the rounds may stop at k: then the class numbers are the meanings
     pub exact_all : (k : ℕ) (key : ℕ → ℕ) → Exact N k key → Stable k → (n m : ℕ) → n < N → m < N

@@ -68,7 +68,7 @@ module _ {was old mid : List ℕ} {m size count more met to k r x : ℕ} {slots 
   below_met d l =
       omega (
         arith,
-        n.more-met,
+        n.more_met,
         cells_at old to k d l,
         meets_in count (cells old to k) d (omega (arith, cells-length old to k)),
       )
@@ -84,8 +84,8 @@ module _ {was old mid : List ℕ} {m size count more met to k r x : ℕ} {slots 
     numbering = rw q
         (numbering_same mid now m size (max more (suc r)) g.numbering (λ p a b. other p (λ q. omega arith)));
     fresh = subst (Fresh count) (sym cells_now)
-        (fresh_more count (cells old to k) r n.fresh (omega (arith, n.more-met, g.next)));
-    more_met = ap (meets count) cells_now ∙ meets_more count (cells old to k) r ∙ ap (λ x. max x (suc r)) n.more-met
+        (fresh_more count (cells old to k) r n.fresh (omega (arith, n.more_met, g.next)));
+    more_met = ap (meets count) cells_now ∙ meets_more count (cells old to k) r ∙ ap (λ x. max x (suc r)) n.more_met
         ∙ sym q;
     names = below_more (λ d. key_at now m size (get_or now (to + d) 0) ≡ slots d) k
         (λ d l. ap (key_at now m size) (before d l) ∙ key (get_or old (to + d) 0) (n.below d l)
@@ -93,7 +93,7 @@ module _ {was old mid : List ℕ} {m size count more met to k r x : ℕ} {slots 
         (ap (key_at now m size) here ∙ key r g.few ∙ g.key ∙ e);
     below = below_more (λ d. get_or now (to + d) 0 < size) k (λ d l. omega (arith, before d l, n.below d l))
         (omega (arith, here, g.few));
-    kept = λ i l. let up : count ≤ more = omega (arith, meets_up count (cells old to k), n.more-met) in
+    kept = λ i l. let up : count ≤ more = omega (arith, meets_up count (cells old to k), n.more_met) in
         key i (omega (arith, few_more)) ∙ g.kept i (omega arith) ∙ n.kept i l;
     low = λ p l. other p (λ q. omega arith) ∙ g.low p l ∙ n.low p l;
     mid = λ p a b. other p (λ q. omega arith) ∙ g.high p a ∙ n.mid p a b;
@@ -110,7 +110,7 @@ module _ {was mid now : List ℕ} {m size count more to f c : ℕ} {slots : ℕ 
     holds = cells_same mid now to to f (λ q l. n.mid (to + q) (omega arith) (omega arith)) ∙ holds;
     numbering = n.numbering;
     fresh = n.fresh;
-    more_met = n.more-met;
+    more_met = n.more_met;
     names = λ d l. n.names d l ∙ e d l;
     kept = λ i l. n.kept i l ∙ low (m + size + i) (omega arith);
     low = λ q l. n.low q l ∙ low q (omega arith);
@@ -167,32 +167,32 @@ module _ (C : ℕ) {K : Type 0} (Real : K → Type 0) (val : K → List ℕ) (ne
         (rows_same old now w f C t t i wide (λ p h. r.mid (t + p) (omega arith) (omega arith)))
 
     met_now : meets (numbered rows) row.beliefs ≡ more
-    met_now = ap (λ k. meets k row.beliefs) g.count-met ∙ r.more-met
+    met_now = ap (λ k. meets k row.beliefs) g.count_met ∙ r.more_met
 
     up : count ≤ more
-    up = omega (arith, r.more-met, meets_up count row.beliefs)
+    up = omega (arith, r.more_met, meets_up count row.beliefs)
 
     real_now : (k : ℕ) → k < more → Real (of (key_at now m size k))
     real_now k h =
         ⊎_elim (λ (h : k < count).
-        subst (λ (x : ℕ). Real (of x)) (sym (r.kept k h)) (g.pass.real k (omega (arith, g.count-met))))
+        subst (λ (x : ℕ). Real (of x)) (sym (r.kept k h)) (g.pass.real k (omega (arith, g.count_met))))
         (λ (x : (d : ℕ) × (d < length row.beliefs) × (get_or row.beliefs d 0 ≡ k)).
         let d = x.0 in
         let ld : d < C = omega (arith, x.1, cells-length now (t + i * w + f) C) in
         let e : get_or now (t + i * w + f + d) 0 ≡ k = sym (cells_at now (t + i * w + f) C d ld) ∙ x.2 in
         subst Real (sym (ap of (ap (key_at now m size) (sym e) ∙ r.names d ld) ∙ names d ld)) (real d ld))
-        (named k count row.beliefs r.fresh (omega (arith, r.more-met)))
+        (named k count row.beliefs r.fresh (omega (arith, r.more_met)))
 
     pub going_row : Going was now m size t w f (i + 1) more
     going_row = record {
       pass = subst (λ (t : List Node). Pass C Real val next t (λ k. of (key_at now m size k))) (sym rows_now)
           (pass_row C Real val next rows row (λ k. of (key_at old m size k)) (λ k. of (key_at now m size k)) g.pass
-          (λ k h. ap of (r.kept k (omega (arith, g.count-met))))
+          (λ k h. ap of (r.kept k (omega (arith, g.count_met))))
           (λ k h. real_now k (omega (arith, met_now)))
-          (omega (arith, long, g.count-met))
+          (omega (arith, long, g.count_met))
           (r.holds ∙ holds ∙ ap (λ (k : ℕ). val (of (key_at old m size k))) (sym long))
           (cells-length now (t + i * w + f) C)
-          (subst (λ (k : ℕ). Fresh k row.beliefs) (sym g.count-met) r.fresh)
+          (subst (λ (k : ℕ). Fresh k row.beliefs) (sym g.count_met) r.fresh)
           (λ d ld. ap (λ x. of (key_at now m size x)) (cells_at now (t + i * w + f) C d ld) ∙ ap of (r.names d ld)
           ∙ names d ld ∙ ap (λ (k : ℕ). next (of (key_at old m size k)) d) (sym long)));
       count_met = ap numbered rows_now ∙ pass_count C Real val next rows row ∙ met_now;
@@ -211,6 +211,6 @@ module _ (C : ℕ) {K : Type 0} (Real : K → Type 0) (val : K → List ℕ) (ne
   going_end sem fam was now m size t w f i count g h =
       let e : i ≡ count = omega (arith, g.reach) in
       let (rows, ordered) = pass_end C Real val next (rows_at now w f C t i) (λ k. of (key_at now m size k)) g.pass
-      (g.count-met ∙ sym e ∙ sym (rows_length now w f C t i)) in
+      (g.count_met ∙ sym e ∙ sym (rows_length now w f C t i)) in
       rw (sym e)
       (ordered, built fam rows 0 (omega (arith, rows_length now w f C t i, g.some)) ∙ ap (λ x. sem (of x)) g.root)

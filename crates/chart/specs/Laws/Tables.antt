@@ -1,7 +1,8 @@
 -- Whether a list of nodes is a table, and what a table decides. Assumes nothing.
 use Rattle.std.specs.Prelude.{ℕ, ◌<◌, ◌-◌, ◌≡◌, refl, List, length}
 use Rattle.std.proofs.Common.{sym, subst}
-use Rattle.std.proofs.Math.Logic.{dite, Dec·and}
+use Rattle.std.proofs.Math.Logic.{dite}
+use Rattle.std.proofs.Math.Logic.Dec
 use Rattle.std.proofs.Math.Decide.{dec_lt, ℕ_discrete}
 use Rattle.pack.specs.State.{State, meaning, target, Closed, node, walk, Sized}
 use Rattle.pack.specs.Syntax.{Node}
@@ -55,7 +56,7 @@ abbrev pub IsFull : ℕ → ℕ → List Node → Type 0
 IsFull C F t = IsTable C t × Sized F t
 
 pub full? : (C F : ℕ) (t : List Node) → Dec (IsFull C F t)
-full? C F t = Dec·and (table? C t) (every (λ n. ℕ_discrete (length (node t n).values) F) (length t))
+full? C F t = Dec.and (table? C t) (every (λ n. ℕ_discrete (length (node t n).values) F) (length t))
 
 unfoldable pub full : (C F : ℕ) (t : List Node) → IsFull C F t → Full C F (meaning C t 0)
 full C F t r = record { table = tabled C t r.0; wide = wide_table C F t r.0 r.1 }

@@ -10,7 +10,7 @@ use Rattle.std.proofs.Math.ListN.{get_or}
 use Rattle.std.proofs.lemmas.Bool.{eqb-false}
 use Rattle.pack.specs.Syntax.{Node}
 use Rattle.pack.specs.Reading.{done, refused, Reader, pick, mapped, runs, many}
-use Rattle.pack.specs.Number.{number_at, item, belief_at}
+use Rattle.pack.specs.Number.{number_at, belief_at}
 use Rattle.pack.specs.Grammar.{Dimensions, value_at, node_at}
 use Rattle.pack.specs.Duties.Table.{upto, cells, row_at, rows_at, Below}
 use Rattle.pack.specs.Duties.Write.{RowOnly}

@@ -12,7 +12,7 @@ use Rattle.pack.specs.Grammar.{Dimensions, kind_of, test_at, condition_at, rule_
 use Rattle.pack.specs.Condition.{compares, passes, all_pass, holds, utility}
 use Rattle.pack.specs.State.{State, node, walk, Valid}
 use Rattle.pack.specs.Duties.Table.{table_of, state_of, bytes_at}
-use Rattle.pack.specs.Duties.Judge.{Small, Over}
+use Rattle.pack.specs.Duties.Judge.{Over}
 use Rattle.pack.specs.declared.table.Table.{Table}
 use Rattle.pack.specs.Laws.Reading.{same_value, same_place, both, unmapped}
 use Rattle.pack.specs.Laws.Table.{finds_walk}

@@ -1,5 +1,5 @@
 -- Laws of readings: how they compose, and how one that gave a value is taken apart. Assumes nothing.
-use Rattle.std.specs.Prelude.{ℕ, ◌-◌, ◌≡◌, refl, Bool, true, false, eqb}
+use Rattle.std.specs.Prelude.{ℕ, ◌≡◌, refl, Bool, true, false, eqb}
 use Rattle.std.proofs.Common.{ap, arith, eqb-true}
 use Rattle.pack.specs.Reading.{Reading, done, refused, pick, bind, mapped, Reply, gives, refuses, ended}
 

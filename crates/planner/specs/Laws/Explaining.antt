@@ -3,7 +3,8 @@ use Prim.Native.Nat.{ℕ, zero, suc, ◌<◌}
 use Rattle.std.specs.Prelude.{◌≡◌}
 use Rattle.std.proofs.Math.Path.{refl, subst}
 use Rattle.std.proofs.Common.{sym}
-use Rattle.std.proofs.Math.Logic.{⊎_elim, Dec·not}
+use Rattle.std.proofs.Math.Logic.{⊎_elim}
+use Rattle.std.proofs.Math.Logic.Dec
 use mathlib.Core.List.Memᴰ
 use mathlib.Core.List.{List, [], ◌∷◌, Memᴰ}
 use Rattle.std.proofs.Math.ListN.{length}
@@ -107,7 +108,7 @@ module _ (p : Theory) (K : ℕ) where
       Other d = d ≡ c → ⊥
 
       other? : (d : ℕ) → Dec (Other d)
-      other? d = Dec·not (ℕ_discrete d c)
+      other? d = Dec.not (ℕ_discrete d c)
 
       Better : State → Type 0
       Better s' = utility_to p c (belief s c) < utility_to p c s'

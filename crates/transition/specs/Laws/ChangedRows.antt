@@ -66,7 +66,7 @@ pub stands_same : {s : Scene} {pack places effects was now : List ℕ} {h : Chan
 stands_same x low long =
     record {
       tabled = tabled_same x.tabled low long;
-      effects_stand = x.effects-stand;
+      effects_stand = x.effects_stand;
       long = x.long;
       observes = x.observes;
       kinds = x.kinds;
@@ -124,7 +124,7 @@ module _ {s : Scene} {pack places effects work : List ℕ} {h : Change} {t : Tab
         dimensions = s.dimensions;
         small = x.tabled.over.small;
         effects = s.causes (at s C m);
-        stand = x.effects-stand m l;
+        stand = x.effects_stand m l;
       }
 
   pub tellable : (m : ℕ) → m < t.nodes → {buffer : List ℕ} {row : ℕ} → row + t.fluents ≤ length buffer
@@ -150,7 +150,7 @@ module _ {s : Scene} {pack places effects work : List ℕ} {h : Change} {t : Tab
       → EffectsAt d' pack (get_or effects m 0) es → r ≡ told es (d + 1)) → tells s C m d ≡ r
   tells_is m d l f =
       ap (told (s.causes (at s C m))) (sym (add-one d))
-      ∙ sym (f s.dimensions x.tabled.over.small (s.causes (at s C m)) (x.effects-stand m l))
+      ∙ sym (f s.dimensions x.tabled.over.small (s.causes (at s C m)) (x.effects_stand m l))
 
   took_is : {r : Bool} (m c : ℕ) → Took pack places h.observed work t m c r → s.takes (at s C m) c ≡ r
   took_is m c f = sym (f s.dimensions T s.takes x.tabled x.observes)
@@ -237,7 +237,7 @@ module _ {s : Scene} {pack places effects was : List ℕ} {h : Change} {t : Tabl
   acted_put {mid} {then} {now} c e p = record {
     values = cells_same then now to to t.fluents (λ q g. p.low (to + q) (omega arith))
         ∙ e.values s.dimensions x.tabled.over.small x.tabled.over.fluents
-        (s.causes (at s t.characters m)) (x.effects-stand m l)
+        (s.causes (at s t.characters m)) (x.effects_stand m l)
         ∙ ap (write 0 (s.causes (at s t.characters m))) (copied_values c);
     slots = p.slots;
     low = λ q g. p.low q (omega arith) ∙ e.only.below q g ∙ c.low q g;
@@ -276,7 +276,7 @@ module _ {s : Scene} {pack places effects was : List ℕ} {h : Change} {t : Tabl
       → ToldWritten pack (get_or effects m 0) (c + 1) mid now to t.fluents → Puts s h t (edge m c) was now to
   edge_put {mid} {now} p e = record {
     values = e.values s.dimensions x.tabled.over.small x.tabled.over.fluents
-        (s.causes (at s t.characters m)) (x.effects-stand m l)
+        (s.causes (at s t.characters m)) (x.effects_stand m l)
         ∙ ap₂ (λ (k : ℕ) (v : List ℕ). write k (s.causes (at s t.characters m)) v) (add-one c)
         (p.values ∙ by (s.takes (at s t.characters m) c));
     slots = λ d g.

@@ -12,7 +12,7 @@ use Rattle.chart.specs.Laws.Charted.{Charting, chart, few?}
 use Rattle.chart.specs.Laws.Count.{every}
 use Rattle.chart.specs.Laws.Tabled.{Tabled}
 use Rattle.chart.specs.Laws.Unique.{ordered_reached, some}
-use Rattle.transition.specs.Happening.{Quiet, Settles, Plays, firing, action_of, Stops, Refuses}
+use Rattle.transition.specs.Happening.{Quiet, Settles, Plays, round, firing, action_of, Stops, Refuses}
 use Rattle.transition.specs.Laws.Quiet.{quiet}
 use Rattle.transition.specs.Laws.Settled.{plays_refuses}
 use Rattle.transition.specs.Laws.Tabled.{tabled-act, tabled-round}
@@ -61,11 +61,11 @@ module _ {p : Theory} where
       go (yes w) (no q) = more w q
 
   pub settle : {s : State} → Tabled p.characters s → (k : ℕ) → Settled p k s
-  settle x zero = ends x (λ w q. inr (11, Stops.loud w q))
-  settle x (suc k) =
+  settle {s} x zero = ends x (λ w q. inr (11, Stops.loud w q))
+  settle {s} x (suc k) =
       ends x (λ w q.
       ⊎_elim (λ r. inl (r.0, r.1, Settles.again w q r.2)) (λ r. inr (r.0, Stops.later w q r.1))
-      (settle (tabled-round x p.triggers) k))
+      (settle {s = round p.triggers s} (tabled-round x p.triggers) k))
 
   pub step : {s : State} → Tabled p.characters s → (a : ℕ) → a < length p.actions → Stepped p s a
   step {s} x a h = go (holds s (action_of p a).condition) refl
