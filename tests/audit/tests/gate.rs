@@ -25,11 +25,11 @@ esac
 "#;
 
 /// What the script runs besides; the folder with these and the stand-ins is all that it finds commands in.
-const TOOLS: [&str; 12] =
-    ["awk", "bash", "cat", "dirname", "env", "grep", "mktemp", "rm", "sed", "sh", "tail", "tee"];
+const TOOLS: [&str; 12] = ["awk", "bash", "cat", "dirname", "env", "grep", "mktemp", "rm", "sed", "sh", "tail", "tee"];
 
 /// What is said of an archive, behind what is said of a library that is proved for it.
-const ARCHIVE: &str = "fn chart::start: proved\nlibrary chart: modules loaded=1 checked=0\nlogic=proved functions=1 sum=0\n\
+const ARCHIVE: &str =
+    "fn chart::start: proved\nlibrary chart: modules loaded=1 checked=0\nlogic=proved functions=1 sum=0\n\
     library pack: modules loaded=1 checked=0\nlibrary chart: modules loaded=1 checked=0\n\
     library transition: modules loaded=1 checked=0\nlibrary planner: modules loaded=1 checked=0\n\
     axioms libc: none reached of the 128 declared\naxioms os: none reached of the 22 declared\n\
@@ -139,7 +139,8 @@ fn a_crate_that_is_not_proved() {
     assert!(crates.len() >= 7, "{crates:?}");
     for of in crates {
         let gate = well(&format!("unproved-{of}"));
-        let said = ci().replace(&format!("rt: {of} proved\n"), "").replace(&format!("rt: {of} is kept"), "rt: it is kept");
+        let said =
+            ci().replace(&format!("rt: {of} proved\n"), "").replace(&format!("rt: {of} is kept"), "rt: it is kept");
         gate.say("said/ci", &said).fails(&format!("{of}: no word that it is proved"));
     }
     let gate = well("more");
@@ -155,7 +156,9 @@ fn what_rt_says_last() {
     well("ten-failed").say("said/ci", "6 passed, 10 failed\n").fails("rt ci said: 6 passed, 10 failed");
     well("no-number").say("said/ci", " passed, 0 failed\n").fails("rt ci said:");
     well("silent").say("said/ci", "7 passed, 0 failed\nrt: ok\n").fails("rt ci said: rt: ok");
-    well("some").say("said/ci", "7 passed, 0 failed (pack and the crates below alone: not the gate)\n").fails("rt ci said:");
+    well("some")
+        .say("said/ci", "7 passed, 0 failed (pack and the crates below alone: not the gate)\n")
+        .fails("rt ci said:");
     well("status").say("said/status", "1").fails("rt ci: 7 passed, 0 failed");
 }
 
@@ -180,14 +183,16 @@ fn the_rust_tests() {
     gate.say("said/audit", "1").fails("the sources (tests/audit)");
     assert!(!gate.ran().1.contains("pack proved"), "nothing is proved where the sources are at fault");
     let gate = well("apart");
-    gate.stand_in("cargo", &CARGO.replace("*) cat ../said/apart", "*) exit 1")).fails("that needs nothing of the library");
+    gate.stand_in("cargo", &CARGO.replace("*) cat ../said/apart", "*) exit 1"))
+        .fails("that needs nothing of the library");
     for archive in ["probe", "pirwodd"] {
         let gate = well(&format!("archive-{archive}"));
         let fails = RT.replace("lib) cat", &format!("lib) [ $crate != {archive} ] || exit 1; cat"));
         gate.stand_in("rt", &fails).fails(&format!("the archive of {archive} (rt lib)"));
     }
     let gate = well("axioms");
-    gate.stand_in("rt", &RT.replace("cat \"../../said/check", "exit 1; cat \"../../said/check")).fails("the axioms of ending");
+    gate.stand_in("rt", &RT.replace("cat \"../../said/check", "exit 1; cat \"../../said/check"))
+        .fails("the axioms of ending");
 }
 
 #[test]
