@@ -1,5 +1,6 @@
 -- A value looked up in a chart that is loaded as a table, and the work buffer cleared behind it. Assumes nothing.
-use Rattle.std.specs.Prelude.{ℕ, zero, suc, ◌+◌, ◌*◌, ◌-◌, ◌<◌, ◌≤◌, ◌≡◌, refl, List, ◌++◌, length, get_or, drop, replicate}
+use Rattle.std.specs.Prelude.{ℕ, zero, suc, ◌+◌, ◌*◌, ◌-◌, ◌<◌, ◌≤◌, ◌≡◌, refl, List, ◌++◌, length, get_or, drop}
+use Rattle.std.specs.Prelude.{replicate}
 use Rattle.std.proofs.Common.{sym, ap, ◌∙◌, subst, add-zero, arith, ext_get_or}
 use Rattle.std.proofs.lemmas.List.{length-replicate, get_or-replicate}
 use Rattle.pack.specs.Syntax.{Node}
@@ -78,7 +79,8 @@ module _ {chart : List ℕ} {nodes f c : ℕ} {chain : List ℕ} {fluent : ℕ} 
           same : table_of look_table mid ≡ t
           same = read_same r x
 
-      pub looked : {now : List ℕ} {v : ℕ} → v ≡ get_or mid ((1 + there * (f + c)) + fluent) 0 → Cleared mid now 0 work_room
+      pub looked : {now : List ℕ} {v : ℕ} → v ≡ get_or mid ((1 + there * (f + c)) + fluent) 0
+          → Cleared mid now 0 work_room
           → length now ≡ length work → Looked chart nodes f c chain fluent work now v
       looked e z long =
           record {

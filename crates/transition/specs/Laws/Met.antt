@@ -128,7 +128,8 @@ unfolding AtMost
 deepening-many n (reached, few, covers) =
     let more : count all (suc n)
     ≤ count all (length reached) = count_inj all all (λ i j. length (get_or reached j []) ≡ i) (suc n) (length reached)
-    (λ i l u. let (r, m, e) = covers (onward i) (onward_valid i) in let (j, in_range_lem, same) = place reached [] r m in
+    (λ i l u. let (r, m, e) = covers (onward i) (onward_valid i) in
+    let (j, in_range_lem, same) = place reached [] r m in
     (j, in_range_lem, tt, ap length same ∙ sym (length_there (onward i) r e) ∙ onward_length i))
     (λ i j k l m u e f. absurd (omega (arith, e, f))) in
     omega (arith, more, count_all (suc n), count_all (length reached))
