@@ -10,8 +10,8 @@ use pack::table::Table;
 
 // Writes the classes of the c rows that stand from `from` on, from `to` on.
 pub fn map_part(work: &mut [u8], from: usize, to: usize, k: usize, n: usize, c: usize)
-    requires c_bound { (from + c ≤ to) × (k + n ≤ to) × (to + c ≤ length work.old) }
-    requires by_index { (d : ℕ) → d < c → get_or work.old (from + d) 0 < n }
+    requires room { (from + c ≤ to) × (k + n ≤ to) × (to + c ≤ length work.old) }
+    requires below { (d : ℕ) → d < c → get_or work.old (from + d) 0 < n }
     ensures { Mapped work.old work.new from to k c }
 {
     let mut d = 0;
@@ -24,8 +24,8 @@ pub fn map_part(work: &mut [u8], from: usize, to: usize, k: usize, n: usize, c: 
 
 // Writes the row from `from` on, its beliefs by class, from `to` on.
 pub fn put_mapped(work: &mut [u8], from: usize, to: usize, k: usize, n: usize, f: usize, c: usize)
-    requires c_bound { (from + f + c ≤ k) × (k + n ≤ to) × (to + f + c ≤ length work.old) }
-    requires by_index { (d : ℕ) → d < c → get_or work.old (from + f + d) 0 < n }
+    requires room { (from + f + c ≤ k) × (k + n ≤ to) × (to + f + c ≤ length work.old) }
+    requires below { (d : ℕ) → d < c → get_or work.old (from + f + d) 0 < n }
     ensures { RowPut work.old work.new from to k f c }
 {
     copy_part(work, from, to, f);
@@ -34,9 +34,9 @@ pub fn put_mapped(work: &mut [u8], from: usize, to: usize, k: usize, n: usize, f
 
 // Writes row i of a table if its class is new, where `count` classes have been; how many have been then.
 pub fn write_class(work: &mut [u8], t: Table, k: usize, u: usize, i: usize, count: usize) -> usize
-    requires of_table { of_table (Room work.old) t k u }
-    requires of_table_2 { of_table (Sound work.old) t }
-    requires i_lt_nodes { (i < t.nodes) × (count < t.nodes) }
+    requires room { of_table (Room work.old) t k u }
+    requires sound { of_table (Sound work.old) t }
+    requires within { (i < t.nodes) × (count < t.nodes) }
     ensures { of_rows (ClassPut work.old work.new) t k u i count result }
 {
     if wide(work[k + i]) < count {
@@ -56,8 +56,8 @@ pub fn write_class(work: &mut [u8], t: Table, k: usize, u: usize, i: usize, coun
 
 // Writes the merged table of a table, the classes of whose rows stand from k on, from u on; how many rows that is.
 pub fn write_merged(work: &mut [u8], t: Table, k: usize, u: usize) -> usize
-    requires of_table { of_table (Room work.old) t k u }
-    requires of_table_2 { of_table (Classed work.old) t k }
+    requires room { of_table (Room work.old) t k u }
+    requires classed { of_table (Classed work.old) t k }
     ensures { of_table (WrittenOut work.old work.new) t u result }
 {
     let mut count = 0;

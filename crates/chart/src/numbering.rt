@@ -17,7 +17,7 @@ pub fn more(count: usize, r: usize) -> usize
 
 // The number of slot x: the one that it has, or the next.
 pub fn number_of(work: &mut [u8], m: usize, size: usize, count: usize, x: usize) -> usize
-    requires size_in_bounds { (m + size + size ≤ length work.old) × (size < 256) × (x < size) }
+    requires room { (m + size + size ≤ length work.old) × (size < 256) × (x < size) }
     requires numbering { Numbering work.old m size count }
     ensures { Given work.old work.new m size count x result }
 {
@@ -39,9 +39,9 @@ pub fn name_beliefs(
     c: usize,
     count: usize,
 ) -> usize
-    requires size_bound { (m + size + size ≤ to) × (to + c ≤ length work.old) × (size < 256) }
+    requires room { (m + size + size ≤ to) × (to + c ≤ length work.old) × (size < 256) }
     requires numbering { Numbering work.old m size count }
-    requires by_index { (d : ℕ) → d < c → get_or work.old (to + d) 0 < size }
+    requires below { (d : ℕ) → d < c → get_or work.old (to + d) 0 < size }
     ensures { Named work.old work.new m size count result to c
         (λ d. get_or work.old (to + d) 0) }
 {

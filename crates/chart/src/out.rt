@@ -15,8 +15,8 @@ pub struct Shift {
 
 // Puts the k bytes of src from `from` on into `out` from `to` on, each shifted.
 pub fn put_part(src: &[u8], from: usize, out: &mut [u8], to: usize, k: usize, s: Shift)
-    requires k_in_bounds { (from + k ≤ length src.now) × (to + k ≤ length out.old) }
-    requires by_index { (q : ℕ) → q < k → Shifts src.now s.more s.less (from + q) }
+    requires room { (from + k ≤ length src.now) × (to + k ≤ length out.old) }
+    requires shifts { (q : ℕ) → q < k → Shifts src.now s.more s.less (from + q) }
     ensures { PartPut src.now out.old out.new from to k s.more s.less }
 {
     let mut q = 0;
@@ -40,8 +40,8 @@ pub fn put_values(src: &[u8], from: usize, out: &mut [u8], to: usize, f: usize)
 
 // Puts a row: its values, and its beliefs shifted.
 pub fn put_beside(src: &[u8], from: usize, f: usize, c: usize, out: &mut [u8], to: usize, s: Shift)
-    requires c_in_bounds { (from + f + c ≤ length src.now) × (to + f + c ≤ length out.old) }
-    requires by_index { (d : ℕ) → d < c → Shifts src.now s.more s.less (from + f + d) }
+    requires room { (from + f + c ≤ length src.now) × (to + f + c ≤ length out.old) }
+    requires shifts { (d : ℕ) → d < c → Shifts src.now s.more s.less (from + f + d) }
     ensures { RowPutIn src.now out.old out.new from to f c s.more
         s.less }
 {
@@ -51,9 +51,9 @@ pub fn put_beside(src: &[u8], from: usize, f: usize, c: usize, out: &mut [u8], t
 
 // Puts the rows of a table into `out` from `to` on.
 pub fn put_rows(src: &[u8], t: Table, out: &mut [u8], to: usize, s: Shift)
-    requires characters_bound { (t.fluents + t.characters ≤ t.width) × (t.width ≤ t.fluents + t.characters)
+    requires room { (t.fluents + t.characters ≤ t.width) × (t.width ≤ t.fluents + t.characters)
         × (t.rows + t.nodes * t.width ≤ length src.now) × (to + t.nodes * t.width ≤ length out.old) }
-    requires by_index { (i d : ℕ) → i < t.nodes → d < t.characters
+    requires shifts { (i d : ℕ) → i < t.nodes → d < t.characters
         → Shifts src.now s.more s.less (t.rows + i * t.width + t.fluents + d) }
     ensures { RowsPut src.now out.old out.new t.width t.fluents
         t.characters t.rows to s.more s.less t.nodes }
@@ -69,7 +69,7 @@ pub fn put_rows(src: &[u8], t: Table, out: &mut [u8], to: usize, s: Shift)
 
 // Writes a table as a chart; its length.
 pub fn write_chart(work: &[u8], t: Table, out: &mut [u8]) -> usize
-    requires nodes_bound { (t.nodes < 256) × (t.fluents + t.characters ≤ t.width) × (t.width ≤ t.fluents + t.characters)
+    requires room { (t.nodes < 256) × (t.fluents + t.characters ≤ t.width) × (t.width ≤ t.fluents + t.characters)
         × (t.rows + t.nodes * t.width ≤ length work.now) × (1 + t.nodes * t.width ≤ length out.old) }
     requires sound { Sound work.now t.nodes t.width t.fluents t.characters t.rows }
     ensures { (result ≡ 1 + t.nodes * t.width)

@@ -22,8 +22,8 @@ pub const MET: usize = 6144;
 // Meets the pair of rows x and y, from entry `from` by character d, where `count` have been met: if it is new, it is
 // marked, and an entry more. How many are met then.
 pub fn meet(work: &mut [u8], count: usize, x: usize, y: usize, from: usize, d: usize) -> usize
-    requires x_bound { (x < 64) × (y < 64) × (from < 65536) × (d < 256) × (met_at ≤ length work.old) }
-    requires count_in_bounds { mark_at work.old marks_at x y ≡ 0 → met_at + count * 5 + 5 ≤ length work.old }
+    requires small { (x < 64) × (y < 64) × (from < 65536) × (d < 256) × (met_at ≤ length work.old) }
+    requires room { mark_at work.old marks_at x y ≡ 0 → met_at + count * 5 + 5 ≤ length work.old }
     ensures { PairMet work.old work.new marks_at met_at count x y from d result }
 {
     let mark = MARKS + x * 64 + y;

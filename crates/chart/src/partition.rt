@@ -19,8 +19,8 @@ use pack::table::Table;
 // The first of the c characters whose beliefs, from a on and from b on, are of different classes, which stand from k
 // on; c where there is none.
 pub fn first_apart(work: &[u8], a: usize, b: usize, c: usize, k: usize) -> usize
-    requires c_in_bounds { (a + c ≤ length work.now) × (b + c ≤ length work.now) }
-    requires by_index { (d : ℕ) → d < c
+    requires rows { (a + c ≤ length work.now) × (b + c ≤ length work.now) }
+    requires numbers { (d : ℕ) → d < c
         → (k + get_or work.now (a + d) 0 < length work.now) × (k + get_or work.now (b + d) 0 < length work.now) }
     ensures { Agrees (SameClass work.now a b k) c result }
 {
@@ -39,10 +39,10 @@ pub fn first_apart(work: &[u8], a: usize, b: usize, c: usize, k: usize) -> usize
 // Whether rows i and j are alike, where classes stand from k on. Rows of different classes never are, so that is asked
 // first; those of one class have the same values.
 pub fn alike(work: &[u8], t: Table, k: usize, i: usize, j: usize) -> bool
-    requires characters_bound { (t.fluents + t.characters ≤ t.width) × of_rows (RowOk work.now) t k i
+    requires rows { (t.fluents + t.characters ≤ t.width) × of_rows (RowOk work.now) t k i
         × of_rows (RowOk work.now) t k j }
-    requires i_value { of_rows (Alike work.now) t k i j → get_or work.now (k + i) 0 ≡ get_or work.now (k + j) 0 }
-    requires of_values { get_or work.now (k + i) 0 ≡ get_or work.now (k + j) 0 → of_values (SameValues work.now) t i j }
+    requires finer { of_rows (Alike work.now) t k i j → get_or work.now (k + i) 0 ≡ get_or work.now (k + j) 0 }
+    requires valued { get_or work.now (k + i) 0 ≡ get_or work.now (k + j) 0 → of_values (SameValues work.now) t i j }
     ensures { Decides result (of_rows (Alike work.now) t k i j) }
 {
     if work[k + i] != work[k + j] {
@@ -79,9 +79,9 @@ pub fn class_of(work: &[u8], t: Table, g: Regions, i: usize, count: usize) -> us
 // Classes row i: by the class whose leading row is alike, or as the leading row of a new class; how many classes there
 // are then.
 pub fn class_row(work: &mut [u8], t: Table, g: Regions, i: usize, count: usize) -> usize
-    requires i_bound { (g.level + i + 1 ≤ g.firsts) × (g.firsts + count < length work.old)
+    requires room { (g.level + i + 1 ≤ g.firsts) × (g.firsts + count < length work.old)
         × (i < 256) × (count < 256) }
-    requires of_rows { of_rows (Against work.old) t g.classes g.firsts count i }
+    requires against { of_rows (Against work.old) t g.classes g.firsts count i }
     ensures { in_regions (of_rows (RowClassed work.old work.new) t) g i count result }
 {
     let q = class_of(work, t, g, i, count);
@@ -96,8 +96,8 @@ pub fn class_row(work: &mut [u8], t: Table, g: Regions, i: usize, count: usize) 
 // Classes the rows of a table by the old classes, which are of equal values, and by those of what they believe: the new
 // classes stand from `g.level` on. How many there are.
 pub fn level(work: &mut [u8], t: Table, g: Regions) -> usize
-    requires in_regions { in_regions (of_table (Levels work.old) t) g × of_table (Sound work.old) t }
-    requires of_table { of_table (Finer work.old) t g.classes }
+    requires levels { in_regions (of_table (Levels work.old) t) g × of_table (Sound work.old) t }
+    requires finer { of_table (Finer work.old) t g.classes }
     ensures { in_regions (of_table (Leveled work.old work.new) t) g result }
 {
     let mut count = 0;
@@ -113,7 +113,7 @@ pub fn level(work: &mut [u8], t: Table, g: Regions) -> usize
 // values, then level by level, until each row is a class of its own or a level has no more classes than the one before.
 // How many there are; more than `limit` where the rows mean more states than that.
 pub fn partition(work: &mut [u8], t: Table, g: Regions, limit: usize) -> usize
-    requires in_regions { in_regions (of_table (Levels work.old) t) g × (0 < t.nodes) × (1 ≤ limit) }
+    requires levels { in_regions (of_table (Levels work.old) t) g × (0 < t.nodes) × (1 ≤ limit) }
     requires ordered { Ordered t.characters (table_of t work.old) }
     ensures { in_regions (of_table (Parted work.old work.new) t) g limit result }
 {

@@ -10,7 +10,7 @@ use pack::table::Table;
 
 // Fills row i, of the rows from t on: the values and the beliefs of the row of the table s that number i was given to.
 pub fn fill_row(work: &mut [u8], s: Table, m: usize, t: usize, i: usize, count: usize) -> usize
-    requires of_table { of_table (Laid work.old) s m t × of_table (Sound work.old) s }
+    requires laid { of_table (Laid work.old) s m t × of_table (Sound work.old) s }
     requires numbering { Numbering work.old m s.nodes count × (i < count) }
     ensures { of_table (RowCopied work.old work.new) s m t i count result }
 {

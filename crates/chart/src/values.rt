@@ -76,8 +76,8 @@ pub fn value_row(
     i: usize,
     count: usize,
 ) -> usize
-    requires in_regions { in_regions (of_values (Valuable work.old t.nodes) t) g i count }
-    requires of_values { of_values (Chained work.old heads.old) t g.level g.firsts count }
+    requires valuable { in_regions (of_values (Valuable work.old t.nodes) t) g i count }
+    requires chained { of_values (Chained work.old heads.old) t g.level g.firsts count }
     ensures { in_regions (of_values (RowValued work.old work.new heads.new) t)
         g i count result }
 {

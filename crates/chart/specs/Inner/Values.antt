@@ -1,6 +1,6 @@
 -- The first level of the partition: rows classed by their values, the classes found by a mark of the values. Assumes
 -- nothing.
-use Rattle.std.specs.Prelude.{◌≡◌, List, ℕ, zero, suc, ◌+◌, ◌*◌, ◌%◌, ◌<◌, ◌≤◌, get_or, length}
+use Rattle.std.specs.Prelude.{◌≡◌, List, ℕ, suc, ◌+◌, ◌*◌, ◌%◌, ◌<◌, ◌≤◌, get_or, length}
 use Rattle.chart.specs.Laws.Sums.{sum_of}
 use Rattle.chart.specs.Duties.Classed.{class_at}
 use Rattle.chart.specs.Duties.Level.{Placed, SameValues, Sorted}

@@ -1,7 +1,7 @@
 -- Whatever state a table means has a written chart: its rows that are reached, in order, one for each meaning. So it is
 -- decided how many states its chains lead to. Assumes nothing.
 use Prim.Native.Nat.{ℕ, zero, suc, ◌-◌, ◌<◌, ◌≤◌, min}
-use Rattle.std.specs.Prelude.{◌≡◌, ◌↔◌, ◌⊎◌, length}
+use Rattle.std.specs.Prelude.{◌≡◌, ◌↔◌, length}
 use Rattle.std.proofs.Math.Path.{refl, sym, ap}
 use Rattle.std.proofs.Common.{◌∙◌, subst, ⊎_elim, eq-or-lt_of_le, le_of_suc-le-suc}
 use Rattle.std.proofs.Math.Logic.{by_cases}
@@ -20,7 +20,7 @@ use Rattle.chart.specs.Laws.Lists.{tabulate, length_tabulate, get_d_tabulate}
 use Rattle.chart.specs.Laws.Merged.{classes, grows, first, Merged, merged, kept}
 use Rattle.chart.specs.Laws.Reach.{reaching}
 use Rattle.chart.specs.Laws.Tabled.{Tabled}
-use Rattle.chart.specs.Laws.Unique.{some, unique, ordered_reached}
+use Rattle.chart.specs.Laws.Unique.{some, ordered_reached}
 
 -- two rows mean the same, or they don't
 pub same? : (C : ℕ) (t : List Node) → Closed C t → (i j : ℕ) → i < length t → j < length t

@@ -1,6 +1,6 @@
 -- Two states that tables mean compared: the same, or the shortest chain to a difference, the earliest of those, and the
 -- lowest fluent there. Assumes nothing.
-use Rattle.std.specs.Prelude.{ℕ, ◌+◌, ◌-◌, ◌<◌, ◌≤◌, ◌≡◌, refl, cond, ◌≢◌, ◌↔◌, get_or, ltb}
+use Rattle.std.specs.Prelude.{ℕ, ◌+◌, ◌-◌, ◌<◌, ◌≤◌, ◌≡◌, refl, cond, ◌≢◌, get_or, ltb}
 use Rattle.std.proofs.Common.{sym, ◌∙◌, inl, inr, ⊎_elim, ext_get_or}
 use Rattle.std.proofs.Math.Path.{ap, subst, fun_ext}
 use Rattle.std.proofs.Math.Logic.{by_cases}

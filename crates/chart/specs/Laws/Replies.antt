@@ -1,5 +1,5 @@
 -- What the replies of Start, Query and Compare say where the checks are passed. Assumes nothing.
-use Rattle.std.specs.Prelude.{ℕ, ◌-◌, ◌<◌, ◌≤◌, ◌≡◌, Bool, true, ◌&&◌, ◌↔◌, length, get_or}
+use Rattle.std.specs.Prelude.{ℕ, ◌<◌, ◌≤◌, ◌≡◌, Bool, true, ◌&&◌, ◌↔◌, length, get_or}
 use Rattle.std.proofs.Math.Path.{refl, ap}
 use Rattle.std.proofs.Common.{sym, ◌∙◌, arith, le-leb, lt-ltb}
 use mathlib.Core.List.{List, [], ◌∷◌}
@@ -16,7 +16,7 @@ use Rattle.pack.specs.Laws.PackBack.{chart_back, chart_bytes_one}
 use Rattle.pack.specs.Laws.Exact.{Bytes}
 use Rattle.pack.specs.Laws.PackExact.{pack_exactly, chart_exactly, fits_limits}
 use Rattle.chart.specs.Chart.{Starts, ChartOf}
-use Rattle.chart.specs.Compare.{Verdict, same, differ, Compared}
+use Rattle.chart.specs.Compare.{Verdict, differ, Compared}
 use Rattle.chart.specs.Answers.{start_table, compare_table}
 use Rattle.chart.specs.Call.{chart_room, chain_room, work_room, fits, charts_of, call}
 use Rattle.chart.specs.Replies.{start_reply, query_reply, compare_reply, all_below}

@@ -1,5 +1,5 @@
 -- Whether a list of nodes is a table, and what a table decides. Assumes nothing.
-use Rattle.std.specs.Prelude.{ℕ, ◌<◌, ◌-◌, ◌≡◌, refl, List, length}
+use Rattle.std.specs.Prelude.{ℕ, ◌<◌, ◌≡◌, refl, List, length}
 use Rattle.std.proofs.Common.{sym, subst}
 use Rattle.std.proofs.Math.Logic.{dite}
 use Rattle.std.proofs.Math.Logic.Dec
