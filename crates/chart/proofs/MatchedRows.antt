@@ -127,7 +127,7 @@ module _ {work : List ℕ} {n m f c : ℕ} {chain : List ℕ} (p : Matchable wor
 
         pub match_writable : Writable now chain 6144 k
         unfolding ways
-        match_writable = record { ways = ways; room = omega (arith, short, p.chain_room_lem) }
+        match_writable = record { ways = ways; room = omega (arith, short, p.has_chain_room) }
 
         -- a value of a row is a byte
         value : (i q : ℕ) → i < n + m → q < f → get_or (node T i).values q 0 ≡ get_or now (1 + i * w + q) 0
@@ -169,7 +169,7 @@ module _ {work : List ℕ} {n m f c : ℕ} {chain : List ℕ} (p : Matchable wor
                 true = differs;
                 said = record {
                   answer = ap (λ (l : ℕ). gives (after l fluent)) (sym e);
-                  result = front_back chain chain' size (omega (arith, e, short, p.chain_room_lem)) same-long y.high ∙ ap₂ (λ (f : List ℕ) (l : ℕ). f ++ drop l chain) g (sym e);
+                  result = front_back chain chain' size (omega (arith, e, short, p.has_chain_room)) same-long y.high ∙ ap₂ (λ (f : List ℕ) (l : ℕ). f ++ drop l chain) g (sym e);
                 };
                 high = high;
               }
@@ -187,7 +187,7 @@ module _ {first second work : List ℕ} {n m f c : ℕ} (p : Joinable first n se
     slim = read_slim p.read;
     sound = x.sound;
     room = omega (arith, long, p.room);
-    chain_room_lem = room;
+    has_chain_room = room;
   }
 
   pub charts_matched : {chain chain' mid' now : List ℕ} {r : Matched} → RowsMatched mid mid' n m f c chain chain' r → Cleared mid' now 0 work_room → length now ≡ length work → ChartsMatched first n second m f c chain chain' work now r

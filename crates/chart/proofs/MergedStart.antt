@@ -89,15 +89,15 @@ module _ {pack : List ℕ} {first nodes f c : ℕ} {chart-was work : List ℕ} (
       chart_is = (start_table_iff c p.table (fits_table c domains p.table p.fit) (rows_at mid' (f + c) f c 2400 r)).0 (y.starts.0, y.starts.1 ∙ ap (λ (t : List Node). meaning c t 0) (read_same p.read x))
 
       pub start_writes : ((r < 256) × (f + c ≤ f + c) × (f + c ≤ f + c) × (2400 + r * (f + c) ≤ length mid') × (1 + r * (f + c) ≤ length chart-was)) × Sound mid' r (f + c) f c 2400
-      start_writes = ((omega (arith, y.few, p.read.few), omega arith, omega arith, omega (arith, merged_small p.read y, p.work_room_lem, x.long), omega (arith, merged_small p.read y, p.chart_room_lem)), ordered_sound y.starts.0.ordered)
+      start_writes = ((omega (arith, y.few, p.read.few), omega arith, omega arith, omega (arith, merged_small p.read y, p.has_work_room, x.long), omega (arith, merged_small p.read y, p.has_chart_room)), ordered_sound y.starts.0.ordered)
 
       pub start_put : {chart-now work-now : List ℕ} {n : ℕ} → (n ≡ 1 + r * (f + c)) × RowsPut mid' (set chart-was 0 r) chart-now (f + c) f c 2400 1 1 0 r → length chart-now ≡ length chart-was
           → Cleared mid' work-now 0 work_room → length work-now ≡ length work → StartPut c p.table chart-was chart-now work work-now n
       start_put {chart-now} {work-now} {n} (e, z) long'' clear longer =
           let fit : ChartFits c domains (rows_at mid' (f + c) f c 2400 r) = subst (ChartFits c domains) chart_is (start_fits c domains p.table p.fit) in
-          let (out, size) = chart_out chart-was domains refl p.read.shaped.fluents p.read.shaped.small.sizes z (omega (arith, p.chart_room_lem)) fit (omega (arith, merged_small p.read y, p.chart_room_lem)) long'' in
+          let (out, size) = chart_out chart-was domains refl p.read.shaped.fluents p.read.shaped.small.sizes z (omega (arith, p.has_chart_room)) fit (omega (arith, merged_small p.read y, p.has_chart_room)) long'' in
           record {
             answer = e ∙ sym size ∙ ap (λ (t : List Node). length (chart_bytes t)) (sym chart_is);
             result = out ∙ ap (λ (t : List Node). chart_bytes t ++ drop (length (chart_bytes t)) chart-was) (sym chart_is);
-            scratch = cleared_all work clear (λ q h. y.high q (omega arith) ∙ x.above q (omega (arith, read_small p.read))) longer p.work_room_lem;
+            scratch = cleared_all work clear (λ q h. y.high q (omega arith) ∙ x.above q (omega (arith, read_small p.read))) longer p.has_work_room;
           }

@@ -30,8 +30,8 @@ module _ {pack places : List ℕ} (chart chain : List ℕ) (fluent : ℕ) (work 
   abbrev wanted : Theory → Bool
   wanted p = all_below p.characters chain && ltb fluent (length p.domains)
 
-  in_range_lem : (x : Pack) → pack_of pack ≡ gives x → there ≡ wanted x.theory
-  in_range_lem x e = let f = got.found x e in here ∙ ap₂ (λ (c k : ℕ). all_below c chain && ltb fluent k) (sym f.characters) (sym f.fluents)
+  is_in_range : (x : Pack) → pack_of pack ≡ gives x → there ≡ wanted x.theory
+  is_in_range x e = let f = got.found x e in here ∙ ap₂ (λ (c k : ℕ). all_below c chain && ltb fluent k) (sym f.characters) (sym f.fluents)
 
   agrees : replied_count r ≡ told (λ ns. get_or ns 0 0) (checks p (chart ∷ []) (fits work_room work) there)
   agrees = says ∙ ap (λ (y : Reply ℕ). with y (λ v. lent (fits work_room work) there (gives v))) under ∙ check_one p (fits work_room work) there chart
@@ -39,13 +39,13 @@ module _ {pack places : List ℕ} (chart chain : List ℕ) (fluent : ℕ) (work 
   pub ask_refused : (k q : ℕ) → r ≡ numbers.Refused k q → Asked pack chart chain fluent work work (queried.Refused k q)
   unfolding query_reply
   ask_refused k q e =
-      let z = refused_by (chart ∷ []) got (fits work_room work) there wanted in_range_lem value_of (λ ns. get_or ns 0 0) (replied_count r) agrees k q (ap replied_count e) in
+      let z = refused_by (chart ∷ []) got (fits work_room work) there wanted is_in_range value_of (λ ns. get_or ns 0 0) (replied_count r) agrees k q (ap replied_count e) in
       record { answer = sym z.0; scratch = left_alone (query_reply pack chart chain fluent work) work k q z }
 
   module _ (n m : ℕ) (e : r ≡ numbers.Is n m) where
     accepted_now : (ns : List ℕ) × (get_or ns 0 0 ≡ n) × ((x : Accepted pack places (chart ∷ []) p ns (fits work_room work) there) × (query_reply pack chart chain fluent work ≡ value_of x.the_pack x.tables))
     unfolding query_reply
-    accepted_now = accepted_by (chart ∷ []) got (fits work_room work) there wanted in_range_lem value_of (λ ns. get_or ns 0 0) (replied_count r) agrees n (ap replied_count e)
+    accepted_now = accepted_by (chart ∷ []) got (fits work_room work) there wanted is_in_range value_of (λ ns. get_or ns 0 0) (replied_count r) agrees n (ap replied_count e)
 
     first : let x = accepted_now.2.0 in FirstRead x.the_pack.theory chart [] x.tables
     first = let x = accepted_now.2.0 in first_read x.the_pack.theory chart [] x.tables x.read
@@ -58,7 +58,7 @@ module _ {pack places : List ℕ} (chart chain : List ℕ) (fluent : ℕ) (work 
     pub ask_look : Lookable chart n p.fluents p.characters chain fluent work
     ask_look =
         let x = accepted_now.2.0 in
-        let (valid, fluent-there) = and_true (all_below p.characters chain) (ltb fluent p.fluents) (sym here ∙ x.in_range_lem) in record {
+        let (valid, fluent-there) = and_true (all_below p.characters chain) (ltb fluent p.fluents) (sym here ∙ x.is_in_range) in record {
           table = first.table;
           read = read;
           valid = below_valid p.characters chain valid;

@@ -57,14 +57,14 @@ module _ {pack places : List ℕ} (chart work : List ℕ) {p : Contents} (got : 
         let y = accepted_now.2.0 in
         let x = y.the_pack in
         let f = y.found in
-        let (chart_room_lem, work_room_lem) = and_true (fits chart_room chart) (fits work_room work) y.enough_there in
+        let (has_chart_room, has_work_room) = and_true (fits chart_room chart) (fits work_room work) y.enough_there in
         record {
           table = x.nodes;
           end = f.rows.end;
           read = nodes_packed bytes y.accepted f;
           fit = subst (λ (c : ℕ). ChartFits c x.theory.domains x.nodes) f.characters ((pack_exactly pack bytes x).0 y.accepted).0.nodes;
-          chart_room_lem = leb-true chart_room (length chart) chart_room_lem;
-          work_room_lem = leb-true work_room (length work) work_room_lem;
+          has_chart_room = leb-true chart_room (length chart) has_chart_room;
+          has_work_room = leb-true work_room (length work) has_work_room;
         }
 
     pub begin_done : (chart' work' : List ℕ) (k : ℕ) → ((x : Startable pack p.first p.nodes p.fluents p.characters chart work) → StartPut p.characters x.table chart chart' work work' k)

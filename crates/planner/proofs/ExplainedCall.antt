@@ -106,8 +106,8 @@ module _ {pack places : List ℕ} (chart : List ℕ) (c a K e : ℕ) (work : Lis
   abbrev the_reply : Reply Bool
   the_reply = explained_reply pack chart c a K e work
 
-  in_range_lem : (x : Pack) → pack_of pack ≡ gives x → there ≡ wanted x.theory
-  in_range_lem x q = let g = got.found x q in here ∙ ap₂ (λ (k m : ℕ). ltb c k && (ltb a m && (foresight_limit K && nesting_limit e))) (sym g.characters) (sym g.theory.actions)
+  is_in_range : (x : Pack) → pack_of pack ≡ gives x → there ≡ wanted x.theory
+  is_in_range x q = let g = got.found x q in here ∙ ap₂ (λ (k m : ℕ). ltb c k && (ltb a m && (foresight_limit K && nesting_limit e))) (sym g.characters) (sym g.theory.actions)
 
   agrees : replied_count r ≡ told (λ ns. get_or ns 0 0) (checks p (chart ∷ []) (fits work_room work) there)
   agrees = says ∙ ap (λ (y : Reply ℕ). with y (λ v. lent (fits work_room work) there (gives v))) under ∙ check_one p (fits work_room work) there chart
@@ -115,13 +115,13 @@ module _ {pack places : List ℕ} (chart : List ℕ) (c a K e : ℕ) (work : Lis
   pub judge_refused : (k q : ℕ) → r ≡ numbers.Refused k q → Judgement pack chart c a K e work work (judged.Refused k q)
   unfolding explained_reply
   judge_refused k q z =
-      let z = refused_by (chart ∷ []) got (fits work_room work) there wanted in_range_lem verdict_of (λ ns. get_or ns 0 0) (replied_count r) agrees k q (ap replied_count z) in
+      let z = refused_by (chart ∷ []) got (fits work_room work) there wanted is_in_range verdict_of (λ ns. get_or ns 0 0) (replied_count r) agrees k q (ap replied_count z) in
       record { answer = sym z.0; scratch = left_alone the_reply work k q z }
 
   module _ (pack-bytes : Bytes pack) (chart-bytes : Bytes chart) (marked : 327 ≤ length places) (n m : ℕ) (q : r ≡ numbers.Is n m) where
     accepted_now : (ns : List ℕ) × (get_or ns 0 0 ≡ n) × ((x : Accepted pack places (chart ∷ []) p ns (fits work_room work) there) × (the_reply ≡ verdict_of x.the_pack x.tables))
     unfolding explained_reply
-    accepted_now = accepted_by (chart ∷ []) got (fits work_room work) there wanted in_range_lem verdict_of (λ ns. get_or ns 0 0) (replied_count r) agrees n (ap replied_count q)
+    accepted_now = accepted_by (chart ∷ []) got (fits work_room work) there wanted is_in_range verdict_of (λ ns. get_or ns 0 0) (replied_count r) agrees n (ap replied_count q)
 
     abbrev theory : Theory
     theory = accepted_now.2.0.the_pack.theory
@@ -140,7 +140,7 @@ module _ {pack places : List ℕ} (chart : List ℕ) (c a K e : ℕ) (work : Lis
     -- the numbers are those of something there
     pub judge_ranges : (c < p.characters) × (a < p.actions) × (0 < K) × (K ≤ 6) × (e ≤ 3)
     judge_ranges =
-        let (who, rest) = and_true (ltb c p.characters) (ltb a p.actions && (foresight_limit K && nesting_limit e)) (sym here ∙ accepted_now.2.0.in_range_lem) in
+        let (who, rest) = and_true (ltb c p.characters) (ltb a p.actions && (foresight_limit K && nesting_limit e)) (sym here ∙ accepted_now.2.0.is_in_range) in
         let (what, limits) = and_true (ltb a p.actions) (foresight_limit K && nesting_limit e) rest in
         let (foresight, nesting) = and_true (foresight_limit K) (nesting_limit e) limits in
         let (low, high) = and_true (leb 1 K) (leb K 6) foresight in

@@ -94,7 +94,7 @@ module _ {th : Theory} {T : List Node} {pack places : List ℕ} {h : Context} {w
   stage_state root = ap (λ (U : List Node). meaning C U root) x.tabled.same
 
   pub stage_setting : Free h slot 1 → Setting th T pack places h.actions h.triggers was t slot
-  stage_setting f = record { theorized = x.theorized; tabled = x.tabled; room = record { source = omega (arith, x.behind, f); slot_room_lem = omega (arith, f); room = x.room } }
+  stage_setting f = record { theorized = x.theorized; tabled = x.tabled; room = record { source = omega (arith, x.behind, f); has_slot_room = omega (arith, f); room = x.room } }
 
   -- where utility rules are found
   pub stage_rules : (c root : ℕ) → c < C → root < t.nodes → (Judged rules_at pack (get_or places (321 + c) 0) t was root) × (321 + c < length places)

@@ -181,7 +181,7 @@ module _ {th : Theory} {T : List Node} {pack places : List ℕ} {h : Context} {f
         put_down : list' ≡ chosen ++ drop (length chosen) list
         put_down =
             let p = (z.some pos).2 in
-            let short : r.count ≤ length list = omega (arith, z.within, x.storied, x.list_room_lem) in
+            let short : r.count ≤ length list = omega (arith, z.within, x.storied, x.has_list_room) in
             front_back list list' r.count short listed (λ q l. p.high q (omega (arith, l, best.long)))
             ∙ ap₂ (λ (l : List ℕ) (k : ℕ). l ++ drop k list) (ext_get_or 0 (cells list' 0 r.count) chosen (cells-length list' 0 r.count ∙ sym best.long) (λ i l.
             let z' : i < r.count = omega (arith, l, cells-length list' 0 r.count) in
@@ -245,7 +245,7 @@ module _ {pack places : List ℕ} (T K E : ℕ) (list work : List ℕ) {p : Cont
     -- the limits are within theirs
     pub search_ranges : (T ≤ 8) × (0 < K) × (K ≤ 6) × (E ≤ 3)
     search_ranges =
-        let (told, rest) = and_true (story_limit T) (foresight_limit K && nesting_limit E) (sym within ∙ accepted_now.2.0.in_range_lem) in
+        let (told, rest) = and_true (story_limit T) (foresight_limit K && nesting_limit E) (sym within ∙ accepted_now.2.0.is_in_range) in
         let (foresight, nesting) = and_true (foresight_limit K) (nesting_limit E) rest in
         let (least, most) = and_true (leb 1 K) (leb K 6) foresight in
         (leb-true T 8 (and_true (leb 1 T) (leb T 8) told).1, leb-true 1 K least, leb-true K 6 most, leb-true E 3 nesting)
@@ -263,7 +263,7 @@ module _ {pack places : List ℕ} (T K E : ℕ) (list work : List ℕ) {p : Cont
         let y = accepted_now.2.0 in
         let x = y.the_pack in
         let g = y.found in
-        let (list_room_lem, work_room_lem) = and_true (fits list_room list) (fits work_room work) y.enough_there in
+        let (has_list_room, has_work_room) = and_true (fits list_room list) (fits work_room work) y.enough_there in
         let (told, least, most, nested) = search_ranges in
         let some = ((pack_exactly pack bytes x).0 y.accepted).0.characters.0 in
         record {
@@ -276,8 +276,8 @@ module _ {pack places : List ℕ} (T K E : ℕ) (list work : List ℕ) {p : Cont
           foreseen = (least, most);
           laid = laid_fits p (record { 0 = K }) (1 + T + (1 + K) * E) (omega (arith, some, g.characters)) search_sizes;
           slots = laid_free p (record { 0 = K }) (1 + T + (1 + K) * E);
-          list_room_lem = leb-true list_room (length list) list_room_lem;
-          room = leb-true work_room (length work) work_room_lem;
+          has_list_room = leb-true list_room (length list) has_list_room;
+          room = leb-true work_room (length work) has_work_room;
         }
 
     pub search_able : (h : Context) → h ≡ context → Seekable pack places h p.first p.nodes T h.foresight.0 E list work

@@ -1,5 +1,5 @@
 -- Effects at a place of the pack, one after the other, and who takes part. Assumes nothing.
-use Prim.Native.Nat.{ℕ, suc, ◌+◌, ◌-◌, ◌<◌, ◌≤◌}
+use Prim.Native.Nat.{ℕ, suc, ◌+◌, ◌<◌, ◌≤◌}
 use mathlib.Core.Path.{◌≡◌, refl, sym, ap, ◌∙◌}
 use mathlib.Core.Bool.{Bool, true, false, cond, ◌||◌}
 use mathlib.Core.Logic.{◌≢◌}
@@ -11,7 +11,7 @@ use borrow.Author.Tests.{ne_eqb, ltb-false}
 use Rattle.pack.specs.Syntax.{Effect, Node}
 use Rattle.pack.specs.State.{meaning}
 use Rattle.pack.specs.Reading.{done}
-use Rattle.pack.specs.Grammar.{Dimensions, condition_at, effect_at, effects_at}
+use Rattle.pack.specs.Grammar.{Dimensions, condition_at, effects_at}
 use Rattle.pack.specs.Condition.{holds, write}
 use Rattle.pack.specs.Duties.Effects.{asks, some_of}
 use Rattle.pack.specs.Duties.Judge.{Small, Over, Readable, Judged}
@@ -19,8 +19,6 @@ use Rattle.pack.specs.declared.effects.Wanted.TheVariants.{Belief}
 use Rattle.pack.specs.Duties.Table.{cells, state_of}
 use Rattle.pack.specs.Duties.Write.{Writable, EffectsWritten}
 use Rattle.pack.specs.declared.table.Table.{Table}
-use Rattle.pack.specs.Laws.Judged.{Left, Next, left_start, left_one, left_next, left_none, counted_starts}
-use Rattle.pack.specs.Laws.OneByte.{effect_bytes_lem}
 use Rattle.pack.specs.Laws.WrittenValues.{only_none}
 use Rattle.transition.specs.Duties.Cause.{told, EffectsAt, Telling, ToldWritten, Watched, Took}
 

@@ -65,7 +65,7 @@ module _ {p : Theory} {T : List Node} {pack places : List ℕ} {actions triggers
             few = few;
             some = y.holds.some;
           };
-          room = record { source = slot_small x r few; slot_room_lem = x.room.slot_room_lem; room = omega (arith, long, x.room.room) };
+          room = record { source = slot_small x r few; has_slot_room = x.room.has_slot_room; room = omega (arith, long, x.room.room) };
         }
 
         pub play_slotted : Slotted play_table now (table_in t slot r) slot

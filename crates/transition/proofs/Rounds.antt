@@ -2,7 +2,7 @@
 use Prim.Native.Nat.{ℕ, suc, ◌+◌, ◌*◌, ◌-◌, ◌<◌, ◌≤◌}
 use mathlib.Core.Path.{◌≡◌, refl, sym, ap, ◌∙◌, subst}
 use mathlib.Core.Bool.{Bool, true, false}
-use mathlib.Core.Option.{Option, none}
+use mathlib.Core.Option.{Option}
 use mathlib.Core.Logic.{◌≢◌}
 use mathlib.Core.List.{List}
 use native.Mathlib.Nat.{mul-le-mul_right}
@@ -18,7 +18,6 @@ use Rattle.chart.specs.Chart.{Starts}
 use Rattle.chart.specs.States.{AtMost}
 use Rattle.chart.specs.Laws.Counted.{counted}
 use Rattle.chart.specs.Laws.Unique.{ordered_reached, some}
-use Rattle.chart.specs.Laws.Cells.{rows_most}
 use Rattle.transition.specs.declared.change.Change.{Change}
 use Rattle.transition.specs.Happening.{Quiet, Settles, Stops, firing, fires, round}
 use Rattle.transition.specs.Laws.Quiet.{quiet}
@@ -95,7 +94,7 @@ module _ {p : Theory} {T : List Node} {pack places : List ℕ} {actions triggers
 
   -- where the table lies
   pub slot_small : (nodes : ℕ) → nodes ≤ 32 → slot + 1 + nodes * t.width ≤ scratch_at
-  slot_small nodes l = let most : nodes * t.width ≤ 32 * t.width = mul-le-mul_right t.width l in omega (arith, most, x.room.slot_room_lem)
+  slot_small nodes l = let most : nodes * t.width ≤ 32 * t.width = mul-le-mul_right t.width l in omega (arith, most, x.room.has_slot_room)
 
   module _ {now : List ℕ} {nodes rounds : ℕ} (g : InRound p s₀ t was now slot nodes rounds) (long : length now ≡ length was) where
     abbrev U : List Node
@@ -179,7 +178,7 @@ module _ {p : Theory} {T : List Node} {pack places : List ℕ} {actions triggers
         }
 
         pub round_room : StageRoom now (table_in t slot nodes) slot
-        round_room = record { source = slot_small nodes g.few; slot_room_lem = x.room.slot_room_lem; room = omega (arith, long, x.room.room) }
+        round_room = record { source = slot_small nodes g.few; has_slot_room = x.room.has_slot_room; room = omega (arith, long, x.room.room) }
 
         module _ {then : List ℕ} {r : ℕ} (st : Staged round_scene 0 (table_in t slot nodes) now then slot r) (h : rounds ≢ 16) (few : rounds ≤ 16) where
           going : Going p s₀ (15 - rounds) (round p.triggers g.state)

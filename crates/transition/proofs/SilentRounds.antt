@@ -20,7 +20,7 @@ use Rattle.chart.specs.Duties.Put.{PartCopied}
 use Rattle.chart.specs.Duties.Classed.{class_at, Room, Classed, WrittenOut}
 use Rattle.chart.specs.Duties.Level.{Levels, Parted}
 use Rattle.chart.specs.Laws.Built.{Rows}
-use Rattle.chart.specs.Laws.Merged.{classes, grows}
+use Rattle.chart.specs.Laws.Merged.{grows}
 use Rattle.chart.specs.Laws.Counted.{at_most}
 use Rattle.chart.specs.Laws.Unique.{ordered_reached, some}
 use Rattle.chart.specs.Laws.Cells.{cells_same, row_in, rows_node, rows_same, rows_most}
@@ -166,7 +166,7 @@ module _ {was : List ℕ} {t : Table} {slot : ℕ} (p : SlotTable was t slot) wh
   sized k l = omega (arith, rows_most l p.slim)
 
   within : (k : ℕ) → k ≤ 32 → slot + 1 + k * w ≤ scratch_at
-  within k l = let most : k * w ≤ 32 * w = mul-le-mul_right w l in omega (arith, most, p.slot_room_lem)
+  within k l = let most : k * w ≤ 32 * w = mul-le-mul_right w l in omega (arith, most, p.has_slot_room)
 
   pub slot_levels : Levels was n w f C t.rows 47508 47736 47964
   slot_levels = record { few = omega (arith, p.few); wide = p.wide; source = omega (arith, within n p.few, p.rows); new = omega (arith, p.few); old = omega (arith, p.few); leads = omega (arith, p.few, p.room) }
@@ -194,15 +194,15 @@ module _ {was : List ℕ} {t : Table} {slot : ℕ} (p : SlotTable was t slot) wh
     slot_apart h = record {
       holds = record {
         some = p.some;
-        count = λ l. z.low slot (omega (arith, p.slot_room_lem)) ∙ p.count;
+        count = λ l. z.low slot (omega (arith, p.has_slot_room)) ∙ p.count;
         starts = λ l. subst (λ (a : ℕ). Starts C (state_of t was 0) (rows_at mid w f C a n)) p.rows (classed_apart slot_classed (omega (arith, (z.few few_classes).1)), ap (λ (T : List Node). meaning C T 0) same_table);
         many = λ l a. omega (arith, p.few);
       };
-      only = record { low = λ q l. z.low q (omega (arith, p.slot_room_lem)); mid = λ q l k. z.low q (omega arith); high = λ q l. z.high q (omega (arith, p.few)) };
+      only = record { low = λ q l. z.low q (omega (arith, p.has_slot_room)); mid = λ q l k. z.low q (omega arith); high = λ q l. z.high q (omega (arith, p.few)) };
     }
 
-    pub slot_room_lem : length mid ≡ length was → Room mid n w f C t.rows 47736 48192
-    slot_room_lem long = record { wide = p.wide; source = omega (arith, within n p.few, p.rows); classes = omega (arith, p.few); most = count; below = λ i l. omega (arith, grows (class_at mid 47736) i n l, (z.few few_classes).1); target = omega (arith, sized count few_classes, long, p.room) }
+    pub has_slot_room : length mid ≡ length was → Room mid n w f C t.rows 47736 48192
+    has_slot_room long = record { wide = p.wide; source = omega (arith, within n p.few, p.rows); classes = omega (arith, p.few); most = count; below = λ i l. omega (arith, grows (class_at mid 47736) i n l, (z.few few_classes).1); target = omega (arith, sized count few_classes, long, p.room) }
 
     module _ {now : List ℕ} {r : ℕ} (o : WrittenOut mid now n w f C t.rows 48192 r) where
       pub slot_few : (0 < r) × (r ≤ 32) × (r * w ≤ 960) × (slot + 1 + r * w ≤ scratch_at)
@@ -213,7 +213,7 @@ module _ {was : List ℕ} {t : Table} {slot : ℕ} (p : SlotTable was t slot) wh
       pub slot_done : {now' : List ℕ} → length now ≡ length was → PartCopied (set now slot r) now' 48192 (slot + 1) (r * w) → Acted (state_of t was 0) t was now' slot r
       slot_done {now'} long c =
           let (pos, most, narrow, inside) = slot_few in
-          let (holds, only) = put_down t was now now' p.wide p.slot_room_lem (omega arith) (omega (arith, long, p.room)) pos most (o.written, o.means ∙ ap (λ (T : List Node). meaning C T 0) same_table)
+          let (holds, only) = put_down t was now now' p.wide p.has_slot_room (omega arith) (omega (arith, long, p.room)) pos most (o.written, o.means ∙ ap (λ (T : List Node). meaning C T 0) same_table)
           (λ q l. o.low q (omega arith) ∙ z.low q (omega arith)) (λ q l. o.high q (omega (arith, narrow)) ∙ z.high q (omega (arith, p.few))) c in
           record { holds = holds; only = only }
 
@@ -231,7 +231,7 @@ module _ {s : Scene} {pack places effects was : List ℕ} {h : Change} {t : Tabl
     slot_only = record {
       low = λ q l. g.kept q (λ i k. inl (omega (arith, y.rows)));
       mid = λ q l k. beyond q l;
-      high = λ q l. beyond q (omega (arith, p.slot_room_lem));
+      high = λ q l. beyond q (omega (arith, p.has_slot_room));
     }
       where
         beyond : (q : ℕ) → slot + slot_room t.width ≤ q → get_or mid q 0 ≡ get_or was q 0
@@ -246,7 +246,7 @@ module _ {s : Scene} {pack places effects was : List ℕ} {h : Change} {t : Tabl
       count = g.kept slot (λ i k. inl (omega (arith, y.rows))) ∙ y.count;
       rows = y.rows;
       ordered = rewritten_ordered round_caused g y.written.ordered;
-      slot_room_lem = p.slot_room_lem;
+      has_slot_room = p.has_slot_room;
       room = omega (arith, p.room);
     }
 

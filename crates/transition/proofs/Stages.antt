@@ -35,7 +35,7 @@ use Rattle.transition.specs.Laws.ChangedRows.{small}
 pub put_down : (t : Table) (was now now' : List ℕ) {z : State} {slot from r : ℕ} → t.fluents + t.characters ≤ t.width → slot + slot_room t.width ≤ scratch_at → scratch_at ≤ from → work_room ≤ length now → 0 < r → r ≤ 32
     → Starts t.characters z (rows_at now t.width t.fluents t.characters from r) → Below was now scratch_at → Above was now work_room → PartCopied (set now slot r) now' from (slot + 1) (r * t.width)
     → InSlot t z now' slot r × SlotOnly t.width was now' slot
-put_down t was now now' {z} {slot} {from} {r} wide slot_room_lem behind room some few starts below above c =
+put_down t was now now' {z} {slot} {from} {r} wide has_slot_room behind room some few starts below above c =
     let kept : (q : ℕ) → q ≢ slot → get_or (set now slot r) q 0 ≡ get_or now q 0 = λ q g. get_or-set_other now slot q r 0 g in
     let most : r * t.width ≤ 32 * t.width = mul-le-mul_right t.width few in
     let rows = rows_same now now' t.width t.fluents t.characters from (slot + 1) r wide (λ q l. c.part q l ∙ kept (from + q) (omega arith)) in (
@@ -102,7 +102,7 @@ module _ {s : Scene} {pack places effects was : List ℕ} {h : Change} {t : Tabl
 
   -- k rows in the slot
   inside : (k : ℕ) → k ≤ 32 → slot + 1 + k * w ≤ scratch_at
-  inside k l = let most : k * w ≤ 32 * w = mul-le-mul_right w l in omega (arith, most, p.slot_room_lem)
+  inside k l = let most : k * w ≤ 32 * w = mul-le-mul_right w l in omega (arith, most, p.has_slot_room)
 
   most : t.nodes * 7 + 1 ≤ 225
   most = omega (arith, x.tabled.few)
@@ -122,7 +122,7 @@ module _ {s : Scene} {pack places effects was : List ℕ} {h : Change} {t : Tabl
     pub stage_one : k ≡ 1 → {now' : List ℕ} → PartCopied (set mid slot 1) now' 40756 (slot + 1) (1 * w) → Staged s h.root t was now' slot 1
     stage_one e {now'} c =
         let starts : Starts C made (rows_at mid w f C 40756 k) = (record { ordered = y.ordered; apart = λ i j a b q. omega (arith, a, b, e, rows_length mid w f C 40756 k) }, y.means) in
-        let (holds, only) = put_down t was mid now' wide p.slot_room_lem (omega arith) (omega (arith, long, p.room)) (omega arith) (omega arith) (subst (λ (k : ℕ). Starts C made (rows_at mid w f C 40756 k)) e starts) y.low (λ q l. y.high q (omega (arith, sized (t.nodes * 7 + 1) 225 most))) c in
+        let (holds, only) = put_down t was mid now' wide p.has_slot_room (omega arith) (omega (arith, long, p.room)) (omega arith) (omega arith) (subst (λ (k : ℕ). Starts C made (rows_at mid w f C 40756 k)) e starts) y.low (λ q l. y.high q (omega (arith, sized (t.nodes * 7 + 1) 225 most))) c in
         record { holds = holds; only = only }
 
     pub stage_levels : Levels mid k w f C 40756 47508 47736 47964
@@ -142,7 +142,7 @@ module _ {s : Scene} {pack places effects was : List ℕ} {h : Change} {t : Tabl
       pub stage_many : 32 < count → Staged s h.root t was mid' slot count
       stage_many l = record {
         holds = record { some = omega arith; count = λ g. absurd (omega arith); starts = λ g. absurd (omega arith); many = λ g a. z.many g (subst (AtMost 32 C) (sym means) a) };
-        only = record { low = λ q g. below q (omega (arith, p.slot_room_lem)); mid = λ q g k. below q k; high = λ q g. above q (omega arith) };
+        only = record { low = λ q g. below q (omega (arith, p.has_slot_room)); mid = λ q g k. below q k; high = λ q g. above q (omega arith) };
       }
 
       module _ (few : count ≤ 32) where
@@ -159,7 +159,7 @@ module _ {s : Scene} {pack places effects was : List ℕ} {h : Change} {t : Tabl
 
           pub stage_apart : {now' : List ℕ} → PartCopied (set mid' slot k) now' 40756 (slot + 1) (k * w) → Staged s h.root t was now' slot k
           stage_apart {now'} c =
-              let (holds, only) = put_down t was mid' now' wide p.slot_room_lem (omega arith) (omega (arith, long, long', p.room)) y.some apart_inside.0 (classed_apart stage_classed (omega (arith, (z.few few).1)), means) below (λ q l. above q (omega arith)) c in
+              let (holds, only) = put_down t was mid' now' wide p.has_slot_room (omega arith) (omega (arith, long, long', p.room)) y.some apart_inside.0 (classed_apart stage_classed (omega (arith, (z.few few).1)), means) below (λ q l. above q (omega arith)) c in
               record { holds = holds; only = only }
 
         module _ {now : List ℕ} {r : ℕ} (o : WrittenOut mid' now k w f C 40756 48192 r) where
@@ -180,5 +180,5 @@ module _ {s : Scene} {pack places effects was : List ℕ} {h : Change} {t : Tabl
           pub stage_done : {now' : List ℕ} → length now ≡ length was → PartCopied (set now slot r) now' 48192 (slot + 1) (r * w) → Staged s h.root t was now' slot r
           stage_done {now'} size c =
               let (some, most) = stage_few in
-              let (holds, only) = put_down t was now now' wide p.slot_room_lem (omega arith) (omega (arith, size, p.room)) some most (o.written, o.means ∙ means) (λ q l. o.low q (omega arith) ∙ below q l) (λ q l. o.high q (omega (arith, sized r 32 most)) ∙ above q (omega arith)) c in
+              let (holds, only) = put_down t was now now' wide p.has_slot_room (omega arith) (omega (arith, size, p.room)) some most (o.written, o.means ∙ means) (λ q l. o.low q (omega arith) ∙ below q l) (λ q l. o.high q (omega (arith, sized r 32 most)) ∙ above q (omega arith)) c in
               record { holds = holds; only = only }

@@ -47,8 +47,8 @@ module _ {pack places : List ℕ} (chart : List ℕ) (action : ℕ) (out work : 
   abbrev the_reply : Reply (List ℕ)
   the_reply = step_reply pack chart action out work
 
-  in_range_lem : (x : Pack) → pack_of pack ≡ gives x → there ≡ wanted x.theory
-  in_range_lem x e = is-there ∙ ap (ltb action) (sym (got.found x e).theory.actions)
+  is_in_range : (x : Pack) → pack_of pack ≡ gives x → there ≡ wanted x.theory
+  is_in_range x e = is-there ∙ ap (ltb action) (sym (got.found x e).theory.actions)
 
   agrees : replied_count r ≡ told (λ ns. get_or ns 0 0) (checks p (chart ∷ []) room there)
   agrees = says ∙ ap₂ (λ (y : Reply ℕ) (b : Bool). with y (λ v. lent b there (gives v))) under here ∙ check_one p room there chart
@@ -56,7 +56,7 @@ module _ {pack places : List ℕ} (chart : List ℕ) (action : ℕ) (out work : 
   pub step_no : (k q : ℕ) → r ≡ numbers.Refused k q → Stepped pack chart action out work out work (charted.Refused k q)
   unfolding step_reply result_after
   step_no k q e =
-      let z = refused_by (chart ∷ []) got room there wanted in_range_lem outcome_of (λ ns. get_or ns 0 0) (replied_count r) agrees k q (ap replied_count e) in
+      let z = refused_by (chart ∷ []) got room there wanted is_in_range outcome_of (λ ns. get_or ns 0 0) (replied_count r) agrees k q (ap replied_count e) in
       record {
         answer = sym (ap (told length) z.0);
         result = sym (ap (λ (y : Reply (List ℕ)). result_after y out) z.0);
@@ -66,7 +66,7 @@ module _ {pack places : List ℕ} (chart : List ℕ) (action : ℕ) (out work : 
   module _ (pack-bytes : Bytes pack) (chart-bytes : Bytes chart) (marked : 327 ≤ length places) (n m : ℕ) (e : r ≡ numbers.Is n m) where
     accepted_now : (ns : List ℕ) × (get_or ns 0 0 ≡ n) × ((x : Accepted pack places (chart ∷ []) p ns room there) × (the_reply ≡ outcome_of x.the_pack x.tables))
     unfolding step_reply
-    accepted_now = accepted_by (chart ∷ []) got room there wanted in_range_lem outcome_of (λ ns. get_or ns 0 0) (replied_count r) agrees n (ap replied_count e)
+    accepted_now = accepted_by (chart ∷ []) got room there wanted is_in_range outcome_of (λ ns. get_or ns 0 0) (replied_count r) agrees n (ap replied_count e)
 
     abbrev theory : Theory
     theory = accepted_now.2.0.the_pack.theory
@@ -83,12 +83,12 @@ module _ {pack places : List ℕ} (chart : List ℕ) (action : ℕ) (out work : 
     fit = let x = accepted_now.2.0 in chart_fits (record { bytewise = pack-bytes; accepted = x.accepted }) (record { bytewise = chart-bytes; accepted = first.read })
 
     inside : action < p.actions
-    inside = let x = accepted_now.2.0 in ltb-true action p.actions (sym is-there ∙ x.in_range_lem)
+    inside = let x = accepted_now.2.0 in ltb-true action p.actions (sym is-there ∙ x.is_in_range)
 
     step_ready : Stepping theory first.table pack places p.actions p.triggers action chart n p.fluents p.characters out work
     step_ready =
         let x = accepted_now.2.0 in
-        let (out_room, work_room_lem) = and_true (fits chart_room out) (fits work_room work) x.enough_there in
+        let (out_room, has_work_room) = and_true (fits chart_room out) (fits work_room work) x.enough_there in
         record {
           theorized = record { small = small_pack pack x.the_pack x.accepted; found = x.found.theory; short = short-pack pack x.the_pack x.accepted; marked = marked };
           there = inside;
@@ -98,7 +98,7 @@ module _ {pack places : List ℕ} (chart : List ℕ) (action : ℕ) (out work : 
           fit = fit;
           kept = λ U q. step_fits x.the_pack (given_fits (record { bytewise = pack-bytes; accepted = x.accepted })) first.table fit action U q;
           out_room = leb-true chart_room (length out) out_room;
-          work_room_lem = leb-true work_room (length work) work_room_lem;
+          has_work_room = leb-true work_room (length work) has_work_room;
         }
 
     pub step_able : Steppable pack places p.triggers action chart n p.fluents p.characters out work

@@ -43,8 +43,8 @@ module _ {p : Theory} {T : List Node} {pack places : List ℕ} {actions triggers
     pub step_setting : Setting p T pack places actions triggers mid step_from 961
     step_setting = record {
       theorized = x.theorized;
-      tabled = read_tabled x.read (record { small = x.theorized.small; characters = x.same_characters; fluents = x.same_fluents }) x.work_room_lem y;
-      room = record { source = omega (arith, read_small x.read); slot_room_lem = omega arith; room = omega (arith, y.long, x.work_room_lem) };
+      tabled = read_tabled x.read (record { small = x.theorized.small; characters = x.same_characters; fluents = x.same_fluents }) x.has_work_room y;
+      room = record { source = omega (arith, read_small x.read); has_slot_room = omega arith; room = omega (arith, y.long, x.has_work_room) };
     }
 
     module _ {mid' : List ℕ} {r : ℕ} (z : PlayedIn p (meaning c T 0) action step_from mid mid' 961 r) where
@@ -65,7 +65,7 @@ module _ {p : Theory} {T : List Node} {pack places : List ℕ} {actions triggers
           record {
             answer = sym (ap (λ (o : Outcome). told length (outcome_reply o)) e);
             result = sym (ap (λ (o : Outcome). result_after (outcome_reply o) out) e);
-            scratch = cleared_all work cl behind long x.work_room_lem;
+            scratch = cleared_all work cl behind long x.has_work_room;
           }
 
       module _ (e : r ≡ 0) where
@@ -89,7 +89,7 @@ module _ {p : Theory} {T : List Node} {pack places : List ℕ} {actions triggers
         pub step_writes : {rows : ℕ} → rows ≡ n → length mid' ≡ length work → ((rows < 256) × (f + c ≤ f + c) × (f + c ≤ f + c) × (962 + rows * (f + c) ≤ length mid') × (1 + rows * (f + c) ≤ length out)) × Sound mid' rows (f + c) f c 962
         step_writes {rows} k long =
             let size : rows * (f + c) ≤ 960 = subst (λ (k : ℕ). k * (f + c) ≤ 960) (sym k) rows_small in (
-              (omega (arith, k, left.few), omega arith, omega arith, omega (arith, size, long, x.work_room_lem), omega (arith, size, x.out_room)),
+              (omega (arith, k, left.few), omega arith, omega arith, omega (arith, size, long, x.has_work_room), omega (arith, size, x.out_room)),
               subst (λ (k : ℕ). Sound mid' k (f + c) f c 962) (sym k) (ordered_sound left.starts.0.ordered),
             )
 
@@ -103,7 +103,7 @@ module _ {p : Theory} {T : List Node} {pack places : List ℕ} {actions triggers
             record {
               answer = ap gives (size ∙ sym long-bytes) ∙ sym (ap (λ (o : Outcome). told length (outcome_reply o)) leaves_is);
               result = bytes ∙ sym (ap (λ (o : Outcome). result_after (outcome_reply o) out) leaves_is);
-              scratch = cleared_all work cl behind longer x.work_room_lem;
+              scratch = cleared_all work cl behind longer x.has_work_room;
             }
 
 -- 10, 11 and 12 are no refusals of the checks: the work buffer is cleared after them

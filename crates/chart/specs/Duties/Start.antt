@@ -32,8 +32,8 @@ pub record Startable (pack : List ℕ) (first nodes fluents characters : ℕ) (c
   pub end : ℕ
   pub read : NodesFrom pack first end nodes fluents characters table
   pub fit : ChartFits characters read.dimensions.domains table
-  pub chart_room_lem : chart_room ≤ length chart
-  pub work_room_lem : work_room ≤ length work
+  pub has_chart_room : chart_room ≤ length chart
+  pub has_work_room : work_room ≤ length work
 
 -- the chart of what node 0 means is written, and the work buffer cleared
 pub record StartPut (characters : ℕ) (table : List Node) (chart chart' work work' : List ℕ) (r : ℕ) : Type 0 where

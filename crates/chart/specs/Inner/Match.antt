@@ -36,7 +36,7 @@ pub record Matchable (work : List ℕ) (n m f c : ℕ) (chain : List ℕ) : Type
   pub slim : (f + c ≤ 30) × (c ≤ 6)
   pub sound : Sound work (n + m) (f + c) f c 1
   pub room : work_room ≤ length work
-  pub chain_room_lem : chain_room ≤ length chain
+  pub has_chain_room : chain_room ≤ length chain
 
 -- the verdict is handed back, and its chain written
 pub record Said (v : Verdict) (was now : List ℕ) (r : Matched) : Type 0 where

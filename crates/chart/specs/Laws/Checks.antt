@@ -75,7 +75,7 @@ pub record Accepted (pack places : List ℕ) (charts : List (List ℕ)) (p : Con
   pub read : charts_of the_pack.theory charts ≡ gives tables
   pub long : map length tables ≡ ns
   pub enough_there : enough ≡ true
-  pub in_range_lem : in_range ≡ true
+  pub is_in_range : in_range ≡ true
 
 module _ {A : Type 0} {pack places : List ℕ} (charts : List (List ℕ)) {p : Contents} (got : PackRead pack places p)
     (enough in_range : Bool)
@@ -168,7 +168,7 @@ module _ {A : Type 0} {pack places : List ℕ} (charts : List (List ℕ)) {p : C
             read = f;
             long = refl;
             enough_there = g;
-            in_range_lem = h;
+            is_in_range = h;
           },
           r,
         )

@@ -157,7 +157,7 @@ pub record Seeking (th : Theory) (T : List Node) (pack places : List ℕ) (h : C
   pub foreseen : (0 < foresight) × (foresight ≤ 6)
   pub laid : Laid h
   pub slots : Free h 0 (1 + story + (1 + foresight) * nesting)
-  pub list_room_lem : list_room ≤ length list
+  pub has_list_room : list_room ≤ length list
   pub room : work_room ≤ length work
 
 abbrev pub Seekable : (pack places : List ℕ) (h : Context) (first nodes story foresight nesting : ℕ)

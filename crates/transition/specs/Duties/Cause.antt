@@ -1,5 +1,5 @@
 -- Effects at a place of the pack, and who takes part in what happens. Assumes nothing.
-use Rattle.std.specs.Prelude.{◌≡◌, Bool, true, false, ◌||◌, ◌≢◌, List, [], ◌∷◌, ℕ, ◌+◌, ◌<◌, ◌≤◌, length, get_or, eqb}
+use Rattle.std.specs.Prelude.{◌≡◌, Bool, true, ◌≢◌, List, [], ℕ, ◌+◌, ◌<◌, ◌≤◌, length, get_or, eqb}
 use Rattle.pack.specs.Syntax.{Condition, Effect, Node}
 use Rattle.pack.specs.State.{State, meaning}
 use Rattle.pack.specs.Condition.{holds, write}

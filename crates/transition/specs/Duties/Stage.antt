@@ -25,7 +25,7 @@ made_at = 40756
 -- a table and a slot lie below the scratch
 pub record StageRoom (work : List ℕ) (t : Table) (slot : ℕ) : Type 0 where
   pub source : t.rows + t.nodes * t.width ≤ scratch_at
-  pub slot_room_lem : slot + slot_room t.width ≤ scratch_at
+  pub has_slot_room : slot + slot_room t.width ≤ scratch_at
   pub room : work_room ≤ length work
 
 -- only the slot, for rows of w bytes, and the scratch have changed

@@ -1,6 +1,6 @@
 -- The triggers of a pack, found where they are marked, and which of them holds in each row. Assumes nothing.
 use Rattle.std.specs.Prelude.{◌≡◌, Bool, true, false, List, ℕ, ◌+◌, ◌*◌, ◌<◌, ◌≤◌, length, get_or}
-use Rattle.std.proofs.Math.Option.{Option, none, some}
+use Rattle.std.proofs.Math.Option.{Option}
 use Rattle.pack.specs.Syntax.{Trigger, Node}
 use Rattle.pack.specs.State.{State, meaning}
 use Rattle.pack.specs.Grammar.{longest_pack, Dimensions}

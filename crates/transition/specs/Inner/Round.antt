@@ -46,7 +46,7 @@ pub record SlotTable (work : List ℕ) (t : Table) (slot : ℕ) : Type 0 where
   pub count : get_or work slot 0 ≡ t.nodes
   pub rows : t.rows ≡ slot + 1
   pub ordered : Ordered t.characters (table_of t work)
-  pub slot_room_lem : slot + slot_room t.width ≤ scratch_at
+  pub has_slot_room : slot + slot_room t.width ≤ scratch_at
   pub room : work_room ≤ length work
 
 -- everyone takes part in what happens in row 0

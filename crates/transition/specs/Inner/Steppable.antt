@@ -23,7 +23,7 @@ pub record Stepping (p : Theory) (T : List Node) (pack places : List ℕ) (actio
   pub fit : ChartFits p.characters p.domains T
   pub kept : (U : List Node) → step_table p T action ≡ leaves U → ChartFits p.characters p.domains U
   pub out_room : chart_room ≤ length out
-  pub work_room_lem : work_room ≤ length work
+  pub has_work_room : work_room ≤ length work
 
 abbrev pub Steppable : (pack places : List ℕ) (triggers action : ℕ) (chart : List ℕ) (nodes fluents characters : ℕ)
     (out work : List ℕ)

@@ -1,6 +1,6 @@
 -- Each of Step's outcomes is met: an action that may always be played and writes nothing leaves every state as it is,
 -- is refused with 11 where a trigger always holds, and with 12 where each further belief is another. Assumes nothing.
-use Rattle.std.specs.Prelude.{ℕ, zero, suc, ◌<◌, ◌≤◌, ◌≡◌, Bool, true, false, cond, length, get_or}
+use Rattle.std.specs.Prelude.{ℕ, zero, suc, ◌≤◌, ◌≡◌, Bool, true, false, cond, length, get_or}
 use Rattle.std.proofs.Math.Path.{refl, ap, fun_ext}
 use Rattle.std.proofs.Common.{sym, ◌∙◌, subst, arith}
 use Rattle.std.proofs.Math.Option.{Option, none, some}
@@ -13,7 +13,7 @@ use Rattle.chart.specs.States.{AtMost}
 use Rattle.chart.specs.Laws.Count.{count, all, count_all, count_inj}
 use Rattle.chart.specs.Laws.Lists.{place}
 use Rattle.transition.specs.Happening.{at_root, change, observes, act, firing, fires, round}
-use Rattle.transition.specs.Happening.{Quiet, Settles, Stops, action_of, Plays, Refuses}
+use Rattle.transition.specs.Happening.{Quiet, Settles, Stops, Plays, Refuses}
 
 -- an alternative without tests
 abbrev always : Condition
@@ -128,9 +128,8 @@ unfolding AtMost
 deepening-many n (reached, few, covers) =
     let more : count all (suc n)
     ≤ count all (length reached) = count_inj all all (λ i j. length (get_or reached j []) ≡ i) (suc n) (length reached)
-    (λ i l u. let (r, m, e) = covers (onward i) (onward_valid i) in
-    let (j, in_range_lem, same) = place reached [] r m in
-    (j, in_range_lem, tt, ap length same ∙ sym (length_there (onward i) r e) ∙ onward_length i))
+    (λ i l u. let (r, m, e) = covers (onward i) (onward_valid i) in let (j, is_in_range, same) = place reached [] r m in
+    (j, is_in_range, tt, ap length same ∙ sym (length_there (onward i) r e) ∙ onward_length i))
     (λ i j k l m u e f. absurd (omega (arith, e, f))) in
     omega (arith, more, count_all (suc n), count_all (length reached))
 

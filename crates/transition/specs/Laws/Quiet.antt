@@ -1,10 +1,10 @@
 -- Whether a trigger fires somewhere, read off a table. Assumes nothing.
 use Rattle.std.specs.Prelude.{ℕ, ◌<◌, ◌≡◌, ◌↔◌, List, length}
-use Rattle.std.proofs.Common.{sym, ◌∙◌, arith}
+use Rattle.std.proofs.Common.{sym, ◌∙◌}
 use Rattle.std.proofs.Math.Path.{ap}
-use Rattle.std.proofs.Math.Option.{Option, none, some}
+use Rattle.std.proofs.Math.Option.{Option}
 use Rattle.pack.specs.State.{State, meaning, Closed, walk}
-use Rattle.pack.specs.Syntax.{Theory, Trigger, Node}
+use Rattle.pack.specs.Syntax.{Theory, Node}
 use Rattle.pack.specs.Laws.Table.{after-walk, walk_inside}
 use Rattle.chart.specs.Laws.Counted.{there, Reached}
 use Rattle.transition.specs.Happening.{Quiet, firing}

@@ -1,5 +1,5 @@
 -- Step is decided on a state that a table means, and it gives one outcome. Assumes nothing.
-use Rattle.std.specs.Prelude.{ℕ, ◌≡◌, refl, ◌↔◌, length}
+use Rattle.std.specs.Prelude.{ℕ, ◌≡◌, refl, length}
 use Rattle.std.proofs.Common.{sym, ap, subst, ⊎_elim, arith}
 use Rattle.std.proofs.Math.Logic.{by_cases}
 use Rattle.std.proofs.Math.Decide.{dec_lt}

@@ -9,7 +9,6 @@ use mathlib.Core.List.{List, [], ◌∷◌, ◌++◌, map, Memᴰ}
 use Rattle.std.proofs.Math.ListN.{length}
 use Rattle.pack.specs.State.{State, meaning, target, Closed}
 use Rattle.pack.specs.Syntax.{Action, Trigger, Effect, Node}
-use Rattle.pack.specs.Laws.Table.{means}
 use Rattle.chart.specs.Laws.Lists.{below, map_in, map_out, below_in, below_out}
 use Rattle.chart.specs.Laws.Tabled.{enumerated, tabled_same, Tabled}
 use Rattle.transition.specs.Happening.{act, change, fires, observes, round}

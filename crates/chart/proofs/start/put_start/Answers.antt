@@ -5,10 +5,10 @@ use Rattle.chart.proofs.MergedStart.{start_writes, start_put}
 use Rattle.chart.proofs.start.put_start.Goals as goal
 
 pub copy_table-requires : goal.copy_table-requires
-copy_table-requires c = read_copies c.requires.read c.requires.work_room_lem
+copy_table-requires c = read_copies c.requires.read c.requires.has_work_room
 
 pub merge_table-rows-requires : goal.merge_table-rows-requires
-merge_table-rows-requires c = read_merges c.requires.read c.requires.work_room_lem c.copy_table.ensures
+merge_table-rows-requires c = read_merges c.requires.read c.requires.has_work_room c.copy_table.ensures
 
 pub write_chart-length-requires : goal.write_chart-length-requires
 write_chart-length-requires c =

@@ -25,7 +25,7 @@ table-in-requires c κs =
     let at-lay-start = c.before.before.before in
     let start = at-lay-start.before.before.before.before.before.before in
     let (th, (T, x)) = start.requires in
-    (omega (arith, x.room, at-lay-start.lay-start.auto), omega (arith, x.theorized.small.characters, x.theorized.small.fluents, x.same-characters, x.same-fluents))
+    (omega (arith, x.room, at-lay-start.lay-start.auto), omega (arith, x.theorized.small.characters, x.theorized.small.fluents, x.same_characters, x.same_fluents))
 
 shared-slice-read-utility : tie.Need-shared-slice-read-utility
 shared-slice-read-utility c =
@@ -70,7 +70,7 @@ deepen-requires c κs =
     let (th, (T, x)) = start.requires in
     let y = at-lay-start.lay-start.ensures T (seek_laying x) in
     let long = at-lay-start.lay-start.auto.1.1.1.0 in
-    ((th, (seek_table x y long, (seek_slot x y long, seek_memory x y long, y.starts.0, seek_base x y long (worth at-utility x)))), x.foreseen.0, x.foreseen.1, x.storied, x.list-room, x.slots)
+    ((th, (seek_table x y long, (seek_slot x y long, seek_memory x y long, y.starts.0, seek_base x y long (worth at-utility x)))), x.foreseen.0, x.foreseen.1, x.storied, x.has_list_room, x.slots)
 
 clear-requires : tie.Need-clear-requires
 clear-requires c κs =

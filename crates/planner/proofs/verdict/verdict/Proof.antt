@@ -37,7 +37,7 @@ verdict-spec =
     let start = at-shared-slice-known.before in
     let a = start.args in
     let u = at-check-under.check-under in
-    let i = at-in-range.in-range in
+    let i = at-in-range.is_in_range in
     let l = at-check-lent.check-lent in
     let ranges = judge_ranges a.chart.now a.character a.action a.k.0 a.e.0 a.work.now at-read-pack.read-pack.ensures u.result u.ensures i.result i.ensures l.result l.ensures
     (λ i. omega (arith, at-shared-slice-known.shared-slice-known.given i)) (λ i. omega (arith, at-shared-slice-known2.shared-slice-known2.given i)) (omega (arith, at-read-pack.read-pack.auto)) _ _ at_n.n.given.1 in
@@ -53,7 +53,7 @@ verdict-spec =
     let start = at-shared-slice-known.before in
     let a = start.args in
     let u = at-check-under.check-under in
-    let i = at-in-range.in-range in
+    let i = at-in-range.is_in_range in
     let l = at-check-lent.check-lent in
     let sizes = judge_sizes a.chart.now a.character a.action a.k.0 a.e.0 a.work.now at-read-pack.read-pack.ensures u.result u.ensures i.result i.ensures l.result l.ensures
     (λ i. omega (arith, at-shared-slice-known.shared-slice-known.given i)) (λ i. omega (arith, at-shared-slice-known2.shared-slice-known2.given i)) (omega (arith, at-read-pack.read-pack.auto)) _ _ at_n.n.given.1 in
@@ -69,7 +69,7 @@ verdict-spec =
     let start = at-shared-slice-known.before in
     let a = start.args in
     let u = at-check-under.check-under in
-    let i = at-in-range.in-range in
+    let i = at-in-range.is_in_range in
     let l = at-check-lent.check-lent in
     let sizes = judge_sizes a.chart.now a.character a.action a.k.0 a.e.0 a.work.now at-read-pack.read-pack.ensures u.result u.ensures i.result i.ensures l.result l.ensures
     (λ i. omega (arith, at-shared-slice-known.shared-slice-known.given i)) (λ i. omega (arith, at-shared-slice-known2.shared-slice-known2.given i)) (omega (arith, at-read-pack.read-pack.auto)) _ _ at_n.n.given.1 in
@@ -85,7 +85,7 @@ verdict-spec =
     let start = at-shared-slice-known.before in
     let a = start.args in
     let u = at-check-under.check-under in
-    let i = at-in-range.in-range in
+    let i = at-in-range.is_in_range in
     let l = at-check-lent.check-lent in
     judge_sizes a.chart.now a.character a.action a.k.0 a.e.0 a.work.now at-read-pack.read-pack.ensures u.result u.ensures i.result i.ensures l.result l.ensures
     (λ i. omega (arith, at-shared-slice-known.shared-slice-known.given i)) (λ i. omega (arith, at-shared-slice-known2.shared-slice-known2.given i)) (omega (arith, at-read-pack.read-pack.auto)) _ _ at_n.n.given.1)
@@ -102,7 +102,7 @@ verdict-spec =
     let start = at-shared-slice-known.before in
     let a = start.args in
     let u = at-check-under.check-under in
-    let i = at-in-range.in-range in
+    let i = at-in-range.is_in_range in
     let l = at-check-lent.check-lent in
     judge_able a.chart.now a.character a.action a.k.0 a.e.0 a.work.now at-read-pack.read-pack.ensures u.result u.ensures i.result i.ensures l.result l.ensures
     (λ i. omega (arith, at-shared-slice-known.shared-slice-known.given i)) (λ i. omega (arith, at-shared-slice-known2.shared-slice-known2.given i)) (omega (arith, at-read-pack.read-pack.auto)) _ _ at_n.n.given.1 at-laid-out.laid_out.result at-laid-out.laid_out.ensures)
@@ -115,7 +115,7 @@ verdict-spec =
     let start = at-read-pack.before.before.before.before.before in
     let a = start.args in
     let u = at-check-under.check-under in
-    let i = at-in-range.in-range in
+    let i = at-in-range.is_in_range in
     let l = at-check-lent.check-lent in
     judge_refused a.chart.now a.character a.action a.k.0 a.e.0 a.work.now at-read-pack.read-pack.ensures u.result u.ensures i.result i.ensures l.result l.ensures _ _ at-number.number.given.1)
     (λ c. search rules)
@@ -132,7 +132,7 @@ verdict-spec =
     let start = at-shared-slice-known.before in
     let a = start.args in
     let u = at-check-under.check-under in
-    let i = at-in-range.in-range in
+    let i = at-in-range.is_in_range in
     let l = at-check-lent.check-lent in
     judge_done a.chart.now a.character a.action a.k.0 a.e.0 a.work.now at-read-pack.read-pack.ensures u.result u.ensures i.result i.ensures l.result l.ensures
     (λ i. omega (arith, at-shared-slice-known.shared-slice-known.given i)) (λ i. omega (arith, at-shared-slice-known2.shared-slice-known2.given i)) (omega (arith, at-read-pack.read-pack.auto)) _ _ at_n.n.given.1 at-laid-out.laid_out.result at-laid-out.laid_out.ensures _ _ at-verdict-in.verdict-in.ensures))

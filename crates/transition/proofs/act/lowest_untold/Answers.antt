@@ -1,0 +1,45 @@
+-- The characters below c are told something. Assumes nothing.
+use mathlib.Core.Path.{◌≡◌, refl, sym, ap, ◌∙◌}
+use mathlib.Core.Bool.{true}
+use mathlib.Core.Logic.{inl, inr}
+use mathlib.Core.List.{List}
+use Prim.Native.Nat.{suc}
+use native.Mathlib.Numerals.{add-one}
+use native.Mathlib.Omega.{arith}
+use borrow.Author.Count.{below_more}
+use Rattle.pack.specs.Syntax.{Effect}
+use Rattle.pack.specs.Grammar.{Dimensions}
+use Rattle.pack.specs.Duties.Judge.{Small}
+use Rattle.transition.specs.Duties.Cause.{told, EffectsAt}
+use Rattle.transition.proofs.act.lowest_untold.Goals as goal
+use Rattle.transition.proofs.act.lowest_untold.Goals.{After-tells}
+
+-- what is told of the next character
+here : (c : After-tells) →
+    (d : Dimensions) → Small d → (es : List Effect) → EffectsAt d c.args.pack.now c.args.at es → told es (suc c.loop-c.c) ≡ c.tells.result
+here c d small es x =
+    ap (told es) (sym (add-one c.loop-c.c)) ∙ sym (c.tells.ensures d small es x)
+
+pub loop-c-init : goal.loop-c-init
+loop-c-init c = (omega arith, λ d small es x k l. absurd (omega arith))
+
+pub overflow_add-c : goal.overflow_add-c
+overflow_add-c c = omega (arith, c.requires.1, c.loop-c-test.true)
+
+pub tells-requires : goal.tells-requires
+tells-requires c = c.requires.0
+
+pub returns-then-not-tells : goal.returns-then-not-tells
+returns-then-not-tells c =
+    λ d small es x. record { one = inl (c.loop-c-test.true, here (goal.at.returns-then-not-tells c).After-tells d small es x ∙ c.if-not-tells.true) }
+
+pub overflow_add-c-in-loop-c : goal.overflow_add-c-in-loop-c
+overflow_add-c-in-loop-c c = omega (arith, c.requires.1, c.loop-c-test.true)
+
+pub loop-c-preserved : goal.loop-c-preserved
+loop-c-preserved c =
+    (omega (arith, c.loop-c-test.true), λ d small es x. below_more (λ k. told es (suc k) ≡ true) c.loop-c.c (c.loop-c.invariant.1 d small es x) (here (goal.at.loop-c-preserved c).After-tells d small es x ∙ c.if-not-tells.false))
+
+pub returns : goal.returns
+returns c =
+    λ d small es x. record { one = inr (refl, λ k l. c.loop-c.invariant.1 d small es x k (omega (arith, c.loop-c-test.false))) }

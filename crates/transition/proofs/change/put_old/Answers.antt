@@ -1,0 +1,100 @@
+-- The slots of the characters below d are put. Assumes nothing.
+use mathlib.Core.Path.{◌≡◌, refl, sym, ap, ◌∙◌}
+use Prim.Native.Nat.{ℕ, ◌+◌, ◌*◌, ◌<◌, ◌≤◌}
+use mathlib.Core.List.{List}
+use lib.ListN.{length, length-set, get_or}
+use native.Mathlib.Omega.{arith}
+use Rattle.pack.specs.Syntax.{Node}
+use Rattle.pack.specs.State.{target}
+use Rattle.pack.specs.Grammar.{Dimensions}
+use Rattle.transition.specs.Duties.Cause.{Tabled}
+use Rattle.transition.specs.Laws.ChangedRows.{row_inside, belief_is, belief_in, tabled_same, old_slot, slots_none, slots_more, slots_all, old_put}
+use Rattle.transition.proofs.change.put_old.Goals as goal
+use Rattle.transition.proofs.change.put_old.Goals.{After-struct_known-1, After-struct_known-in-loop-d-1, After-wide-q}
+
+-- the row lies before the place to write to
+place : (s : After-struct_known-1) → (s.args.h.table.rows + s.args.m * s.args.h.table.width + s.args.h.table.fluents + s.args.h.table.characters ≤ s.args.h.table.rows + s.args.h.table.nodes * s.args.h.table.width) × (s.args.h.table.rows + s.args.h.table.nodes * s.args.h.table.width ≤ s.args.to) × (s.args.to + s.args.h.table.fluents + s.args.h.table.characters ≤ length s.args.work.now)
+place s =
+    (row_inside s.requires.0.1 s.args.m s.requires.1, s.requires.3.behind, s.requires.3.room)
+
+-- the table once the values are copied, and in the loop
+copied : (c : After-struct_known-in-loop-d-1) {d : Dimensions} {T : List Node} →
+    Tabled d T c.args.work.now c.args.h.table → Tabled d T c.copy_part.new.work c.args.h.table
+copied c x =
+    tabled_same x (λ q l. c.copy_part.ensures.low q (omega (arith, (let it : (c.args.h.table.rows + c.args.m * c.args.h.table.width + c.args.h.table.fluents + c.args.h.table.characters ≤ c.args.h.table.rows + c.args.h.table.nodes * c.args.h.table.width) × (c.args.h.table.rows + c.args.h.table.nodes * c.args.h.table.width ≤ c.args.to) × (c.args.to + c.args.h.table.fluents + c.args.h.table.characters ≤ length c.args.work.now) = (row_inside c.requires.0.1 c.args.m c.requires.1, c.requires.3.behind, c.requires.3.room) in it)))) c.copy_part.auto.work
+
+here : (c : After-wide-q) {d : Dimensions} {T : List Node} →
+    Tabled d T c.copy_part.new.work c.args.h.table → Tabled d T c.loop-d.work c.args.h.table
+here c x =
+    let (few, long, from, put) = c.loop-d.invariant in
+    tabled_same x (λ q l. (put c.requires.0.0 ((tabled_same c.requires.0.1 (λ q l. c.copy_part.ensures.low q (omega (arith, (let it : (c.args.h.table.rows + c.args.m * c.args.h.table.width + c.args.h.table.fluents + c.args.h.table.characters ≤ c.args.h.table.rows + c.args.h.table.nodes * c.args.h.table.width) × (c.args.h.table.rows + c.args.h.table.nodes * c.args.h.table.width ≤ c.args.to) × (c.args.to + c.args.h.table.fluents + c.args.h.table.characters ≤ length c.args.work.now) = (row_inside c.requires.0.1 c.args.m c.requires.1, c.requires.3.behind, c.requires.3.room) in it)))) c.copy_part.auto.work))).low q (omega (arith, (let it : (c.args.h.table.rows + c.args.m * c.args.h.table.width + c.args.h.table.fluents + c.args.h.table.characters ≤ c.args.h.table.rows + c.args.h.table.nodes * c.args.h.table.width) × (c.args.h.table.rows + c.args.h.table.nodes * c.args.h.table.width ≤ c.args.to) × (c.args.to + c.args.h.table.fluents + c.args.h.table.characters ≤ length c.args.work.now) = (row_inside c.requires.0.1 c.args.m c.requires.1, c.requires.3.behind, c.requires.3.room) in it)))) long
+
+-- a belief's byte names a row
+byte : (c : After-wide-q) {d : Dimensions} {T : List Node} →
+    Tabled d T c.copy_part.new.work c.args.h.table → c.wide-q.result ≡ target T c.args.m c.loop-d.d
+byte c x =
+    let (few, long, from, put) = c.loop-d.invariant in
+    sym c.wide-q.ensures ∙ ap (λ (f : ℕ). get_or c.loop-d.work (f + c.args.h.table.fluents + c.loop-d.d) 0) from ∙ belief_is (here c x) c.args.m c.loop-d.d c.requires.1 c.loop-d-test.true
+
+few : (c : After-wide-q) → c.wide-q.result < 32
+few c =
+    let x = (tabled_same c.requires.0.1 (λ q l. c.copy_part.ensures.low q (omega (arith, (let it : (c.args.h.table.rows + c.args.m * c.args.h.table.width + c.args.h.table.fluents + c.args.h.table.characters ≤ c.args.h.table.rows + c.args.h.table.nodes * c.args.h.table.width) × (c.args.h.table.rows + c.args.h.table.nodes * c.args.h.table.width ≤ c.args.to) × (c.args.to + c.args.h.table.fluents + c.args.h.table.characters ≤ length c.args.work.now) = (row_inside c.requires.0.1 c.args.m c.requires.1, c.requires.3.behind, c.requires.3.room) in it)))) c.copy_part.auto.work) in
+    omega (arith, byte c x, belief_in x _ _ c.requires.1 c.loop-d-test.true, x.few)
+
+pub overflow_mul-from : goal.overflow_mul-from
+overflow_mul-from c = omega (arith, place c)
+
+pub overflow_add-from : goal.overflow_add-from
+overflow_add-from c = omega (arith, place (goal.at.overflow_add-from c).After-struct_known-1)
+
+pub copy_part-requires : goal.copy_part-requires
+copy_part-requires c =
+    (omega (arith, place (goal.at.copy_part-requires c).After-struct_known-1), omega (arith, place (goal.at.copy_part-requires c).After-struct_known-1), omega (arith, place (goal.at.copy_part-requires c).After-struct_known-1))
+
+pub loop-d-init : goal.loop-d-init
+loop-d-init c = (omega arith, refl, refl, λ s x. slots_none _ _ _ _ _)
+
+pub overflow_add-from-in-loop-d : goal.overflow_add-from-in-loop-d
+overflow_add-from-in-loop-d c =
+    omega (arith, place (goal.at.overflow_add-from-in-loop-d c).After-struct_known-1, c.loop-d.invariant.2)
+
+pub overflow_add-from-in-loop-d-2 : goal.overflow_add-from-in-loop-d-2
+overflow_add-from-in-loop-d-2 c =
+    omega (arith, place (goal.at.overflow_add-from-in-loop-d-2 c).After-struct_known-1, c.loop-d.invariant.2, c.loop-d-test.true)
+
+pub bounds-work-from : goal.bounds-work-from
+bounds-work-from c =
+    omega (arith, place (goal.at.bounds-work-from c).After-struct_known-1, c.loop-d.invariant.2, c.loop-d-test.true, c.loop-d.invariant.1, c.copy_part.auto.work)
+
+pub overflow_mul-work : goal.overflow_mul-work
+overflow_mul-work c = omega (arith, few c)
+
+pub overflow_add-work : goal.overflow_add-work
+overflow_add-work c = omega (arith, few (goal.at.overflow_add-work c).After-wide-q, c.requires.2)
+
+pub overflow_cast-work : goal.overflow_cast-work
+overflow_cast-work c = omega (arith, few (goal.at.overflow_cast-work c).After-wide-q, c.requires.2)
+
+pub overflow_add-work-in-loop-d : goal.overflow_add-work-in-loop-d
+overflow_add-work-in-loop-d c =
+    omega (arith, place (goal.at.overflow_add-work-in-loop-d c).After-struct_known-1, c.well_formed.1.0.0)
+
+pub overflow_add-work-in-loop-d-2 : goal.overflow_add-work-in-loop-d-2
+overflow_add-work-in-loop-d-2 c =
+    omega (arith, place (goal.at.overflow_add-work-in-loop-d-2 c).After-struct_known-1, c.well_formed.1.0.0, c.loop-d-test.true)
+
+pub bounds-work-to : goal.bounds-work-to
+bounds-work-to c =
+    omega (arith, place (goal.at.bounds-work-to c).After-struct_known-1, c.loop-d.invariant.1, c.copy_part.auto.work, c.loop-d-test.true)
+
+pub loop-d-preserved : goal.loop-d-preserved
+loop-d-preserved c =
+    let (few, long, from, put) = c.loop-d.invariant in
+    (omega (arith, c.loop-d-test.true), simp length-set long, from, λ s x. slots_more (put s x) (old_slot x _ _ _ c.requires.1 c.loop-d-test.true c.requires.2 _ (byte (goal.at.loop-d-preserved c).After-wide-q x)) (omega (arith, place (goal.at.loop-d-preserved c).After-struct_known-1, long, c.copy_part.auto.work, c.loop-d-test.true)))
+
+pub shape_of-work : goal.shape_of-work
+shape_of-work c = c.loop-d.invariant.1 ∙ c.copy_part.auto.work
+
+pub returns : goal.returns
+returns c =
+    λ s x. let (few, long, from, put) = c.loop-d.invariant in old_put s x c.requires.1 c.copy_part.ensures (slots_all (put s (copied (goal.at.returns c).After-struct_known-in-loop-d-1 x)) few (omega (arith, c.loop-d-test.false)))

@@ -1,0 +1,10 @@
+-- By the first. Assumes nothing.
+use mathlib.Core.Path.{sym, ap}
+use mathlib.Core.Bool.{Bool, ◌||◌}
+use Rattle.transition.proofs.fire.either.Goals as goal
+
+pub returns-then-a : goal.returns-then-a
+returns-then-a c = ap (λ (x : Bool). x || c.args.b) (sym c.if-a.true)
+
+pub returns-else-a : goal.returns-else-a
+returns-else-a c = ap (λ (x : Bool). x || c.args.b) (sym c.if-a.false)

@@ -1,0 +1,64 @@
+-- The condition, part 1, the rounds. Assumes nothing.
+use mathlib.Core.Path.{◌∙◌}
+use native.Mathlib.Omega.{arith}
+use Prim.Native.Nat.{◌*◌}
+use Rattle.transition.proofs.PartOne.{act_places}
+use Rattle.transition.proofs.PlayedInSlot.{play_table, play_judged, play_forbidden, play_many, play_setting, play_slotted, play_settled}
+use Rattle.transition.proofs.step.step_slot.Goals as goal
+
+pub overflow_mul-m : goal.overflow_mul-m
+overflow_mul-m c =
+    let (p, (T, (n, (x, l, i)))) = c.requires in
+    omega (arith, act_places x l)
+
+pub offset_bounds-places-m : goal.offset_bounds-places-m
+offset_bounds-places-m c =
+    let (p, (T, (n, (x, l, i)))) = c.requires in
+    omega (arith, act_places x l)
+
+pub bounds-places-m : goal.bounds-places-m
+bounds-places-m c =
+    let (p, (T, (n, (x, l, i)))) = c.requires in
+    omega (arith, act_places x l)
+
+pub overflow_cast-places : goal.overflow_cast-places
+overflow_cast-places c = omega (arith, c.shared_slice_known-3-1.given (9 * c.args.m.action))
+
+pub holds-may-requires : goal.holds-may-requires
+holds-may-requires c =
+    let (p, (T, (n, (x, l, i)))) = c.requires in
+    play_judged x l _ i
+
+pub returns-then-not-may : goal.returns-then-not-may
+returns-then-not-may c = λ p T n x l i. play_forbidden x l _ i c.holds-may.ensures (c.if-not-may.true)
+
+pub act-nodes-requires : goal.act-nodes-requires
+act-nodes-requires c =
+    let (p, (T, (n, (x, l, i)))) = c.requires in
+    (p, (T, (n, (_, (x, l, i)))))
+
+pub returns-then-nodes-gt32 : goal.returns-then-nodes-gt32
+returns-then-nodes-gt32 c =
+    λ p T n x l i. play_many x l _ i c.holds-may.ensures (c.if-not-may.false) (c.act-nodes.ensures p T n _ x l i) c.act-nodes.auto.work c.if-nodes-gt32.true
+
+pub overflow_add-left : goal.overflow_add-left
+overflow_add-left c =
+    let (p, (T, (n, (x, l, i)))) = c.requires in
+    omega (arith, x.room.has_slot_room)
+
+pub settle-requires : goal.settle-requires
+settle-requires c =
+    let (p, (T, (n, (x, l, i)))) = c.requires in
+    let y = c.act-nodes.ensures p T n _ x l i in
+    let e = c.if-not-may.false in
+    (p, (play_table x l _ i c.holds-may.ensures e y c.act-nodes.auto.work (omega (arith, c.if-nodes-gt32.false)), (n, (play_setting x l _ i c.holds-may.ensures e y c.act-nodes.auto.work (omega (arith, c.if-nodes-gt32.false)), play_slotted x l _ i c.holds-may.ensures e y c.act-nodes.auto.work (omega (arith, c.if-nodes-gt32.false))))))
+
+pub shape_of-work : goal.shape_of-work
+shape_of-work c = c.settle.auto.work ∙ c.act-nodes.auto.work
+
+pub returns : goal.returns
+returns c =
+    let e = c.if-not-may.false in
+    λ p T n x l i.
+    let y = c.act-nodes.ensures p T n _ x l i in
+    play_settled x l _ i c.holds-may.ensures e y c.act-nodes.auto.work (omega (arith, c.if-nodes-gt32.false)) (c.settle.ensures p (play_table x l _ i c.holds-may.ensures e y c.act-nodes.auto.work (omega (arith, c.if-nodes-gt32.false))) n (play_setting x l _ i c.holds-may.ensures e y c.act-nodes.auto.work (omega (arith, c.if-nodes-gt32.false))) (play_slotted x l _ i c.holds-may.ensures e y c.act-nodes.auto.work (omega (arith, c.if-nodes-gt32.false))))
