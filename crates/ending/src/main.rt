@@ -14,8 +14,8 @@ use text::put_answer;
 // What is printed of a pack, put at the start of the text.
 fn ending(pack: &[u8], list: &mut [u8], work: &mut [u8], text: &mut [u8]) -> usize
     requires list_len { length list.old ≡ 8 }
-    requires in_bounds { 49152 ≤ length work.old }
-    requires in_bounds_2 { 385 ≤ length text.old }
+    requires work_len { 49152 ≤ length work.old }
+    requires text_len { 385 ≤ length text.old }
     ensures { Printed pack.now text.new result }
 {
     let answer = search(pack, Story(4), Foresight(3), Nesting(2), list, work);
