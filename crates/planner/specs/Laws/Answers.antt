@@ -1,6 +1,6 @@
 -- Explained's and Search's functions are their relations over chains, and depend on what the table means alone. Assumes
 -- nothing.
-use Rattle.std.specs.Prelude.{ℕ, ◌≡◌, refl, Bool, true, ◌↔◌, List}
+use Rattle.std.specs.Prelude.{ℕ, ◌≡◌, refl, true, ◌↔◌, List}
 use Rattle.std.proofs.Common.{sym, subst, true≢false}
 use Rattle.std.proofs.Math.Bool.{false}
 use Rattle.pack.specs.State.{State, meaning}
