@@ -20,9 +20,11 @@ fn functions<'a>(text: &'a str, before: &str) -> BTreeMap<&'a str, Vec<String>> 
     found.filter(|(name, _)| name.starts_with("pirwodd_")).collect()
 }
 
-/// A parameter of the source, with its slices as pointer and length, in another language.
+/// A parameter of the source, with its slices as pointer and length, in another language. In a contract `result` is what a
+/// function hands back, so that a parameter of that name is `res` in the source.
 fn passed(parameter: &str, number: fn(&str) -> String, pointer: fn(&str, &str) -> [String; 2]) -> Vec<String> {
     let (name, kind) = parameter.split_once(": ").expect("a name and a type");
+    let name = if name == "res" { "result" } else { name };
     match kind {
         "u64" => vec![number(name)],
         slice => pointer(name, slice).to_vec(),

@@ -24,10 +24,6 @@ listed_as y list e l = subst (λ (z : Found). Listed z list) e l
 pub told_as : {x : Found} (y : Found) (list : List ℕ) {text text' : List ℕ} {r : ℕ} → x ≡ y → Put (answer_text y list) text 0 text' r → Put (answer_text x list) text 0 text' r
 told_as y list {text} {text'} {r} e p = subst (λ (z : Found). Put (answer_text z list) text 0 text' r) (sym e) p
 
-pub refused_as : {x : Found} (number place : ℕ) (list : List ℕ) {text text' : List ℕ} {number' r : ℕ} → x ≡ found.Refused number place → number ≡ number' → Put (refusal number' place) text 0 text' r
-    → Put (answer_text x list) text 0 text' r
-refused_as number place list {text} {text'} {r = r} e same p = told_as (found.Refused number place) list e (subst (λ (n : ℕ). Put (refusal n place) text 0 text' r) (sym same) p)
-
 -- what is said of a plan is said of one alone
 said_alone : {s t : Summary} → gives s ≡ gives t → s ≡ t
 said_alone e = cc

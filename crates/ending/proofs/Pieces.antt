@@ -69,10 +69,6 @@ put_more {text} {middle} {text'} {i} {j} {r} {last} (suc most) n h large p e q =
     subst (λ (b : Bool). Put (pick b [] (digits most (n / 10)) ++ ((48 + n % 10) ∷ [])) text i text' r) (sym (le-ltb n 10 large))
     (put-append (subst (λ (m : ℕ). Put (digits m (n / 10)) text i middle j) {x = suc most - 1} {y = most} (omega arith) p) (subst (λ (d : ℕ). Put (d ∷ []) middle j text' r) e q))
 
--- a whole word
-pub put_whole : (word : List ℕ) (i : ℕ) {text text' : List ℕ} {place r : ℕ} → length word ≤ i → Put (take i word) text place text' r → Put word text place text' r
-put_whole word i {text} {text'} {place} {r} h p = subst (λ (l : List ℕ). Put l text place text' r) (take_all i word h) p
-
 -- a number has at most so many digits
 pub digits_most : (most n : ℕ) → length (digits most n) ≤ most
 unfolding digits

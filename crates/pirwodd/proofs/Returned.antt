@@ -35,12 +35,6 @@ put_three a b c (x ∷ []) = refl
 put_three a b c (x ∷ y ∷ []) = refl
 put_three a b c (x ∷ y ∷ z ∷ report) = refl
 
--- an entry that isn't there isn't stored
-pub set_beyond : (report : List ℕ) (at n : ℕ) → length report ≤ at → report ≡ set report at n
-set_beyond [] at n h = refl
-set_beyond (entry ∷ report) zero n h = absurd (omega arith)
-set_beyond (entry ∷ report) (suc at) n h = ap {B = List ℕ} (λ r. entry ∷ r) (set_beyond report at n (omega arith))
-
 take_all : (work : List ℕ) → take (length work) work ≡ work
 take_all [] = refl
 take_all (x ∷ work) = ap {B = List ℕ} (λ r. x ∷ r) (take_all work)
@@ -62,18 +56,9 @@ unfolding work_after
 told-after f (gives a) work = refl
 told-after f (refuses k p) work = refl
 
--- what is told of an answer, where its case is known
-pub answer_told : {X A : Type 0} (said : X → Reply A) (tells : A → List ℕ) {x : X} (y : X) (report : List ℕ) {report' : List ℕ} {r : ℕ} → x ≡ y → r ≡ number_of (told tells (said y))
-    → report' ≡ put (entries (told tells (said y))) report → (r ≡ number_of (told tells (said x))) × (report' ≡ put (entries (told tells (said x))) report)
-answer_told {X} said tells y report {report'} {r} e n t = subst (λ (z : X). (r ≡ number_of (told tells (said z))) × (report' ≡ put (entries (told tells (said z))) report)) (sym e) (n, t)
-
 -- how much of the work buffer is lent
 abbrev room : (b : Bool) (work : List ℕ) → ℕ
 room b work = pick b (length work) 0
-
-within : (b : Bool) (work : List ℕ) → room b work ≤ length work
-within true work = omega arith
-within false work = omega arith
 
 lent_seen : (b : Bool) (work : List ℕ) → take (room b work) work ≡ pick b work []
 lent_seen true work = take_all work
@@ -104,9 +89,6 @@ whole_back x true work part e h = ap {B = List ℕ} (λ (l : List ℕ). part ++ 
 whole_back x false work part e h = let n : part ≡ [] = empty part h in ap {B = List ℕ} (λ (l : List ℕ). l ++ work) n ∙ unchanged x work (sym n ∙ e)
 
 module _ (report work : List ℕ) (k : ℕ) (lends : k ≡ room (fits report_room report) work) where
-  pub lent_within : k ≤ length work
-  lent_within = subst (λ (k : ℕ). k ≤ length work) (sym lends) (within (fits report_room report) work)
-
   -- what is lent is what the call sees
   sees : take k work ≡ seen report work
   sees = ap (λ (k : ℕ). take k work) lends ∙ lent_seen (fits report_room report) work

@@ -23,7 +23,8 @@ pub record StartReturned (pack chart work report chart' work' report' : List ℕ
 -- pirwodd_query(pack, chart, chain, fluent, work, report): "gives its value where the chain leads"
 pub record QueryReturned (pack chart chain : List ℕ) (fluent : ℕ) (work report work' report' : List ℕ)
     (r : ℕ) : Type 0 where
-  pub returned : Returned (told one (query_reply pack chart chain fluent (seen report work))) work report work' report' r
+  pub returned : Returned (told one (query_reply pack chart chain fluent (seen report work)))
+      work report work' report' r
 
 -- 0 for "same"; else 1, the chain's length and the fluent
 abbrev pub match_numbers : Difference → List ℕ
@@ -40,8 +41,8 @@ pub record CompareReturned (pack first second chain work report chain' work' rep
 -- pirwodd_step(pack, chart, action, chart out, work, report): "its length is given with it"
 pub record StepReturned (pack chart : List ℕ) (action : ℕ) (out work report out' work' report' : List ℕ)
     (r : ℕ) : Type 0 where
-  pub returned : Returned (told (λ bytes. one (length bytes)) (step_reply pack chart action out (seen report work))) work
-      report work' report' r
+  pub returned : Returned (told (λ bytes. one (length bytes)) (step_reply pack chart action out (seen report work)))
+      work report work' report' r
   pub result : out' ≡ result_after (step_reply pack chart action out (seen report work)) out
 
 -- 1 for yes, 0 for no

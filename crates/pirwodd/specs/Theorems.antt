@@ -97,7 +97,8 @@ accepted_exactly = pack_exactly
 
 -- 2. "two states over equally many characters and fluents are written as equal charts exactly when no chain of beliefs
 -- of any length tells them apart"
-pub equal_charts : (C : ℕ) (D D' : List ℕ) → C ≤ 6 → length D ≤ 24 → length D ≡ length D' → ((f : ℕ) → get_or D f 0 ≤ 128)
+pub equal_charts : (C : ℕ) (D D' : List ℕ) → C ≤ 6 → length D ≤ 24 → length D ≡ length D'
+    → ((f : ℕ) → get_or D f 0 ≤ 128)
     → ((f : ℕ) → get_or D' f 0 ≤ 128)
     → (s s' : State) (bytes bytes' : List ℕ) → ChartOf C D s bytes → ChartOf C D' s' bytes'
     → (bytes ≡ bytes') ↔ ((chain : List ℕ) → Valid C chain → s chain ≡ s' chain)
@@ -349,7 +350,8 @@ module _ {pack : List ℕ} {p : Pack} (given : Given pack p) where
     explained_is = explained_says given chart t read c a K e who there k1 k6 e3 work enough
 
     -- "otherwise it is no"
-    pub unexplained_is : (explained_reply pack chart c a K e work ≡ gives false) ↔ (¬ Explained theory K e c a (state t))
+    pub unexplained_is : (explained_reply pack chart c a K e work ≡ gives false)
+        ↔ (¬ Explained theory K e c a (state t))
     unexplained_is = explained_denies given chart t read c a K e who there k1 k6 e3 work enough
 
     -- what Explained hands back

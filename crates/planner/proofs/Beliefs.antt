@@ -1,26 +1,25 @@
 -- What a character believes, laid out as a table of its own. Assumes nothing.
 use Prim.Native.Nat.{ℕ, ◌+◌, ◌*◌, ◌<◌, ◌≤◌}
 use mathlib.Core.Path.{◌≡◌, refl, sym, ap, ◌∙◌, subst}
-use mathlib.Core.Logic.{◌≢◌}
 use mathlib.Core.List.{List}
 use native.Mathlib.Nat.{mul-le-mul_right}
 use native.Mathlib.Omega.{arith}
 use lib.ListN.{length, get_or, set, length-set}
 use lib.Seq.{get_or-set_same, get_or-set_other}
 use Rattle.pack.specs.Syntax.{Node, Theory}
-use Rattle.pack.specs.State.{State, belief, meaning, Closed}
+use Rattle.pack.specs.State.{State, meaning, Closed}
 use Rattle.pack.specs.Duties.Table.{rows_at, table_of}
 use Rattle.chart.specs.Duties.Numbers.{Laid, Sound, Copied}
 use Rattle.chart.specs.Duties.Put.{Apart, PartCopied}
 use Rattle.chart.specs.Laws.Cells.{rows_same}
 use Rattle.transition.specs.Duties.Stage.{scratch_at}
-use Rattle.transition.specs.Laws.ChangedRows.{small, belief_is, belief_in}
+use Rattle.transition.specs.Laws.ChangedRows.{belief_is, belief_in}
 use Rattle.planner.specs.declared.limits.Context.{Context}
 use Rattle.planner.specs.Inner.Lists.{slot_table}
-use Rattle.planner.specs.Inner.Memory.{id_at, taken_at, tables_at, Memory, Slot}
+use Rattle.planner.specs.Inner.Memory.{id_at, Memory, Slot}
 use Rattle.planner.specs.Inner.Explain.{Stage, Free, BeliefAt}
 use Rattle.planner.proofs.TrueMemory.{memory_apart, nameless, nameless_only, memory_nameless}
-use Rattle.planner.proofs.Explanations.{stage_next, stage_slot, stage_same, stage_believed}
+use Rattle.planner.proofs.Explanations.{stage_next, stage_slot, stage_same}
 
 module _ {th : Theory} {T : List Node} {pack places : List ℕ} {h : Context} {was : List ℕ} (slot : ℕ) (x : Stage th T pack places h was (slot_table h was slot) (slot + h.stride)) (f : Free h slot 2) where
   abbrev n : ℕ

@@ -1,24 +1,21 @@
 -- Cells: where they lie, that what is found in one is true, and what putting something into one leaves. Assumes nothing.
-use Prim.Native.Nat.{ℕ, zero, suc, ◌+◌, ◌*◌, ◌-◌, ◌/◌, ◌%◌, ◌<◌, ◌≤◌}
+use Prim.Native.Nat.{ℕ, ◌+◌, ◌*◌, ◌-◌, ◌/◌, ◌%◌, ◌<◌, ◌≤◌}
 use mathlib.Core.Path.{◌≡◌, refl, sym, ap, ◌∙◌, subst}
 use mathlib.Core.Logic.{◌≢◌, ◌⊎◌, inl, inr, ⊎_elim, by_cases}
 use mathlib.Core.List.{List}
-use native.Mathlib.Decide.{ℕ_discrete, dec_le, dec_lt}
-use native.Mathlib.Nat.{div-add-mod, mod-lt, mul-le-mul_right, mul-le-mul_left}
+use native.Mathlib.Decide.{ℕ_discrete, dec_lt}
+use native.Mathlib.Nat.{div-add-mod, mod-lt, mul-le-mul_right}
 use native.Mathlib.Omega.{arith}
 use lib.ListN.{length, get_or, set}
 use lib.Seq.{get_or-set_other}
 use Rattle.pack.specs.Syntax.{Theory}
-use Rattle.pack.specs.State.{State}
-use Rattle.pack.specs.Duties.Table.{table_of, state_of}
-use Rattle.pack.specs.declared.table.Table.{Table}
-use Rattle.chart.specs.Call.{work_room}
+use Rattle.pack.specs.Duties.Table.{state_of}
 use Rattle.chart.specs.Duties.Put.{PartCopied}
 use Rattle.transition.specs.Duties.Stage.{scratch_at}
 use Rattle.planner.specs.declared.limits.Context.{Context}
 use Rattle.planner.specs.declared.entry.Key.{Key}
 use Rattle.planner.specs.Inner.Lists.{slot_table}
-use Rattle.planner.specs.Inner.Memory.{Laid, id_at, taken_at, heads_at, links_at, steps_at, tables_at, key_at, Fact, Memory, Before, InSlot, Only, Spent, CellFact, Cells, cell_size, cell_at, Bucket, table_sum, bucket_at, rank_at, Holds, FoundIn, CellPut, CellKept, KeyPut, Recalled, Remembered}
+use Rattle.planner.specs.Inner.Memory.{Laid, id_at, taken_at, heads_at, links_at, steps_at, Fact, Memory, Before, Spent, CellFact, Cells, cell_size, cell_at, Bucket, table_sum, bucket_at, rank_at, Holds, FoundIn, CellPut, CellKept, KeyPut, Recalled, Remembered}
 use Rattle.planner.proofs.Chains.{table_moved, grown_same}
 use Rattle.planner.proofs.TrueMemory.{fact_same, fact_none, key_same, rows_mean, stride_on, cell_same, memory_but}
 

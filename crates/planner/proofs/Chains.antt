@@ -1,6 +1,6 @@
 -- Chains of ids: what leaves them as they are, what an id in front of one adds, and that a table that is kept is found
 -- under one id. Assumes nothing.
-use Prim.Native.Nat.{ℕ, zero, suc, ◌+◌, ◌*◌, ◌-◌, ◌%◌, ◌<◌, ◌≤◌}
+use Prim.Native.Nat.{ℕ, zero, suc, ◌+◌, ◌*◌, ◌%◌, ◌<◌, ◌≤◌}
 use mathlib.Core.Path.{◌≡◌, refl, sym, ap, ◌∙◌, subst}
 use mathlib.Core.Logic.{◌≢◌, ◌⊎◌, inl, inr, ⊎_elim, by_cases}
 use mathlib.Core.List.{List}
@@ -17,7 +17,7 @@ use Rattle.chart.specs.Laws.Sums.{sum_of, sum_same}
 use Rattle.transition.specs.Duties.Stage.{scratch_at}
 use Rattle.planner.specs.declared.limits.Context.{Context}
 use Rattle.planner.specs.Inner.Lists.{slot_table}
-use Rattle.planner.specs.Inner.Memory.{Laid, taken_at, heads_at, steps_at, links_at, tables_at, kept_at, kept_table, Inside, head_at, Behind, OnChain, Kept, Alike, HasId, Chained, Before, Only, FoundOn, Linked, Placed}
+use Rattle.planner.specs.Inner.Memory.{taken_at, heads_at, steps_at, links_at, tables_at, kept_at, kept_table, Inside, head_at, Behind, OnChain, Alike, HasId, Chained, Before, FoundOn, Linked}
 use Rattle.planner.proofs.SameBytes.{named_bytes}
 
 -- tables that are kept stay as they are

@@ -40,7 +40,7 @@ use Rattle.planner.specs.declared.entry.Key.{Key}
 use Rattle.planner.specs.Ending.{Leads, Explained, utility_to}
 use Rattle.planner.specs.Inner.Lists.{counted, slot_table, Other, AboveBy, AboveBySome, ExplainedBy, Agreed}
 use Rattle.planner.specs.Inner.Lists as inner
-use Rattle.planner.specs.Inner.Memory.{taken_at, steps_at, kept_table, HasId, StepFact, StepEntry, Memory, Fact, Place, Before, InSlot, Only, Interning, StepRead, Noted, Slot, Again, LeftNoted}
+use Rattle.planner.specs.Inner.Memory.{steps_at, kept_table, HasId, StepFact, StepEntry, Memory, Fact, Place, Before, InSlot, Only, Interning, StepRead, Noted, Slot, Again, LeftNoted}
 use Rattle.planner.specs.Inner.Explain.{Stage, Free, Told, Advanced}
 use Rattle.planner.proofs.TrueMemory.{unspent, fact_same, rows_mean, before_now, named_state, memory_apart, memory_fewer, nameless, nameless_only, memory_nameless}
 

@@ -11,7 +11,7 @@ use lib.ListN.{get_or}
 use borrow.Author.Tests.{ltb-false}
 use Rattle.pack.specs.Reading.{pick}
 use Rattle.pack.specs.declared.contents.Contents.{Contents}
-use Rattle.transition.specs.Duties.Stage.{slot_room, scratch_at}
+use Rattle.transition.specs.Duties.Stage.{slot_room}
 use Rattle.planner.specs.declared.limits.Context.{Context}
 use Rattle.planner.specs.declared.limits.Foresight.{Foresight}
 use Rattle.planner.specs.Inner.Layout.{entries, room_behind, laid_out}

@@ -5,7 +5,7 @@ use mathlib.Core.Bool.{Bool, true, false}
 use mathlib.Core.Logic.{◌≢◌, ◌⊎◌, inl, inr, ⊎_elim, by_cases}
 use mathlib.Core.List.{List}
 use native.Mathlib.Decide.{ℕ_discrete, dec_le}
-use native.Mathlib.Nat.{mul_comm, zero-mul, div-add-mod, mod-lt, mul-le-mul_left, mul-le-mul_right}
+use native.Mathlib.Nat.{div-add-mod, mod-lt, mul-le-mul_left, mul-le-mul_right}
 use native.Mathlib.Omega.{arith}
 use lib.ListN.{length, get_or, set, length-set}
 use lib.Seq.{get_or-set_same, get_or-set_other}
@@ -16,16 +16,14 @@ use Rattle.pack.specs.Duties.Table.{rows_at, table_of, state_of}
 use Rattle.pack.specs.declared.table.Table.{Table}
 use Rattle.chart.specs.Chart.{Starts}
 use Rattle.transition.specs.Happening.{Plays}
-use Rattle.chart.specs.Call.{work_room}
 use Rattle.transition.specs.Duties.Stage.{scratch_at}
 use Rattle.chart.specs.Duties.Put.{Cleared, PartCopied}
-use Rattle.chart.specs.Duties.Level.{Agrees, SameByte}
 use Rattle.chart.specs.Laws.Sums.{sum_of, sum_same}
-use Rattle.chart.specs.Laws.Cells.{rows_same, row_in, rows_most}
+use Rattle.chart.specs.Laws.Cells.{rows_same, rows_most}
 use Rattle.planner.specs.declared.limits.Context.{Context}
 use Rattle.planner.specs.declared.entry.Key.{Key}
 use Rattle.planner.specs.Inner.Lists.{slot_table}
-use Rattle.planner.specs.Inner.Memory.{Laid, id_at, taken_at, heads_at, head_at, steps_at, facts_at, links_at, tables_at, kept_at, kept_table, Inside, Behind, OnChain, Kept, Alike, HasId, Chained, StepFact, Fact, key_at, SlotEntry, StepEntry, FactEntry, Memory, slot_id, entry_at, step_at, Place, Before, InSlot, Fits, Only, Unasked, FoundOn, Linked, Placed, Stored, Interning, Identified, Storable, Spent, Roomy, CellFact, Cells, cell_at, cell_size, Holds, CellPut, KeyPut, FactRead, FactKnown, Recalls, Notes, Recalled, Remembered, StepRead, StepKnown, StepPut, Noted, Slot, Again, LeftNoted, StepOnce}
+use Rattle.planner.specs.Inner.Memory.{Laid, id_at, taken_at, heads_at, head_at, steps_at, facts_at, links_at, tables_at, kept_at, kept_table, Behind, OnChain, Kept, Alike, HasId, StepFact, Fact, key_at, SlotEntry, StepEntry, FactEntry, Memory, slot_id, entry_at, step_at, Place, Before, InSlot, Fits, Only, Unasked, FoundOn, Linked, Placed, Stored, Interning, Identified, Storable, Spent, Roomy, CellFact, Cells, cell_at, cell_size, KeyPut, FactRead, FactKnown, Recalls, Notes, Recalled, Remembered, StepRead, StepKnown, StepPut, Noted, Slot, Again, LeftNoted}
 use Rattle.planner.proofs.Chains.{Wider, Grown, kept_from, table_moved, inside_count, inside_table, inside_grown, inside_hash, alike_grown, chain_back, chain_none, grown_same, grown_by, chained_none, alike_hash, id_listed, id_once, found_id, found_exact, linked_wider, linked_grown, behind_here}
 
 -- a mark that says nothing

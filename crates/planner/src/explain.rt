@@ -30,7 +30,7 @@ pub struct Quest {
 }
 
 // Whether a deed is explained: not where there can be no reason for it, else by what is believed.
-#[cycle(allowed_explained_explains_extends_extends_by_fine_judged_via)]
+#[cycle(explaining)]
 pub fn explained(
     pack: &[u8],
     places: &[u16],
@@ -56,7 +56,7 @@ pub fn explained(
 }
 
 // Whether a deed is explained by what row q of the table in a slot means as the belief: as is known or as is found out.
-#[cycle(allowed_explained_explains_extends_extends_by_fine_judged_via)]
+#[cycle(explaining)]
 pub fn judged(
     pack: &[u8],
     places: &[u16],
@@ -88,7 +88,7 @@ pub fn judged(
 }
 
 // As `judged`, by the lists that begin with the action in that belief.
-#[cycle(allowed_explained_explains_extends_extends_by_fine_judged_via)]
+#[cycle(explaining)]
 pub fn explains(
     pack: &[u8],
     places: &[u16],
@@ -132,7 +132,7 @@ pub fn explains(
 }
 
 // Whether some list of at most as many actions as are left leads to the goal from the state in a slot.
-#[cycle(allowed_explained_explains_extends_extends_by_fine_judged_via)]
+#[cycle(explaining)]
 pub fn extends(
     pack: &[u8],
     places: &[u16],
@@ -199,7 +199,7 @@ pub fn mark_of(found: bool) -> u8
 }
 
 // Whether some action, and then some list as `extends` looks for, does.
-#[cycle(allowed_explained_explains_extends_extends_by_fine_judged_via)]
+#[cycle(explaining)]
 pub fn extends_by(
     pack: &[u8],
     places: &[u16],
@@ -234,7 +234,7 @@ pub fn extends_by(
 }
 
 // Whether action x, and then some list as `extends` looks for, does.
-#[cycle(allowed_explained_explains_extends_extends_by_fine_judged_via)]
+#[cycle(explaining)]
 pub fn via(
     pack: &[u8],
     places: &[u16],
@@ -270,7 +270,7 @@ pub fn via(
 }
 
 // Whether the deed's action is explained to each of its consenters other than the one whose deed it is.
-#[cycle(allowed_explained_explains_extends_extends_by_fine_judged_via)]
+#[cycle(explaining)]
 pub fn allowed(
     pack: &[u8],
     places: &[u16],
@@ -300,7 +300,7 @@ pub fn allowed(
 }
 
 // Whether c, if it is another than that one, has it explained.
-#[cycle(allowed_explained_explains_extends_extends_by_fine_judged_via)]
+#[cycle(explaining)]
 pub fn fine(
     pack: &[u8],
     places: &[u16],

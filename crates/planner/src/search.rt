@@ -60,7 +60,7 @@ pub struct Nodes {
 
 // The author's utility at the end of the earliest list of exactly as many actions as are left, from the state in the
 // slot behind `done` others, that leads to the goal; the list is put down from `done` on. Or 0.
-#[cycle(completes_completes_after_completes_by)]
+#[cycle(completing)]
 pub fn completes(
     pack: &[u8],
     places: &[u16],
@@ -130,7 +130,7 @@ pub fn repeats(work: &[u8], p: Context, slot: usize, done: usize) -> bool
 }
 
 // As `completes`, of the lists of one action more.
-#[cycle(completes_completes_after_completes_by)]
+#[cycle(completing)]
 pub fn completes_after(
     pack: &[u8],
     places: &[u16],
@@ -177,7 +177,7 @@ pub fn ends(pack: &[u8], places: &[u16], p: Context, work: &[u8], slot: usize, b
 }
 
 // As `completes`, of the lists of one action more that begin with x.
-#[cycle(completes_completes_after_completes_by)]
+#[cycle(completing)]
 pub fn completes_by(
     pack: &[u8],
     places: &[u16],

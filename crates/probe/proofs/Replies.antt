@@ -1,9 +1,8 @@
 -- What the pack reader's answer says of the reply, and what a chart's count is under it. Assumes nothing.
-use Prim.Native.Nat.{ℕ, ◌≤◌}
+use Prim.Native.Nat.{ℕ}
 use mathlib.Core.Path.{◌≡◌, refl, sym, ap, ◌∙◌}
 use mathlib.Core.List.{List}
-use native.Mathlib.Omega.{arith}
-use lib.ListN.{length, take, length-take}
+use lib.ListN.{length, take}
 use Rattle.pack.specs.Syntax.{Pack}
 use Rattle.pack.specs.Reading.{Reply, gives, refuses, with, told, whole}
 use Rattle.pack.specs.Grammar.{nodes_at, pack_of, chart_of, in_chart}
@@ -45,13 +44,6 @@ accepted s places r n h e =
     record { pack = g.value; is = g.is; found = h.found g.value g.is }
 
 module _ (s places : List ℕ) (r : Contents) (a : Accepted s places r) where
-  -- as many domain sizes are kept as there are fluents
-  pub fluents_taken : r.fluents ≡ length (take r.fluents r.sizes)
-  fluents_taken = sym a.found.fluents ∙ ap length a.found.domains
-
-  pub fluents_within : r.fluents ≤ length r.sizes
-  fluents_within = omega (arith, fluents_taken, length-take r.fluents r.sizes)
-
   -- a chart is read with the dimensions that were found
   pub count_read : (chart : List ℕ) (x : Reply ℕ) → told length (in_chart (whole (nodes_at (dims r.characters (take r.fluents r.sizes))) chart)) ≡ x → chart_count s chart ≡ x
   unfolding chart_count chart_of

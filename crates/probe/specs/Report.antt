@@ -21,7 +21,7 @@ of_pack report (gives p) =
     (length p.theory.actions) (length p.theory.triggers)
 of_pack report (refuses k p) = set report 0 p
 
--- A pack and a report: 8 where the report has fewer than five entries, which then stays as it was; else what `packOf`
+-- A pack and a report: 8 where the report has fewer than five entries, which then stays as it was; else what `pack_of`
 -- says.
 pub record PackProbed (pack report after : List ℕ) (r : ℕ) : Type 0 where
   pub number : r ≡ pick (ltb (length report) 5) 8 (number_of (pack_of pack))
@@ -36,7 +36,7 @@ abbrev pub of_count : List ℕ → Reply ℕ → List ℕ
 of_count report (gives n) = set report 0 n
 of_count report (refuses k p) = set report 0 p
 
--- A pack, a chart and a report: 8 where the report is empty, else what `chartCount` says.
+-- A pack, a chart and a report: 8 where the report is empty, else what `chart_count` says.
 pub record ChartProbed (pack chart report after : List ℕ) (r : ℕ) : Type 0 where
   pub number : r ≡ pick (ltb (length report) 1) 8 (number_of (chart_count pack chart))
   pub written : after ≡ pick (ltb (length report) 1) report (of_count report (chart_count pack chart))

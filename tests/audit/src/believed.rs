@@ -24,11 +24,8 @@ pub fn reached(repository: &Path) -> Result<Vec<Module>> {
         if !seen.insert(path.clone()) {
             continue;
         }
-        let of = crate_of(repository, &path);
         for line in fs::read_to_string(&path)?.lines() {
-            open.extend(
-                used(line).map(|(other, name)| module(repository, other.unwrap_or(&of), name)).filter(|p| p.is_file()),
-            );
+            open.extend(used(line).map(|(of, name)| module(repository, of, name)).filter(|p| p.is_file()));
         }
     }
     seen.into_iter().map(|path| Ok(Module { lines: lines(&fs::read_to_string(&path)?), path })).collect()
@@ -41,25 +38,19 @@ fn promises(repository: &Path, of: &str, file: &str) -> Result<PathBuf> {
     let named =
         text.lines().filter_map(|line| used(line.strip_prefix("ghost ")?)).find(|(_, name)| *name == "Promises");
     let missing = || Error::other(format!("{} names no promise", source.display()));
-    named.map(|(other, name)| module(repository, other.unwrap_or(of), name)).ok_or_else(missing)
+    named.map(|(of, name)| module(repository, of, name)).ok_or_else(missing)
 }
 
-/// The crate (or nothing: the same) and the module that a `use` line of antt names, if it is one of definitions.
-pub fn used(line: &str) -> Option<(Option<&str>, &str)> {
-    let name = line.strip_prefix("use Rattle·")?;
+/// The crate and the module that a `use` line of antt names, if it is one of definitions.
+pub fn used(line: &str) -> Option<(&str, &str)> {
+    let name = line.strip_prefix("use Rattle.")?;
     let name = name.split([' ', '{']).next()?.trim_end_matches('.');
     let (of, module) = name.split_once(".specs.")?;
-    let of = of.strip_suffix("·specs").map_or(Some(of), |_| None);
     (!module.starts_with("declared.")).then_some((of, module))
 }
 
 fn module(repository: &Path, of: &str, name: &str) -> PathBuf {
     repository.join("crates").join(of).join("specs").join(name.replace('.', "/")).with_extension("antt")
-}
-
-fn crate_of(repository: &Path, path: &Path) -> String {
-    let below = path.strip_prefix(repository.join("crates")).expect("a file of a crate");
-    below.iter().next().expect("a crate").to_string_lossy().into_owned()
 }
 
 /// Lines that are neither blank, nor a comment, nor a `use`.

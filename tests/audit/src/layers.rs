@@ -7,13 +7,13 @@ use std::io::Result;
 use std::path::Path;
 
 /// The modules that the toolchain makes beside a function's proof.
-const GENERATED: [&str; 5] = ["Reads", "Kinds", "Statement", "Tie", "Lts"];
+const GENERATED: [&str; 7] = ["Reads", "Kinds", "Statement", "Tie", "Lts", "Given", "Goals"];
 
 /// The crates that `crates.txt` lists.
 pub fn crates(repository: &Path) -> Result<Vec<String>> {
     let text = fs::read_to_string(repository.join("crates.txt"))?;
     let names = text.lines().filter(|line| !line.starts_with('#')).filter_map(|line| line.split_once(':'));
-    Ok(names.map(|(name, _)| name.trim().to_string()).collect())
+    Ok(names.filter_map(|(name, _)| name.split_whitespace().next()).map(str::to_string).collect())
 }
 
 /// Each citation of what another layer keeps to itself, with its file and line.
@@ -35,7 +35,7 @@ pub fn trespasses(repository: &Path) -> Result<Vec<String>> {
 
 /// The modules that a line in crate `of` names, and that another of the crates keeps to itself.
 pub fn foreign<'a>(crates: &[String], of: &str, line: &'a str) -> Vec<&'a str> {
-    let modules = line.match_indices("Rattle·").map(|(begin, _)| module(&line[begin..]));
+    let modules = line.match_indices("Rattle.").map(|(begin, _)| module(&line[begin..]));
     modules.filter(|module| owner(module).is_some_and(|by| by != of && crates.iter().any(|name| name == by))).collect()
 }
 
@@ -46,12 +46,12 @@ fn module(text: &str) -> &str {
 
 /// The crate that keeps the module to itself, if one does.
 fn owner(module: &str) -> Option<&str> {
-    let (head, path) = module.strip_prefix("Rattle·")?.split_once('.')?;
+    let (of, path) = module.strip_prefix("Rattle.")?.split_once('.')?;
     let mut parts = path.split('.');
     let inside = match (parts.next(), parts.next()) {
         (Some("proofs"), _) => !path.split('.').any(|part| GENERATED.contains(&part)),
         (Some("specs"), Some("Inner")) => true,
         _ => false,
     };
-    inside.then(|| head.split('·').next().unwrap_or(head))
+    inside.then_some(of)
 }

@@ -7,10 +7,12 @@ use audit::{layers, repository};
 use folder::Folder;
 
 const RT: &str = r#"#!/bin/sh
-case $1 in
-    fmt) exit "$(cat said/fmt)" ;;
-    ci) mkdir -p target && cp -R said/log said/stamp target && cat said/ci && exit "$(cat said/status)" ;;
-    staticlib) cat "said/lib$2" ;;
+crate=${PWD##*/}
+case $* in
+    ci) cat said/ci && exit "$(cat said/status)" ;;
+    lib) cat "../../said/lib$crate" ;;
+    "check --list-axioms") cat "../../said/check$crate" ;;
+    *) exit 2 ;;
 esac
 "#;
 
@@ -23,30 +25,42 @@ esac
 "#;
 
 /// What the script runs besides; the folder with these and the stand-ins is all that it finds commands in.
-const TOOLS: [&str; 14] =
-    ["awk", "bash", "cat", "cp", "dirname", "env", "grep", "mkdir", "mktemp", "rm", "sed", "sh", "tail", "tee"];
+const TOOLS: [&str; 12] = ["awk", "bash", "cat", "dirname", "env", "grep", "mktemp", "rm", "sed", "sh", "tail", "tee"];
 
-const ARCHIVE: &str = "library pack: modules loaded=1 checked=0\nlibrary chart: modules loaded=1 checked=0\n\
+/// What is said of an archive, behind what is said of a library that is proved for it.
+const ARCHIVE: &str =
+    "fn chart::start: proved\nlibrary chart: modules loaded=1 checked=0\nlogic=proved functions=1 sum=0\n\
+    library pack: modules loaded=1 checked=0\nlibrary chart: modules loaded=1 checked=0\n\
     library transition: modules loaded=1 checked=0\nlibrary planner: modules loaded=1 checked=0\n\
+    axioms libc: none reached of the 128 declared\naxioms os: none reached of the 22 declared\n\
     logic=proved functions=1 target=x86_64-unknown-linux-gnu sum=0\n";
 
-const ENDING: &str = "axioms libc: libc::read, libc::write (2 of the 50 declared)\n\
-    logic=proved functions=1 axioms=2 target=x86_64-unknown-linux-gnu sum=0\n";
+const ENDING: &str = "axioms libc: 2 reached of the 128 declared\n  libc::close\n  libc::read   reached\n\
+    \x20 libc::write   reached\naxioms os: 1 reached of the 22 declared\n  os::c::rattle_errno   reached\n\
+    logic=proved functions=1 axioms=3 target=x86_64-unknown-linux-gnu sum=0\n";
+
+const OK: &str = "rt: ok; handles allowed: none; must-fail edits: 2 refused; every proof was done in this run\n";
+
+/// What rt says where all is well: the first crate is proved, and the others are kept.
+fn ci() -> String {
+    let crates = layers::crates(&repository()).expect("crates.txt");
+    let said = crates.iter().enumerate().map(|(i, of)| match i {
+        0 => format!("fn {of}::f: proved\nlogic=proved functions=1 sum=0\nrt: {of} proved\n"),
+        _ => format!("rt: {of} is kept: an earlier run proved it\n"),
+    });
+    said.collect::<String>() + OK + "7 passed, 0 failed\n"
+}
 
 /// A folder in which all is well.
 fn well(name: &str) -> Folder {
     let gate = Folder::new(&format!("gate-{name}"), ".ci/run", &TOOLS);
     gate.copy("crates.txt");
     gate.stand_in("rt", RT).stand_in("cargo", CARGO).stand_in("cc", "#!/bin/sh\n");
-    gate.stand_in("sleep", "#!/bin/sh\n");
-    for of in layers::crates(&repository()).expect("crates.txt") {
-        gate.say(&format!("said/log/{of}.out"), "logic=proved functions=1 sum=0\n");
-        gate.say(&format!("said/stamp/{of}"), "");
+    for of in ["probe", "pirwodd", "ending"] {
+        gate.say(&format!("crates/{of}/src/lib.rt"), "");
     }
-    gate.say("said/log/ending.out", ENDING).say("said/log/ending.res", "built\n");
-    gate.say("said/libprobe", ARCHIVE).say("said/libpirwodd", ARCHIVE);
-    gate.say("said/ci", "fn f: proved\nrt: pack proved (1 s)\nrt: ok\n7 passed, 0 failed\n");
-    gate.say("said/status", "0").say("said/fmt", "0").say("said/audit", "0");
+    gate.say("said/checkending", ENDING).say("said/libprobe", ARCHIVE).say("said/libpirwodd", ARCHIVE);
+    gate.say("said/ci", &ci()).say("said/status", "0").say("said/audit", "0");
     gate.say("said/apart", "test result: ok. 2 passed; 0 failed\ntest result: ok. 3 passed; 0 failed\n");
     gate.say("said/later", "test result: ok. 4 passed; 0 failed\n");
     gate.say("tests/COUNTS.txt", "# of each crate\nstory 5 0\npirwodd 3 1\n");
@@ -78,15 +92,15 @@ impl Gate for Folder {
 fn it_passes_where_all_is_well() {
     let (passed, said) = well("well").ran();
     assert!(passed, "{said}");
-    assert!(said.contains("rt: pack proved (1 s)\n"), "a crate's line is shown: {said}");
+    assert!(said.contains("rt: pack proved\n"), "a crate's line is shown: {said}");
     assert_eq!(said.lines().last(), Some("7 passed, 0 failed"), "the last line is rt's own");
 }
 
 #[test]
 fn an_archive_with_an_axiom() {
     for archive in ["probe", "pirwodd"] {
-        let counted = ARCHIVE.replace("functions=1 ", "functions=1 axioms=1 ");
-        let named = format!("axioms libc: libc::close (1 of the 50 declared)\n{ARCHIVE}");
+        let counted = ARCHIVE.replace("functions=1 target", "functions=1 axioms=1 target");
+        let named = ARCHIVE.replace("libc: none reached of", "libc: libc::close (1 of");
         for said in [counted, named] {
             let gate = well(&format!("axiom-{archive}"));
             gate.say(&format!("said/lib{archive}"), &said).fails(&format!("the archive of {archive} has an axiom"));
@@ -98,34 +112,42 @@ fn an_archive_with_an_axiom() {
 fn an_archive_that_tells_nothing() {
     let library = "logic=proved functions=1 sum=0\n";
     well("untold").say("said/libpirwodd", library).fails("pirwodd: no word that its archive is proved");
-    let without = ARCHIVE.replace("library chart: modules loaded=1 checked=0\n", "");
+    let other = format!("{ARCHIVE}{library}");
+    well("other").say("said/libpirwodd", &other).fails("pirwodd: no word that its archive is proved");
+    let of_chart = "library chart: modules loaded=1 checked=0\nlibrary transition";
+    let without = ARCHIVE.replace(of_chart, "library transition");
     let gate = well("unreached");
     gate.say("said/libpirwodd", &without).say("said/libprobe", &without).fails("chart is in no archive");
 }
 
 #[test]
-fn the_program_has_two_axioms() {
-    let third = ENDING.replace("libc::read,", "libc::close, libc::read,").replace("=2", "=3");
-    well("third").say("said/log/ending.out", &third).fails("libc::close");
-    let another = format!("axioms os: os::c::rattle_arg (1 of the 10 declared)\n{ENDING}").replace("=2", "=3");
-    well("another").say("said/log/ending.out", &another).fails("ending has other axioms");
-    let one = ENDING.replace("libc::read, ", "").replace("=2", "=1");
-    well("one").say("said/log/ending.out", &one).fails("ending has other axioms than read and write: libc");
-    well("none").say("said/log/ending.out", "logic=proved functions=1 target=x\n").fails("none");
-    let counted = ENDING.replace("=2", "=3");
-    well("counted").say("said/log/ending.out", &counted).fails("does not count two axioms");
+fn the_program_has_three_axioms() {
+    let close = ENDING.replace("libc::close\n", "libc::close   reached\n").replace("=3", "=4");
+    well("fourth").say("said/checkending", &close).fails("libc::close");
+    let another = ENDING.replace("rattle_errno", "rattle_arg");
+    well("another").say("said/checkending", &another).fails("ending has other axioms than read, write");
+    let two = ENDING.replace("  libc::read   reached\n", "").replace("=3", "=2");
+    well("two").say("said/checkending", &two).fails("the number of an error: libc::write os::c::rattle_errno");
+    well("none").say("said/checkending", "logic=proved functions=1 target=x\n").fails("none");
+    let counted = ENDING.replace("=3", "=4");
+    well("counted").say("said/checkending", &counted).fails("does not count three axioms");
 }
 
 #[test]
 fn a_crate_that_is_not_proved() {
-    for of in layers::crates(&repository()).expect("crates.txt") {
+    let crates = layers::crates(&repository()).expect("crates.txt");
+    assert!(crates.len() >= 7, "{crates:?}");
+    for of in crates {
         let gate = well(&format!("unproved-{of}"));
-        gate.say(&format!("said/log/{of}.out"), "logic=not-proved\n")
-            .fails(&format!("{of}: no word that it is proved"));
+        let said =
+            ci().replace(&format!("rt: {of} proved\n"), "").replace(&format!("rt: {of} is kept"), "rt: it is kept");
+        gate.say("said/ci", &said).fails(&format!("{of}: no word that it is proved"));
     }
     let gate = well("more");
-    gate.say("crates.txt", "# One more.\npack:\nmore: pack # over pack\n").fails("more: no word that it is proved");
+    let crates = "# One more.\npack:\nmore: pack # over pack\nprobe staticlib: pack\n";
+    gate.say("crates.txt", crates).fails("more: no word that it is proved");
     well("no-crate").say("crates.txt", "# None.\n").fails("crates.txt lists no crate");
+    well("no-archive").say("crates.txt", "pack:\n").fails("crates.txt lists no static library");
 }
 
 #[test]
@@ -134,7 +156,20 @@ fn what_rt_says_last() {
     well("ten-failed").say("said/ci", "6 passed, 10 failed\n").fails("rt ci said: 6 passed, 10 failed");
     well("no-number").say("said/ci", " passed, 0 failed\n").fails("rt ci said:");
     well("silent").say("said/ci", "7 passed, 0 failed\nrt: ok\n").fails("rt ci said: rt: ok");
+    well("some")
+        .say("said/ci", "7 passed, 0 failed (pack and the crates below alone: not the gate)\n")
+        .fails("rt ci said:");
     well("status").say("said/status", "1").fails("rt ci: 7 passed, 0 failed");
+}
+
+/// An edit that cannot be tried does not fail rt ci, and fails the gate.
+#[test]
+fn edits_that_cannot_be_tried() {
+    for bad in ["1 bad", "12 bad"] {
+        let said = ci().replace("2 refused", &format!("2 refused, {bad}"));
+        well("bad").say("said/ci", &said).fails(&format!("2 refused, {bad}"));
+    }
+    well("no-ok").say("said/ci", &ci().replace(OK, "")).fails("rt ci has no line 'rt: ok'");
 }
 
 #[test]
@@ -148,10 +183,16 @@ fn the_rust_tests() {
     gate.say("said/audit", "1").fails("the sources (tests/audit)");
     assert!(!gate.ran().1.contains("pack proved"), "nothing is proved where the sources are at fault");
     let gate = well("apart");
-    gate.stand_in("cargo", &CARGO.replace("*) cat ../said/apart", "*) exit 1")).fails("that needs nothing of the library");
-    well("layout").say("said/fmt", "1").fails("sources are not in the layout");
-    let gate = well("archive");
-    gate.stand_in("rt", &RT.replace("cat \"said/lib$2\"", "exit 1")).fails("an archive for the Rust tests");
+    gate.stand_in("cargo", &CARGO.replace("*) cat ../said/apart", "*) exit 1"))
+        .fails("that needs nothing of the library");
+    for archive in ["probe", "pirwodd"] {
+        let gate = well(&format!("archive-{archive}"));
+        let fails = RT.replace("lib) cat", &format!("lib) [ $crate != {archive} ] || exit 1; cat"));
+        gate.stand_in("rt", &fails).fails(&format!("the archive of {archive} (rt lib)"));
+    }
+    let gate = well("axioms");
+    gate.stand_in("rt", &RT.replace("cat \"../../said/check", "exit 1; cat \"../../said/check"))
+        .fails("the axioms of ending");
 }
 
 #[test]

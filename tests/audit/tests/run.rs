@@ -7,9 +7,9 @@ use folder::Folder;
 use std::fs::File;
 use std::time::{Duration, SystemTime};
 
-const RT: &str = "#!/bin/sh\n[ \"$1\" = staticlib ] || exit 1\necho 'fn f: proved'\necho 'fn g: proved' >&2\n\
-    echo 'rt: pack proved (1 s)' >&2\n\
-    mkdir -p target/staticlib && : >\"target/staticlib/lib$2.a\"\n";
+const RT: &str = "#!/bin/sh\n[ \"$*\" = lib ] || exit 1\necho 'fn f: proved'\necho 'fn g: proved' >&2\n\
+    echo 'rt: chose --jobs 2 for pack'\n\
+    mkdir -p out && : >\"out/lib${PWD##*/}.a\"\n";
 
 /// A program that says what it was handed, and ends with 1.
 const CARGO: &str = "#!/bin/sh\n[ \"$*\" = 'build --release --offline --target-dir target -p program' ] || exit 1\n\
@@ -28,6 +28,7 @@ fn clone(name: &str) -> Folder {
     for source in ["src/lib.rt", "specs/Number.antt", "proofs/Shared.antt"] {
         clone.say(&format!("crates/pack/{source}"), "");
     }
+    clone.say("crates/pirwodd/src/lib.rt", "");
     for source in ["program/src/main.rs", "story/src/lib.rs", "bindings/rust/src/lib.rs"] {
         clone.say(source, "");
     }
@@ -59,7 +60,7 @@ fn a_fresh_clone() {
     let (status, out, err) = ran(&clone, &["a.story", "-E", "1"]);
     assert_eq!((status, &out[..]), (Some(1), "told play a.story -E 1\n"), "{err}");
     let lines: Vec<&str> = err.lines().collect();
-    let [proving, "rt: pack proved (1 s)", building, "Compiling program"] = lines[..] else { panic!("{err}") };
+    let [proving, "rt: chose --jobs 2 for pack", building, "Compiling program"] = lines[..] else { panic!("{err}") };
     assert!(proving.starts_with(PROVING) && proving.contains("about 6 minutes"), "{err}");
     assert!(building.starts_with(BUILDING), "{err}");
     assert!(clone.0.join("target/bin/pirwodd").is_file());

@@ -13,7 +13,7 @@ fn forbidden_words_are_found() {
     assert_eq!(words::uses("choose f = (ac f)"), ["ac"]);
     assert_eq!(words::uses("returns c = ?"), ["?"]);
     assert_eq!(words::uses("-- by lem"), Vec::<&str>::new());
-    assert_eq!(words::uses("acted = problem ac-same"), Vec::<&str>::new());
+    assert_eq!(words::uses("acted = problem ac_same"), Vec::<&str>::new());
 }
 
 #[test]
@@ -28,7 +28,7 @@ fn public_calls_ask_nothing() {
 
 #[test]
 fn a_requires_is_found() {
-    let text = "pub fn f(x: usize)\n    requires { ⌜ x < 2 ⌝ }\n    ensures { ⌜ tt ⌝ }".to_string();
+    let text = "pub fn f(x: usize)\n    requires small { x < 2 }\n    ensures { result ≡ x }".to_string();
     let head = calls::Head { name: "f".into(), text };
     assert!(head.requires() && head.ensures());
 }
@@ -54,10 +54,10 @@ fn definitions_are_reached() {
 
 #[test]
 fn use_lines_are_read() {
-    assert_eq!(believed::used("use Rattle·pack.specs.Syntax.{Node}"), Some((Some("pack"), "Syntax")));
-    assert_eq!(believed::used("use Rattle·chart·specs.specs.Laws.Moore as moore"), Some((None, "Laws.Moore")));
-    assert_eq!(believed::used("use Rattle·pack.specs.declared.table.Table.{Table}"), None);
-    assert_eq!(believed::used("use lib.ListN.{length}"), None);
+    assert_eq!(believed::used("use Rattle.pack.specs.Syntax.{Node}"), Some(("pack", "Syntax")));
+    assert_eq!(believed::used("use Rattle.chart.specs.Laws.Moore as moore"), Some(("chart", "Laws.Moore")));
+    assert_eq!(believed::used("use Rattle.pack.specs.declared.table.Table.{Table}"), None);
+    assert_eq!(believed::used("use Rattle.std.proofs.Common.{length}"), None);
 }
 
 /// Every must-fail edit of the library and of the program is on the page of wrong programs, and every edit on it is
@@ -117,5 +117,5 @@ fn declares(line: &str, law: &str) -> bool {
 #[test]
 fn paths_in_a_cell_are_read() {
     assert_eq!(audit::paths(" `pack/specs/State`, `Condition` "), ["pack/specs/State", "pack/specs/Condition"]);
-    assert!(declares("  pub starts-one : (C : ℕ)", "starts-one") && !declares("pub starts-one-more : ℕ", "starts-one"));
+    assert!(declares("  pub starts_one : (C : ℕ)", "starts_one") && !declares("pub starts_one_more : ℕ", "starts_one"));
 }

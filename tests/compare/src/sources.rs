@@ -109,35 +109,42 @@ pub fn build(repository: &Path, folder: &Path, off: &Off) -> Result<PathBuf> {
     Ok(folder.join("steps"))
 }
 
-/// Each source file, without the lines of its contracts; structs and enums are copied, as Rattle does.
+/// Each source file, without the lines of its contracts and of how they are proved.
 fn translate(from: &Path, to: &Path) -> Result<()> {
     fs::create_dir_all(to)?;
     for entry in fs::read_dir(from)? {
         let path = entry?.path();
-        let mut text = String::new();
-        let mut ghost = None;
+        let (mut text, mut ghost) = (String::new(), String::new());
         for line in fs::read_to_string(&path)?.lines() {
-            let word = line.trim_start();
-            ghost = ghost.or_else(|| ghost_end(word));
-            if let Some(end) = ghost {
-                ghost = (!word.ends_with(end)).then_some(end);
-                continue;
+            ghost.push_str(line.trim());
+            match ends(&ghost) {
+                Some(true) => ghost.clear(),
+                Some(false) => ghost.push('\n'),
+                None => {
+                    ghost.clear();
+                    text.push_str(line);
+                    text.push('\n');
+                }
             }
-            if ["struct ", "pub struct ", "enum ", "pub enum "].iter().any(|kind| word.starts_with(kind)) {
-                text.push_str("#[derive(Clone, Copy)]\n");
-            }
-            text.push_str(line);
-            text.push('\n');
         }
         fs::write(to.join(path.file_stem().expect("a name")).with_extension("rs"), text)?;
     }
     Ok(())
 }
 
-/// What ends the lines that begin so, if they are of proofs alone: a contract may take several.
-fn ghost_end(word: &str) -> Option<&'static str> {
-    let ends = [("ghost use", ";"), ("requires ", "⌝ }"), ("ensures ", "⌝ }")];
-    ends.iter().find(|(begin, _)| word.starts_with(begin)).map(|(_, end)| *end)
+/// Whether lines that are of proofs alone end here, and nothing where they are not: a contract may take several.
+fn ends(ghost: &str) -> Option<bool> {
+    let begins = |words: &[&str]| words.iter().any(|word| ghost.starts_with(word));
+    let closed = |open, close| ghost.matches::<char>(open).count() == ghost.matches::<char>(close).count();
+    if begins(&["ghost use "]) {
+        Some(ghost.ends_with(';'))
+    } else if begins(&["requires ", "ensures "]) {
+        Some(closed('{', '}'))
+    } else if begins(&["#![tactic(", "#[tactic(", "#[cycle("]) {
+        Some(closed('[', ']'))
+    } else {
+        None
+    }
 }
 
 fn change(file: &Path, old: &str, new: &str) -> Result<()> {

@@ -25,8 +25,8 @@ fn repository() -> PathBuf {
 
 /// What the program prints when these are written to it one after the other, with a pause after each.
 fn printed<'a>(pieces: impl IntoIterator<Item = &'a [u8]>, pause: Duration) -> String {
-    let program = repository().join("target/bin/ending");
-    assert!(program.is_file(), "the program is not built: run `rt check ending` in the repository's folder first");
+    let program = repository().join("crates/ending/out/ending");
+    assert!(program.is_file(), "the program is not built: run `rt run` in the folder crates/ending first");
     let mut child =
         Command::new(program).stdin(Stdio::piped()).stdout(Stdio::piped()).spawn().expect("the program is run");
     let mut input = child.stdin.take().expect("its input is a pipe");

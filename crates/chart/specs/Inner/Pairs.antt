@@ -66,7 +66,8 @@ pub record EntryPut (was now : List ℕ) (m q count x y from d : ℕ) : Type 0 w
   pub right : right_at now q count ≡ y
   pub from_entry : from_at now q count ≡ from
   pub char : char_at now q count ≡ d
-  pub kept : (p : ℕ) → p ≢ m + x * 64 + y → (p < q + count * 5) ⊎ (q + count * 5 + 5 ≤ p) → get_or now p 0 ≡ get_or was p 0
+  pub kept : (p : ℕ) → p ≢ m + x * 64 + y → (p < q + count * 5) ⊎ (q + count * 5 + 5 ≤ p)
+      → get_or now p 0 ≡ get_or was p 0
 
 -- what `meet` leaves: an entry more if the pair was not met before
 pub record PairMet (was now : List ℕ) (m q count x y from d r : ℕ) : Type 0 where

@@ -27,7 +27,8 @@ pub record Chain (bytes : List ℕ) (w f t a r i count last : ℕ) : Type 0 wher
   pub leads : (q : ℕ) → q < count → t + get_or bytes (r + q) 0 * w + f ≤ length bytes
   pub room : r + count ≤ length bytes
   pub above : a + count ≤ length bytes
-  pub nexts : (q : ℕ) → q < count → Last (lead_mark bytes w f t r) q (lead_mark bytes w f t r q) (get_or bytes (a + q) 0)
+  pub nexts : (q : ℕ) → q < count → Last (lead_mark bytes w f t r) q (lead_mark bytes w f t r q)
+      (get_or bytes (a + q) 0)
   pub ends : Last (lead_mark bytes w f t r) count (hash_of bytes (t + i * w) f) last
 
 -- of `count` classes the last of each mark stands in `heads`, and from a on for each class the last before it of its
@@ -35,7 +36,8 @@ pub record Chain (bytes : List ℕ) (w f t a r i count last : ℕ) : Type 0 wher
 pub record Chained (bytes heads : List ℕ) (w f t a r count : ℕ) : Type 0 where
   pub marks : length heads ≡ 131
   pub heads_last : (b : ℕ) → b < 131 → Last (lead_mark bytes w f t r) count b (get_or heads b 0)
-  pub nexts : (q : ℕ) → q < count → Last (lead_mark bytes w f t r) q (lead_mark bytes w f t r q) (get_or bytes (a + q) 0)
+  pub nexts : (q : ℕ) → q < count → Last (lead_mark bytes w f t r) q (lead_mark bytes w f t r q)
+      (get_or bytes (a + q) 0)
 
 -- of n rows those below i are classed, and rows lead the `count` classes
 pub record Valuable (bytes : List ℕ) (n w f t a k r i count : ℕ) : Type 0 where

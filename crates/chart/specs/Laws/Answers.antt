@@ -29,11 +29,14 @@ module _ (C : ℕ) (t : List Node) (r : IsTable C t) where
 
   pub start_table_lem : Starts C means0 (start_table C t)
   unfolding start_table
-  start_table_lem = on_table_lem C t (λ x. (chart x).rows) [] (Starts C means0) r (λ x. ((chart x).written, (chart x).means))
+  start_table_lem = on_table_lem C t (λ x. (chart x).rows) [] (Starts C means0) r
+      (λ x. ((chart x).written, (chart x).means))
 
   pub start_table_iff : (rows : List Node) → Starts C means0 rows ↔ (start_table C t ≡ rows)
-  start_table_iff rows =
-      (λ y. starts_one C means0 (start_table C t) rows start_table_lem y, λ e. subst (Starts C means0) e start_table_lem)
+  start_table_iff rows = (
+    λ y. starts_one C means0 (start_table C t) rows start_table_lem y,
+    λ e. subst (Starts C means0) e start_table_lem,
+  )
 
 -- one meaning is: no chain of characters that are there tells them apart
 pub one_meaning : (C : ℕ) (t u : List Node)

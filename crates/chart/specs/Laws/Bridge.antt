@@ -37,7 +37,8 @@ module _ (C : ℕ) (t : List Node) where
   -- class numbers of any level: rows that mean the same are of one class
   pub coarse : (k : ℕ) (cls : ℕ → ℕ) → moore.Exact C val (target t) (length t) k cls → (i j : ℕ) → i < length t
       → j < length t → meaning C t i ≡ meaning C t j → cls i ≡ cls j
-  coarse k cls e i j li lj x = (e i j li lj).1 (λ ch l. ap (λ (s : State). s ch) (sym (meaning_at i) ∙ x ∙ meaning_at j))
+  coarse k cls e i j li lj x = (e i j li lj).1
+      (λ ch l. ap (λ (s : State). s ch) (sym (meaning_at i) ∙ x ∙ meaning_at j))
 
 -- more classes than n at any level: more states than n
 pub many : (C : ℕ) (t : List Node) → Ordered C t → (cls : ℕ → ℕ) → Numbered cls (length t)

@@ -1,7 +1,8 @@
 -- Bytes and rows of a buffer: their number, each of them, one more, and the same where the bytes are. Assumes nothing.
 use Rattle.std.specs.Prelude.{◌≡◌, List, [], ◌∷◌, ◌++◌, ℕ, zero, suc, ◌+◌, ◌*◌, ◌-◌, ◌<◌, ◌≤◌, length, set}
 use Rattle.std.proofs.Math.Path.{refl}
-use Rattle.std.proofs.Common.{◌∙◌, ap, ap₂, suc-mul, mul-le-mul_left, mul-le-mul_right, arith, get_or-set_same, get_or-set_other, below_more}
+use Rattle.std.proofs.Common.{◌∙◌, ap, ap₂, suc-mul, mul-le-mul_left, mul-le-mul_right, arith, get_or-set_same}
+use Rattle.std.proofs.Common.{get_or-set_other, below_more}
 use Rattle.std.proofs.Math.Logic.{by_cases}
 use Rattle.std.proofs.Math.Numerals.{add-one}
 use Rattle.std.proofs.Math.Decide.{dec_lt}
@@ -61,7 +62,8 @@ module _ (bytes : List ℕ) (w f c a : ℕ) where
 
 -- rows are the same where their bytes are
 pub rows_same : (was now : List ℕ) (w f c a b n : ℕ) → f + c ≤ w
-    → ((p : ℕ) → p < n * w → get_or now (b + p) 0 ≡ get_or was (a + p) 0) → rows_at now w f c b n ≡ rows_at was w f c a n
+    → ((p : ℕ) → p < n * w → get_or now (b + p) 0 ≡ get_or was (a + p) 0)
+    → rows_at now w f c b n ≡ rows_at was w f c a n
 unfolding rows_at row_at
 rows_same was now w f c a b n wide h = upto_same (λ i. row_at now f c (b + i * w)) (λ i. row_at was f c (a + i * w)) n
     (λ i l. let r = row_in n w i l in λ j. record {

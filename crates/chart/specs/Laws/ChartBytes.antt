@@ -1,7 +1,8 @@
 -- Rows written out are the chart's bytes, and nothing beyond them changes. Assumes nothing.
 use Rattle.std.specs.Prelude.{◌≡◌, get_or, set}
 use Rattle.std.proofs.Math.Path.{refl, sym, ap, ap₂}
-use Rattle.std.proofs.Common.{◌∙◌, subst, add-zero, zero-mul, add-one, arith, length-append, length-drop, get_or-append-add, get_or-drop, ext_get_or}
+use Rattle.std.proofs.Common.{◌∙◌, subst, add-zero, zero-mul, add-one, arith, length-append, length-drop}
+use Rattle.std.proofs.Common.{get_or-append-add, get_or-drop, ext_get_or}
 use Rattle.std.proofs.Math.Logic.{by_cases}
 use mathlib.Core.List.{List, [], ◌∷◌, ◌++◌, map, append_assoc, append-nil}
 use Prim.Native.Nat.{ℕ, zero, suc, ◌+◌, ◌*◌, ◌<◌, ◌≤◌, ◌-◌}

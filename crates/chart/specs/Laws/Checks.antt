@@ -142,7 +142,8 @@ module _ {A : Type 0} {pack places : List ℕ} (charts : List (List ℕ)) {p : C
     no_chart : (k q : ℕ) → charts_of x.theory charts ≡ refuses k q → Done
     no_chart k q f =
         subst Settled (sym (says
-        ∙ ap (λ (y : Reply (List (List Node))). with (told (map length) y) (λ ns. lent enough in_range (gives ns))) f)) (
+        ∙ ap (λ (y : Reply (List (List Node))). with (told (map length) y)
+        (λ ns. lent enough in_range (gives ns))) f)) (
           replies ∙ ap (λ (y : Reply (List (List Node))). with y (λ tables. lent enough in_range (rest x tables))) f,
           high_checks k (charts_refusal x.theory charts k q f),
         )
@@ -189,7 +190,8 @@ module _ {A : Type 0} {pack places : List ℕ} (charts : List (List ℕ)) {p : C
     pub refused_by : (k q : ℕ) → r ≡ refuses k q → (the_reply ≡ refuses k q) × (by_checks k ≡ true)
     refused_by k q e = go (checks p charts enough in_range) settled (sym agrees ∙ e)
       where
-        go : (x : Reply (List ℕ)) → Settled x → told g x ≡ refuses k q → (the_reply ≡ refuses k q) × (by_checks k ≡ true)
+        go : (x : Reply (List ℕ)) → Settled x → told g x ≡ refuses k q
+            → (the_reply ≡ refuses k q) × (by_checks k ≡ true)
         go (gives ns) s f = never_gives (sym f)
         go (refuses j o) s f =
             let a : j ≡ k = cc in let b : o ≡ q = cc in
@@ -229,7 +231,8 @@ first_read t chart charts tables e = at (chart_of t chart) refl (charts_of t cha
     at (gives u) f (gives us) g e = record { table = u; others = us; read = f; rest = g; same = sym (same_gift e) }
 
 -- a chart has a node
-some_nodes_lem : (d : Dimensions) (s : List ℕ) (at : ℕ) (t : List Node) (n : ℕ) → nodes_at d s at ≡ done t n → 0 < length t
+some_nodes_lem : (d : Dimensions) (s : List ℕ) (at : ℕ) (t : List Node) (n : ℕ) → nodes_at d s at ≡ done t n
+    → 0 < length t
 unfolding nodes_at
 some_nodes_lem d s at t n e =
     let b = both (between 1 33 3 s at) (λ k n. many (node_at d k) k s n) t n e in

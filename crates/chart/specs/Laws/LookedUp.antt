@@ -78,7 +78,8 @@ module _ {chart : List ℕ} {nodes f c : ℕ} {chain : List ℕ} {fluent : ℕ} 
           same : table_of look_table mid ≡ t
           same = read_same r x
 
-      pub looked : {now : List ℕ} {v : ℕ} → v ≡ get_or mid ((1 + there * (f + c)) + fluent) 0 → Cleared mid now 0 work_room
+      pub looked : {now : List ℕ} {v : ℕ} → v ≡ get_or mid ((1 + there * (f + c)) + fluent) 0
+          → Cleared mid now 0 work_room
           → length now ≡ length work → Looked chart nodes f c chain fluent work now v
       looked e z long =
           record {

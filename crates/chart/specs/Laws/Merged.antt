@@ -49,7 +49,8 @@ met_up t m zero h = let e : m ≡ 0 = omega arith in rw e (omega arith)
 met_up t m (suc n) h =
     ⊎_elim (λ (e : m ≡ suc n). rw e (omega arith))
     (λ (l : m < suc n).
-    omega (arith, met_up t m n (le_of_suc-le-suc l), meets_up (met t n) (get_or t n nowhere).beliefs)) (eq-or-lt_of_le h)
+    omega (arith, met_up t m n (le_of_suc-le-suc l), meets_up (met t n) (get_or t n nowhere).beliefs))
+    (eq-or-lt_of_le h)
 
 -- a class that is new has the next number, among the first N rows
 abbrev pub Numbered : (ℕ → ℕ) → ℕ → Type 0

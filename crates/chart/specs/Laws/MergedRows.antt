@@ -152,7 +152,8 @@ module _ {was now : List ℕ} {n w f c t k u count : ℕ} (d : Classed was n w f
       let x : cells now b f ≡ cells was a f = cells_same was now a b f s.values in
       let y : cells now (b + f) c ≡ map (class_at was k) (cells was (a + f) c) =
       ext_get_or 0 (cells now (b + f) c) (map (class_at was k) (cells was (a + f) c))
-      (cells-length now (b + f) c ∙ sym (length-map (cells was (a + f) c) (class_at was k) ∙ cells-length was (a + f) c))
+      (cells-length now (b + f) c
+      ∙ sym (length-map (cells was (a + f) c) (class_at was k) ∙ cells-length was (a + f) c))
       (λ j h. let lj : j < c = omega (arith, h, cells-length now (b + f) c) in
       cells_at now (b + f) c j lj ∙ s.beliefs j lj
       ∙ sym (get_d_map (class_at was k) (cells was (a + f) c) j (omega (arith, cells-length was (a + f) c))

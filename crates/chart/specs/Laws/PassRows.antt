@@ -207,7 +207,8 @@ module _ (C : ℕ) {K : Type 0} (Real : K → Type 0) (val : K → List ℕ) (ne
 
   pub going_end : (sem : K → State) → Family C Real sem val next → (was now : List ℕ) (m size t w f i count : ℕ)
       → Going was now m size t w f i count → count ≤ i
-      → Ordered C (rows_at now w f C t count) × (meaning C (rows_at now w f C t count) 0 ≡ sem (of (key_at was m size 0)))
+      → Ordered C (rows_at now w f C t count)
+      × (meaning C (rows_at now w f C t count) 0 ≡ sem (of (key_at was m size 0)))
   going_end sem fam was now m size t w f i count g h =
       let e : i ≡ count = omega (arith, g.reach) in
       let (rows, ordered) = pass_end C Real val next (rows_at now w f C t i) (λ k. of (key_at now m size k)) g.pass

@@ -26,7 +26,8 @@ keys_few {N} keys k =
       arith,
       count_all (length keys),
       count_all N,
-      count_inj all all (λ i j. get_or keys i 0 ≡ j) (length keys) N (λ i l _. (get_or keys i 0, k.within i l, tt, refl))
+      count_inj all all (λ i j. get_or keys i 0 ≡ j) (length keys) N
+          (λ i l _. (get_or keys i 0, k.within i l, tt, refl))
           (λ i j n l h _ e f. k.differ i j l h (e ∙ sym f)),
     )
 
@@ -64,7 +65,8 @@ number1 {N} keys k b h = ⊎_elim new old (least (λ i. turn (ℕ_discrete (get_
         good = record {
           differ = λ i j l g e. ⊎_elim
               (λ (z : j ≡ length keys).
-              f i (omega arith) (sym (keep i (omega arith)) ∙ e ∙ ap (λ (j : ℕ). get_or (keys ++ (b ∷ [])) j 0) z ∙ last))
+              f i (omega arith) (sym (keep i (omega arith)) ∙ e ∙ ap (λ (j : ℕ). get_or (keys ++ (b ∷ [])) j 0) z
+              ∙ last))
               (λ (lj : j < length keys). k.differ i j l lj (sym (keep i (omega arith)) ∙ e ∙ keep j lj))
               (eq-or-lt_of_le (le_of_suc-le-suc (rw long at g)));
           within = λ i g. ⊎_elim

@@ -1,5 +1,6 @@
 -- The digits of a number, read back, are the number. Assumes nothing.
-use Rattle.std.specs.Prelude.{ℕ, zero, suc, ◌+◌, ◌-◌, ◌*◌, ◌/◌, ◌%◌, ◌^◌, ◌<◌, ◌≡◌, refl, Bool, true, false, List, [], ◌∷◌, ◌++◌, ltb}
+use Rattle.std.specs.Prelude.{ℕ, zero, suc, ◌+◌, ◌-◌, ◌*◌, ◌/◌, ◌%◌, ◌^◌, ◌<◌, ◌≡◌, refl, Bool, true, false, List, []}
+use Rattle.std.specs.Prelude.{◌∷◌, ◌++◌, ltb}
 use Rattle.std.proofs.Common.{ap, ◌∙◌, div-add-mod', div-lt_iff_lt-mul, arith, ltb-true}
 use Rattle.std.proofs.Math.Numerals.{unary_clauses}
 use Rattle.pack.specs.Reading.{pick}

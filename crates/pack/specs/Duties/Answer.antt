@@ -14,7 +14,8 @@ dims characters domains = record { characters = characters; domains = domains }
 
 -- a fluent and one of its values, of which nothing is told
 unfoldable pub claim_at : (domains : List ℕ) → Reader (Unit {0})
-claim_at domains s at = bind (item (length domains) s at) (λ fluent n. mapped forget (item (get_or domains fluent 0) s n))
+claim_at domains s at = bind (item (length domains) s at)
+    (λ fluent n. mapped forget (item (get_or domains fluent 0) s n))
 
 -- a value for each fluent
 abbrev pub values_at : (domains : List ℕ) → Reader (List ℕ)

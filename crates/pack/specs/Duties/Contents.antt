@@ -42,7 +42,8 @@ pub record TheoryFound (d : Dimensions) (s places : List ℕ) (t : Theory) (k l 
   pub most_triggers : l ≤ 16
   pub action : (i : ℕ) → i < k → (x : Action) → ActionStands d s places (9 * i) (get_or t.actions i x)
   pub trigger : (i : ℕ) → i < l → (x : Trigger) → TriggerStands d s places (288 + 2 * i) (get_or t.triggers i x)
-  pub rules : (c : ℕ) → c < d.characters + 1 → Gives (rules_at d) s (get_or places (320 + c) 0) (get_or t.utilities c [])
+  pub rules : (c : ℕ) → c < d.characters + 1
+      → Gives (rules_at d) s (get_or places (320 + c) 0) (get_or t.utilities c [])
 
 -- what the answers of three parts say together
 abbrev pub counts_of : (actions triggers : Number) → (utilities : Checked) → Counts

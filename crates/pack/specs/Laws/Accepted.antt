@@ -1,5 +1,6 @@
 -- What an accepted pack, a chart and a copied table give the functions that judge and write in place. Assumes nothing.
-use Rattle.std.specs.Prelude.{ℕ, zero, suc, ◌+◌, ◌*◌, ◌-◌, ◌<◌, ◌≤◌, ◌≡◌, refl, Bool, true, false, List, ◌∷◌, length, get_or, ltb, leb, eqb}
+use Rattle.std.specs.Prelude.{ℕ, zero, suc, ◌+◌, ◌*◌, ◌-◌, ◌<◌, ◌≤◌, ◌≡◌, refl, Bool, true, false, List, ◌∷◌, length}
+use Rattle.std.specs.Prelude.{get_or, ltb, leb, eqb}
 use Rattle.std.proofs.Common.{sym, ap, ◌∙◌, subst, add-zero, zero-mul, suc-mul, arith, leb-true}
 use Rattle.std.proofs.Math.Logic.{by_cases}
 use Rattle.std.proofs.Math.Decide.{dec_lt}
@@ -79,7 +80,8 @@ small_pack s p e = go (ltb 8192 (length s)) e
     go true e = never_gives e
     go false e =
         let n = length s in
-        let b = both (head_at s 0) (λ d n. body_at d s n) p n (sym (parts_body s 0) ∙ ended_gives n (pack_at s 0) p e) in
+        let b = both (head_at s 0) (λ d n. body_at d s n) p n
+        (sym (parts_body s 0) ∙ ended_gives n (pack_at s 0) p e) in
         let b0 = both (nodes_at b.value s b.place)
         (λ nodes n. mapped (λ theory. record { theory = theory; nodes = nodes }) (theory_at b.value s n)) p n
         b.right in
@@ -118,7 +120,8 @@ nodes_first d s at t n e =
 pub chart_nodes : (p : Theory) (s : List ℕ) (t : List Node) → chart_of p s ≡ gives t
     → nodes_at (dimensions p) s 0 ≡ done t (length s)
 unfolding chart_of
-chart_nodes p s t e = ended_gives (length s) (nodes_at (dimensions p) s 0) t (plain (whole (nodes_at (dimensions p)) s) e)
+chart_nodes p s t e = ended_gives (length s) (nodes_at (dimensions p) s 0) t
+    (plain (whole (nodes_at (dimensions p)) s) e)
   where
     plain : (x : Reply (List Node)) → in_chart x ≡ gives t → x ≡ gives t
     plain (gives u) e = e

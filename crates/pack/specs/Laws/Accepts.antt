@@ -1,6 +1,7 @@
 -- Readers that accept what is written, wherever it stands: numbers, and readers made of readers. Assumes nothing.
 use Rattle.std.specs.Prelude.{ℕ, suc, ◌+◌, ◌*◌, ◌/◌, ◌%◌, ◌<◌, ◌≤◌, ◌≡◌, refl, Bool, true, false, length, get_or, ltb}
-use Rattle.std.proofs.Common.{sym, ap, ◌∙◌, subst, arith, length-append, get_or-append-add, ltb-true, ltb-false, lt-ltb, le-ltb, ne_eqb, eq-eqb}
+use Rattle.std.proofs.Common.{sym, ap, ◌∙◌, subst, arith, length-append, get_or-append-add, ltb-true, ltb-false, lt-ltb}
+use Rattle.std.proofs.Common.{le-ltb, ne_eqb, eq-eqb}
 use mathlib.Core.List.{List, [], ◌∷◌, ◌++◌, append_assoc, append-nil}
 use Rattle.std.proofs.Math.Nat.{add-zero}
 use Rattle.std.proofs.Math.Seq.{get_or-append_seam}
@@ -20,7 +21,8 @@ one s at a l e h =
     let m : a % 128 ≡ a = omega arith in
     simp (lt-leb (length s) at l, e, lt-ltb a 128 h, m)
 
-pub two : (s : List ℕ) (at a b v : ℕ) → at + 1 < length s → get_or s at 0 ≡ a → get_or s (at + 1) 0 ≡ b → 128 ≤ a → 0 < b
+pub two : (s : List ℕ) (at a b v : ℕ) → at + 1 < length s → get_or s at 0 ≡ a → get_or s (at + 1) 0 ≡ b → 128 ≤ a
+    → 0 < b
     → b < 128 → a % 128 + 128 * (b % 128) ≡ v → number_at s at ≡ done v (at + 2)
 unfolding number_at
 two s at a b v l e f h i j m =
@@ -58,7 +60,8 @@ by_size : (v : ℕ) → v < 65536 → (x y : Bool) → ltb v 128 ≡ x → ltb v
     (pick y ((v % 128 + 128) ∷ (v / 128) ∷ []) ((v % 128 + 128) ∷ (v / 128 % 128 + 128) ∷ (v / 16384) ∷ [])) in
     number_at (pre ++ (bytes ++ post)) (length pre) ≡ done v (length pre + length bytes)
 by_size v h true y p q pre post =
-    one (pre ++ (v ∷ post)) (length pre) v (omega (arith, length-append pre (v ∷ post))) (get_or-append_seam pre v post 0)
+    one (pre ++ (v ∷ post)) (length pre) v (omega (arith, length-append pre (v ∷ post)))
+    (get_or-append_seam pre v post 0)
     (ltb-true v 128 p)
 by_size v h false true p q pre post =
     let big = ltb-false v 128 p in
@@ -102,7 +105,9 @@ pub between_accepts : (low limit number v : ℕ) → low ≤ v → v < limit →
     → Accepts (between low limit number) (number_bytes v) v
 unfolding between
 between_accepts low limit number v h g w =
-    record { reads = λ pre post. rw ((number_accepts v (omega arith)).reads pre post, le-ltb v low h, lt-ltb v limit g) }
+    record {
+      reads = λ pre post. rw ((number_accepts v (omega arith)).reads pre post, le-ltb v low h, lt-ltb v limit g);
+    }
 
 pub item_accepts : (limit v : ℕ) → v < limit → limit ≤ 65536 → Accepts (item limit) (number_bytes v) v
 item_accepts limit v h w = between_accepts 0 limit 4 v (omega arith) h w

@@ -243,7 +243,8 @@ pub chart_refusal : (t : Theory) (s : List ℕ) (k p : ℕ) → chart_of t s ≡
 unfolding chart_of
 chart_refusal t s k p e = go (whole (nodes_at (dimensions t)) s) refl e
   where
-    go : (x : Reply (List Node)) → whole (nodes_at (dimensions t)) s ≡ x → in_chart x ≡ refuses k p → (21 ≤ k) × (k ≤ 27)
+    go : (x : Reply (List Node)) → whole (nodes_at (dimensions t)) s ≡ x → in_chart x ≡ refuses k p
+        → (21 ≤ k) × (k ≤ 27)
     go (gives a) f e = never_gives (sym e)
     go (refuses j q) f e =
         let x : j + 20 ≡ k = same_number e in

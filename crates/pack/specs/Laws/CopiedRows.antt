@@ -1,6 +1,7 @@
 -- Nodes copied into a table: each number of a node is one byte, and rows stand one behind the other. Assumes nothing.
 use Rattle.std.specs.Prelude.{ℕ, zero, suc, ◌+◌, ◌*◌, ◌-◌, ◌<◌, ◌≤◌, ◌≡◌, refl, length, set, leb, eqb}
-use Rattle.std.proofs.Common.{sym, ◌∙◌, subst, add-zero, suc-mul, mul-le-mul_right, add-one, sub-one, length-set, get_or-set_same, get_or-set_other, ext_get_or, leb-true}
+use Rattle.std.proofs.Common.{sym, ◌∙◌, subst, add-zero, suc-mul, mul-le-mul_right, add-one, sub-one, length-set}
+use Rattle.std.proofs.Common.{get_or-set_same, get_or-set_other, ext_get_or, leb-true}
 use Rattle.std.proofs.Math.Path.{ap}
 use Rattle.std.proofs.Math.Logic.{by_cases}
 use mathlib.Core.List.{List, [], ◌∷◌, ◌++◌, append_assoc, append-nil}
@@ -66,8 +67,10 @@ run_bytes {A = A} p next code s byte (suc k) z at xs n e =
     go : (x a : A) (l : List A) → a ∷ l ≡ xs → get_or s at 0 ≡ code a → at < length s
         → ((i : ℕ) → i < k → (get_or s ((at + 1) + i) 0 ≡ code (get_or l i x)) × ((at + 1) + i < length s))
         → (i : ℕ) → i < suc k → (get_or s (at + i) 0 ≡ code (get_or xs i x)) × (at + i < length s)
-    go x a l same value inside rest zero h =
-        (ap (λ (j : ℕ). get_or s j 0) (add-zero at) ∙ value ∙ ap (λ (c : List A). code (get_or c 0 x)) same, omega arith)
+    go x a l same value inside rest zero h = (
+      ap (λ (j : ℕ). get_or s j 0) (add-zero at) ∙ value ∙ ap (λ (c : List A). code (get_or c 0 x)) same,
+      omega arith,
+    )
     go x a l same value inside rest (suc i) h =
         let r = rest i (omega arith) in
         let e : at + suc i ≡ (at + 1) + i = omega arith in (

@@ -79,7 +79,8 @@ module _ (s : List ℕ) (bytes : Bytes s) (at : ℕ) where
       let eb : b ≡ v / 128 = sym (ap (λ (n : ℕ). n / 128) (sym low) ∙ digits_div (b % 128) less ∙ mb) in
       rw (le-ltb v 128 x, lt-ltb v 16384 y) (omega arith, (omega arith, e ∙ ea, (l, f ∙ eb, tt)), omega arith)
 
-  three : (a b d v : ℕ) → at + 2 < length s → get_or s at 0 ≡ a → get_or s (at + 1) 0 ≡ b → get_or s (at + 2) 0 ≡ d → 128 ≤ a
+  three : (a b d v : ℕ) → at + 2 < length s → get_or s at 0 ≡ a → get_or s (at + 1) 0 ≡ b → get_or s (at + 2) 0 ≡ d
+      → 128 ≤ a
       → 128 ≤ b → 0 < d → d ≤ 3
       → a % 128 + 128 * (b % 128) + 16384 * (d % 128) ≡ v → Goal v (at + 3)
   unfolding Stands number_bytes
@@ -194,7 +195,8 @@ mapped_exact {p = p} mk R g x y = record {
       (subst R m.right hr, subst (Stands s at) bytes sa, na ∙ ap (λ (l : List ℕ). at + length l) bytes);
 }
 
-pub between_exact : (low limit number : ℕ) → Exact (between low limit number) (λ v. (low ≤ v) × (v < limit)) number_bytes
+pub between_exact : (low limit number : ℕ) → Exact (between low limit number) (λ v. (low ≤ v) × (v < limit))
+    number_bytes
 unfolding between
 between_exact low limit number = record {
   sound = λ s bs at v n e.

@@ -1,7 +1,9 @@
 -- What fits the layout: members by their places, the rows of a table, and how long a chart's bytes are. Assumes
 -- nothing.
-use Rattle.std.specs.Prelude.{ℕ, zero, suc, ◌+◌, ◌*◌, ◌<◌, ◌≤◌, ◌≡◌, refl, List, [], ◌∷◌, ◌++◌, map, length, get_or, set, replicate}
-use Rattle.std.proofs.Common.{sym, ap, ◌∙◌, append-nil, append_assoc, mul-le-mul, zero-mul, suc-mul, arith, length-append, lt-ltb}
+use Rattle.std.specs.Prelude.{ℕ, zero, suc, ◌+◌, ◌*◌, ◌<◌, ◌≤◌, ◌≡◌, refl, List, [], ◌∷◌, ◌++◌, map, length, get_or}
+use Rattle.std.specs.Prelude.{set, replicate}
+use Rattle.std.proofs.Common.{sym, ap, ◌∙◌, append-nil, append_assoc, mul-le-mul, zero-mul, suc-mul, arith}
+use Rattle.std.proofs.Common.{length-append, lt-ltb}
 use Rattle.pack.specs.Syntax.{Node}
 use Rattle.pack.specs.State.{nowhere, node, Closed, Sized}
 use Rattle.pack.specs.Layout.{number_bytes, list_bytes, node_bytes, chart_bytes}
@@ -82,10 +84,12 @@ next_bytes [] e = refl
 next_bytes (v ∷ l) e = rw (lt-ltb (suc v) 128 e.0) (ap (λ (l : List ℕ). suc v ∷ l) (next_bytes l e.1))
 
 -- one more at the end
-pub list_snoc : {A : Type 0} (f : A → List ℕ) (l : List A) (a : A) → list_bytes f (l ++ (a ∷ [])) ≡ list_bytes f l ++ f a
+pub list_snoc : {A : Type 0} (f : A → List ℕ) (l : List A) (a : A)
+    → list_bytes f (l ++ (a ∷ [])) ≡ list_bytes f l ++ f a
 unfolding list_bytes
 list_snoc f [] a = append-nil (f a)
-list_snoc f (b ∷ l) a = ap (λ (x : List ℕ). f b ++ x) (list_snoc f l a) ∙ sym (append_assoc (f b) (list_bytes f l) (f a))
+list_snoc f (b ∷ l) a = ap (λ (x : List ℕ). f b ++ x) (list_snoc f l a)
+    ∙ sym (append_assoc (f b) (list_bytes f l) (f a))
 
 list_length : {A : Type 0} (f : A → List ℕ) (k : ℕ) (l : List A) → Each (λ a. length (f a) ≡ k) l
     → length (list_bytes f l) ≡ length l * k
@@ -94,7 +98,8 @@ list_length f k [] e = omega (arith, zero-mul k)
 list_length f k (a ∷ l) e =
     omega (arith, length-append (f a) (list_bytes f l), e.0, list_length f k l e.1, suc-mul (length l) k)
 
-pub values_small : (ds values : List ℕ) → ((f : ℕ) → get_or ds f 0 ≤ 128) → Valued ds values → Each (λ v. v < 128) values
+pub values_small : (ds values : List ℕ) → ((f : ℕ) → get_or ds f 0 ≤ 128) → Valued ds values
+    → Each (λ v. v < 128) values
 unfolding Valued Each
 values_small [] [] small h = tt
 values_small [] (v ∷ values) small h = absurd h

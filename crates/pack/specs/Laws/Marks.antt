@@ -63,7 +63,8 @@ module _ {A : Type 0} (p : Reader A) (s : List ℕ) (first : ℕ) (slot : ℕ �
 
   -- the next begins at n, and is marked there
   pub marking_more : (was now : List ℕ) (k i n left : ℕ) → Marking p s first slot low was now k i n left → 0 < left
-      → (then : List ℕ) → get_or then (slot i) 0 ≡ n → ((j : ℕ) → j < i → get_or then (slot j) 0 ≡ get_or now (slot j) 0)
+      → (then : List ℕ) → get_or then (slot i) 0 ≡ n
+      → ((j : ℕ) → j < i → get_or then (slot j) 0 ≡ get_or now (slot j) 0)
       → KeptBelow low now then
       → (m : ℕ) → Ends p s n m → Marking p s first slot low was then k (i + 1) m (left - 1)
   marking_more was now k i n left g h then here before below m e = record {

@@ -1,5 +1,6 @@
 -- A number below 128 is one byte, so the parts of an accepted pack can be read byte by byte. Assumes nothing.
-use Rattle.std.specs.Prelude.{ℕ, zero, suc, ◌+◌, ◌*◌, ◌-◌, ◌%◌, ◌<◌, ◌≤◌, ◌≡◌, refl, Bool, true, false, List, [], ◌∷◌, length, get_or, ltb, leb, eqb}
+use Rattle.std.specs.Prelude.{ℕ, zero, suc, ◌+◌, ◌*◌, ◌-◌, ◌%◌, ◌<◌, ◌≤◌, ◌≡◌, refl, Bool, true, false, List, [], ◌∷◌}
+use Rattle.std.specs.Prelude.{length, get_or, ltb, leb, eqb}
 use Rattle.std.proofs.Common.{sym, ap, ◌∙◌, subst, add-zero, sub-one, arith, ltb-true, ltb-false, leb-false}
 use Rattle.std.proofs.lemmas.Bool.{eqb-false}
 use Rattle.pack.specs.Syntax.{Test, Effect}
@@ -212,7 +213,8 @@ pub record EffectBytes (d : Dimensions) (s : List ℕ) (at : ℕ) (x : Effect) (
   pub ends : n ≡ at + 3
   pub inside : at + 2 < length s
 
-pub effect_bytes_lem : (d : Dimensions) → Small d → (s : List ℕ) (at : ℕ) (x : Effect) (n : ℕ) → effect_at d s at ≡ done x n
+pub effect_bytes_lem : (d : Dimensions) → Small d → (s : List ℕ) (at : ℕ) (x : Effect) (n : ℕ)
+    → effect_at d s at ≡ done x n
     → EffectBytes d s at x n
 unfolding effect_at
 effect_bytes_lem d small s at x n e =
@@ -239,7 +241,8 @@ effect_bytes_lem d small s at x n e =
       inside = o3.inside;
     }
 
-pub rising_byte : (C least : ℕ) (s : List ℕ) (at v n : ℕ) → C ≤ 128 → rising_at C least s at ≡ done v n → ByteAt s at v n
+pub rising_byte : (C least : ℕ) (s : List ℕ) (at v n : ℕ) → C ≤ 128 → rising_at C least s at ≡ done v n
+    → ByteAt s at v n
 unfolding rising_at
 rising_byte C least s at v n h e =
     let b = both (item C s at) (λ v n. pick (ltb v least) (refused 6 at) (done v n)) v n e in

@@ -19,7 +19,8 @@ use Rattle.pack.specs.Grammar.{rule_at, rules_at, theory_at, pack_at, pack_of, c
 use Rattle.pack.specs.Laws.Fits.{valued-length, sizes_small, widest, widest_small, fits-widest}
 use Rattle.pack.specs.Laws.Reading.{same_gift}
 use Rattle.pack.specs.Layout.{number_bytes, list_bytes, counted_bytes, kind_number, test_bytes, condition_bytes}
-use Rattle.pack.specs.Layout.{effect_bytes, action_bytes, trigger_bytes, rule_bytes, node_bytes, chart_bytes, head_bytes}
+use Rattle.pack.specs.Layout.{effect_bytes, action_bytes, trigger_bytes, rule_bytes, node_bytes, chart_bytes}
+use Rattle.pack.specs.Layout.{head_bytes}
 use Rattle.pack.specs.Layout.{theory_bytes, pack_bytes, Each, Some, Rising, Valued, TestFits, ConditionFits}
 use Rattle.pack.specs.Layout.{EffectFits, ActionFits, TriggerFits, RuleFits, NodeFits, ChartFits, PackFits}
 use Rattle.pack.specs.Laws.Accepts.{Accepts, number_accepts, then_accepts, mapped_accepts}
@@ -138,7 +139,8 @@ module _ (d : Dimensions) (few : d.characters ≤ 6) (slim : length d.domains �
   values_run (x ∷ ds) [] f e h = absurd h
   values_run (x ∷ ds) (v ∷ values) f e h =
       let here : get_or D f 0 ≡ x = ap (λ (n : ℕ). get_or D n 0) (sym (add-zero f)) ∙ e 0 in
-      let next : (i : ℕ) → get_or D ((f + 1) + i) 0 ≡ get_or ds i 0 = λ i. let g : (f + 1) + i ≡ f + suc i = omega arith in
+      let next : (i : ℕ) → get_or D ((f + 1) + i) 0 ≡ get_or ds i 0 = λ i.
+      let g : (f + 1) + i ≡ f + suc i = omega arith in
       ap (λ (n : ℕ). get_or D n 0) g ∙ e (suc i) in
       (value_accepts f v (omega (arith, h.0)), values_run ds values (f + 1) next h.1)
 
@@ -159,7 +161,8 @@ module _ (d : Dimensions) (few : d.characters ≤ 6) (slim : length d.domains �
         rw ((number_accepts (suc b) (omega arith)).reads pre post, ne_eqb (suc b) 0 z, le-leb (suc b) nodes h, g);
   }
 
-  node_accepts : (nodes : ℕ) → nodes ≤ 32 → (n : Node) → NodeFits C D nodes n → Accepts (node_at d nodes) (node_bytes n) n
+  node_accepts : (nodes : ℕ) → nodes ≤ 32 → (n : Node) → NodeFits C D nodes n
+      → Accepts (node_at d nodes) (node_bytes n) n
   unfolding node_at
   node_accepts nodes w n h =
       then_accepts _ (values_accepts n.values h.values)

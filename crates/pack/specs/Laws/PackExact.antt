@@ -15,7 +15,8 @@ use Rattle.pack.specs.Grammar.{Dimensions, head_at, value_at, node_at, nodes_at,
 use Rattle.pack.specs.Grammar.{condition_at, effect_at, effects_at, consenters_at, action_at, trigger_at}
 use Rattle.pack.specs.Grammar.{rule_at, rules_at, theory_at, pack_at, pack_of, chart_of, dimensions, in_chart}
 use Rattle.pack.specs.Layout.{number_bytes, list_bytes, counted_bytes, kind_number, test_bytes, condition_bytes}
-use Rattle.pack.specs.Layout.{effect_bytes, action_bytes, trigger_bytes, rule_bytes, node_bytes, chart_bytes, head_bytes}
+use Rattle.pack.specs.Layout.{effect_bytes, action_bytes, trigger_bytes, rule_bytes, node_bytes, chart_bytes}
+use Rattle.pack.specs.Layout.{head_bytes}
 use Rattle.pack.specs.Layout.{theory_bytes, pack_bytes, Each, Some, Rising, Valued, TestFits, ConditionFits}
 use Rattle.pack.specs.Layout.{EffectFits, ActionFits, TriggerFits, RuleFits, NodeFits, ChartFits, PackFits}
 use Rattle.pack.specs.Laws.PackBack.{pack_back, chart_back}
@@ -155,7 +156,8 @@ module _ (d : Dimensions) where
 
   -- the values of a node
   values_fit : (ds values : List ℕ) (f : ℕ) → ((i : ℕ) → get_or D (f + i) 0 ≡ get_or ds i 0) → length values ≡ length ds
-      → Chained (value_at d) (λ f v. f + 1) (λ f v. v < get_or D f 0) number_bytes (λ f. item_exact (get_or D f 0)) f values
+      → Chained (value_at d) (λ f v. f + 1) (λ f v. v < get_or D f 0) number_bytes (λ f. item_exact (get_or D f 0)) f
+      values
       → Valued ds values
   unfolding Valued Chained
   values_fit [] [] f e l h = tt
@@ -163,7 +165,8 @@ module _ (d : Dimensions) where
   values_fit (x ∷ ds) [] f e l h = absurd (omega arith)
   values_fit (x ∷ ds) (v ∷ values) f e l h =
       let here : get_or D f 0 ≡ x = ap (λ (n : ℕ). get_or D n 0) (sym (add-zero f)) ∙ e 0 in
-      let next : (i : ℕ) → get_or D ((f + 1) + i) 0 ≡ get_or ds i 0 = λ i. let g : (f + 1) + i ≡ f + suc i = omega arith in
+      let next : (i : ℕ) → get_or D ((f + 1) + i) 0 ≡ get_or ds i 0 = λ i.
+      let g : (f + 1) + i ≡ f + suc i = omega arith in
       ap (λ (n : ℕ). get_or D n 0) g ∙ e (suc i) in
       (omega (arith, h.0), values_fit ds values (f + 1) next (omega arith) h.1)
 

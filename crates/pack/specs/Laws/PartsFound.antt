@@ -357,7 +357,8 @@ pub ended_early : (end n : ℕ) (r : Checked) → r ≡ Passed n → (n ≡ end 
 ended_early end n r e f = subst (λ (r : Checked). ended end (shown r) ≡ refuses 7 n) (sym e) (rw (ne_eqb n end f))
 
 -- a pack that is refused is none
-pub no_pack : {B : Type 0} (s : List ℕ) (k n : ℕ) (p : Pack) → told forget (pack_of s) ≡ refuses k n → pack_of s ≡ gives p
+pub no_pack : {B : Type 0} (s : List ℕ) (k n : ℕ) (p : Pack) → told forget (pack_of s) ≡ refuses k n
+    → pack_of s ≡ gives p
     → B
 no_pack s k n p e f = never_gives (sym e ∙ ap (told forget) f)
 

@@ -33,7 +33,8 @@ pub rows_length : (bytes : List ℕ) (w f c a n : ℕ) → length (rows_at bytes
 unfolding rows_at
 rows_length bytes w f c a n = upto-length (λ i. row_at bytes f c (a + i * w)) n
 
-pub rows_at_lem : (bytes : List ℕ) (w f c a n i : ℕ) → i < n → node (rows_at bytes w f c a n) i ≡ row_at bytes f c (a + i * w)
+pub rows_at_lem : (bytes : List ℕ) (w f c a n i : ℕ) → i < n
+    → node (rows_at bytes w f c a n) i ≡ row_at bytes f c (a + i * w)
 unfolding rows_at
 rows_at_lem bytes w f c a n i h = upto-at (λ i. row_at bytes f c (a + i * w)) n i nowhere h
 

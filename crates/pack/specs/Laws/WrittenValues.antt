@@ -1,7 +1,8 @@
 -- Effects written into the values of a row. Assumes nothing.
 use Prim.Native.Nat.{ℕ, zero, suc, ◌+◌, ◌-◌, ◌<◌, ◌≤◌}
 use Rattle.std.specs.Prelude.{◌≡◌, refl, cond, length, get_or, set, eqb}
-use Rattle.std.proofs.Common.{sym, ◌∙◌, subst, sub-one, arith, length-set, get_or-set_same, get_or-set_other, ext_get_or, eq-eqb, ne_eqb}
+use Rattle.std.proofs.Common.{sym, ◌∙◌, subst, sub-one, arith, length-set, get_or-set_same, get_or-set_other}
+use Rattle.std.proofs.Common.{ext_get_or, eq-eqb, ne_eqb}
 use Rattle.std.proofs.Math.Path.{ap}
 use Rattle.std.proofs.Math.Logic.{by_cases}
 use mathlib.Core.List.{List, [], ◌∷◌}
@@ -62,7 +63,8 @@ only_then a b c row k x y =
 
 -- an effect that is meant for whom, and one that is not
 module _ (s : List ℕ) (at whom : ℕ) (bytes : List ℕ) (row k : ℕ) where
-  pub effect_meant : (f v w : ℕ) → get_or s at 0 ≡ w → w ≡ whom → get_or s (at + 1) 0 ≡ f → get_or s (at + 2) 0 ≡ v → f < k
+  pub effect_meant : (f v w : ℕ) → get_or s at 0 ≡ w → w ≡ whom → get_or s (at + 1) 0 ≡ f → get_or s (at + 2) 0 ≡ v
+      → f < k
       → row + k ≤ length bytes → EffectWritten s at whom bytes (set bytes (row + f) v) row k
   effect_meant f v w q m ef ev h g = record {
     values = λ d small wide e n r.

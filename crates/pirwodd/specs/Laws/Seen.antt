@@ -12,7 +12,8 @@ use Rattle.chart.specs.Replies.{first_of, second_of, all_below, start_reply, que
 use Rattle.transition.specs.Answers.{step_table}
 use Rattle.transition.specs.Replies.{outcome_reply, step_reply}
 use Rattle.planner.specs.Answers.{explained_table, search_table}
-use Rattle.planner.specs.Replies.{story_limit, foresight_limit, nesting_limit, explained_reply, answer_reply, search_reply}
+use Rattle.planner.specs.Replies.{story_limit, foresight_limit, nesting_limit, explained_reply, answer_reply}
+use Rattle.planner.specs.Replies.{search_reply}
 use Rattle.pirwodd.specs.Report.{report_room, seen}
 
 -- the work buffer that is seen is long enough exactly where both it and the report are
@@ -91,7 +92,8 @@ pub search_seen : (pack : List ℕ) (story foresight nesting : ℕ) (list work r
 unfolding search_reply
 search_seen pack story foresight nesting list work report =
     ap (λ (b : Bool).
-    call pack [] (fits list_room list && b) (λ p. story_limit story && (foresight_limit foresight && nesting_limit nesting))
+    call pack [] (fits list_room list && b)
+    (λ p. story_limit story && (foresight_limit foresight && nesting_limit nesting))
     (λ (p : Pack) (tables : List (List Node)).
     answer_reply (search_table p.theory story foresight nesting p.nodes)))
     (seen-fits report work)

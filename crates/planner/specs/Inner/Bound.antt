@@ -1,5 +1,6 @@
 -- What no list can exceed: a utility is 0 or a rule's. Assumes nothing.
-use Rattle.std.specs.Prelude.{ℕ, zero, suc, ◌+◌, ◌<◌, ◌≤◌, ◌≡◌, refl, Bool, true, false, cond, ◌||◌, List, [], ◌∷◌, get_or, ltb}
+use Rattle.std.specs.Prelude.{ℕ, zero, suc, ◌+◌, ◌≤◌, ◌≡◌, refl, Bool, true, false, cond, ◌||◌, List, [], ◌∷◌, get_or}
+use Rattle.std.specs.Prelude.{ltb}
 use Rattle.std.proofs.Common.{ap, arith, ltb-false}
 use Rattle.pack.specs.Syntax.{Rule, Node, Theory}
 use Rattle.pack.specs.State.{State, belief, meaning}

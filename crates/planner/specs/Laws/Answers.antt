@@ -1,6 +1,6 @@
 -- Explained's and Search's functions are their relations over chains, and depend on what the table means alone. Assumes
 -- nothing.
-use Rattle.std.specs.Prelude.{ℕ, ◌≡◌, refl, Bool, true, ◌↔◌, List}
+use Rattle.std.specs.Prelude.{ℕ, ◌≡◌, refl, true, ◌↔◌, List}
 use Rattle.std.proofs.Common.{sym, subst, true≢false}
 use Rattle.std.proofs.Math.Bool.{false}
 use Rattle.pack.specs.State.{State, meaning}
@@ -24,7 +24,8 @@ module _ (p : Theory) (t : List Node) (r : IsTable p.characters t) where
 
   pub search_table_lem : (T K E : ℕ) → Searched p T K E means0 (search_table p T K E t)
   unfolding search_table
-  search_table_lem T K E = on_table_lem p.characters t (search_of p T K E) none (Searched p T K E means0) r (searched p T K E)
+  search_table_lem T K E = on_table_lem p.characters t (search_of p T K E) none (Searched p T K E means0) r
+      (searched p T K E)
 
   pub explained_table_iff : (K e c a : ℕ) → (explained_table p K e c a t ≡ true) ↔ Explained p K e c a means0
   unfolding explained_table

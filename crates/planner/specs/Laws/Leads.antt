@@ -1,8 +1,8 @@
 -- Lists of actions in parts, cutting a loop out of one, and that a list leads to one state, so that Search has one
 -- answer. Assumes nothing.
-use Rattle.std.specs.Prelude.{ℕ, ◌<◌, ◌≡◌, length}
+use Rattle.std.specs.Prelude.{ℕ, ◌≡◌, length}
 use Rattle.std.proofs.Math.Path.{refl, sym, subst}
-use Rattle.std.proofs.Common.{◌∙◌, ap, length-append, arith}
+use Rattle.std.proofs.Common.{◌∙◌, ap}
 use mathlib.Core.List.{List, [], ◌∷◌, ◌++◌}
 use Rattle.pack.specs.State.{State, Valid}
 use Rattle.pack.specs.Syntax.{Theory}

@@ -70,7 +70,8 @@ module _ {pack : List ℕ} {p : Pack} (g : Given pack p) where
     pub searches : search_reply pack T K E list work ≡ answer_reply (search_table p.theory T K E p.nodes)
     unfolding search_reply
     searches =
-        call_none (fits list_room list && fits work_room work) (λ p. story_limit T && (foresight_limit K && nesting_limit E))
+        call_none (fits list_room list && fits work_room work)
+        (λ p. story_limit T && (foresight_limit K && nesting_limit E))
         (λ p tables. answer_reply (search_table p.theory T K E p.nodes))
         (both_true (long_enough list_room list hl) (long_enough work_room work hw)) g
         (both_true (between 1 8 T t1 t8) (both_true (between 1 6 K k1 k6) (le-leb E 3 e3)))

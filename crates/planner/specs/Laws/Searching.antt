@@ -1,7 +1,7 @@
 -- Search is decided on a state that a table means: the shortest ending, then the earliest, or none; and it gives one
 -- answer. Assumes nothing.
-use Rattle.std.specs.Prelude.{ℕ, ◌<◌, ◌≤◌, ◌≡◌, refl, ◌⊎◌, ◌↔◌, List, length}
-use Rattle.std.proofs.Common.{sym, subst, ⊎_elim}
+use Rattle.std.specs.Prelude.{ℕ, ◌<◌, ◌≤◌, ◌≡◌, refl, List, length}
+use Rattle.std.proofs.Common.{⊎_elim}
 use Rattle.std.proofs.Math.Decide.{dec_le, dec_lt}
 use Rattle.pack.specs.State.{State}
 use Rattle.pack.specs.Syntax.{Theory}

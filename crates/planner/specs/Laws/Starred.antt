@@ -46,7 +46,8 @@ abbrev pack : Pack
 pack = record { theory = P; nodes = first }
 
 given : Given row.P pack
-unfolding all_below pack_of pack_at head_at nodes_at node_at theory_at action_at trigger_at rules_at rule_at condition_at test_at
+unfolding all_below pack_of pack_at head_at nodes_at node_at theory_at action_at trigger_at rules_at rule_at
+    condition_at test_at
     effects_at effect_at consenters_at number_at between belief_at rising_at runs
 given = record { bytewise = bytes row.P refl; accepted = refl }
 

@@ -53,7 +53,8 @@ module _ (effects : State → List Effect) (takes : State → ℕ → Bool) wher
   change_out s c e =
       fun_ext λ chain.
       subst (λ (b : State).
-      at_root (write (suc c) (effects s)) chain (cond (takes s c) (change effects takes b chain) (b chain)) ≡ []) (sym e)
+      at_root (write (suc c) (effects s)) chain (cond (takes s c) (change effects takes b chain) (b chain)) ≡ [])
+      (sym e)
       (rw (blank_change chain, same, at_root-blank))
 
   -- what is believed in a row that took part and said nothing of it to the believer
@@ -162,7 +163,8 @@ module _ (effects : State → List Effect) (takes : State → ℕ → Bool) wher
 
     -- so a table of such rows, the first of them that of row 0 having taken part, means what the change makes: part 1
     -- and a round are two instances
-    pub change_built : {u : List Node} {key : ℕ → Member} → Silent → Rows C u (There C) values_of next key → 0 < length u
+    pub change_built : {u : List Node} {key : ℕ → Member} → Silent → Rows C u (There C) values_of next key
+        → 0 < length u
         → key 0 ≡ acted 0 → meaning C u 0 ≡ change effects takes (meaning C t 0)
     change_built silent r h e = built (changed silent) r 0 h ∙ ap means e
 

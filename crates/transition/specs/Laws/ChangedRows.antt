@@ -1,5 +1,6 @@
 -- The slots of what is met in the pass, and the rows of what they stand for. Assumes nothing.
-use Rattle.std.specs.Prelude.{ℕ, ◌+◌, ◌*◌, ◌/◌, ◌%◌, ◌<◌, ◌≤◌, ◌≡◌, refl, Bool, true, false, cond, ◌≢◌, List, length, get_or, set}
+use Rattle.std.specs.Prelude.{ℕ, ◌+◌, ◌*◌, ◌/◌, ◌%◌, ◌<◌, ◌≤◌, ◌≡◌, refl, Bool, true, false, cond, ◌≢◌, List, length}
+use Rattle.std.specs.Prelude.{get_or, set}
 use Rattle.std.proofs.Common.{sym, ap, ap₂, ◌∙◌, subst, add-one, get_or-set_same, get_or-set_other, below_more}
 use native.Mathlib.Omega.{arith}
 use borrow.Author.Tests.{eq-eqb, ne_eqb}
@@ -207,7 +208,8 @@ pub slots_more : {h : Change} {n d : ℕ} {next : ℕ → Member} {was now : Lis
     → SlotsPut h n (d + 1) next was (set now (to + d) r) to
 slots_more {h} {n} {d} {next} {was} {now} {to} {r} x i room = record {
   slots = below_more (λ q. SlotIs h n (next q) (get_or (set now (to + d) r) (to + q) 0)) d
-      (λ q l. subst (SlotIs h n (next q)) (sym (get_or-set_other now (to + d) (to + q) r 0 (omega arith))) (x.slots q l))
+      (λ q l. subst (SlotIs h n (next q)) (sym (get_or-set_other now (to + d) (to + q) r 0 (omega arith)))
+      (x.slots q l))
       (subst (SlotIs h n (next d)) (sym (get_or-set_same now (to + d) r 0 room)) i);
   low = λ p l. get_or-set_other now (to + d) p r 0 (omega arith) ∙ x.low p l;
   high = λ p l. get_or-set_other now (to + d) p r 0 (omega arith) ∙ x.high p (omega arith);

@@ -24,7 +24,8 @@ module _ (p : Theory) (t : List Node) (r : IsTable p.characters t) where
 
   pub step_table_lem : (a : ℕ) → Steps p means0 a (step_table p t a)
   unfolding step_table
-  step_table_lem a = on_table_lem p.characters t (λ x. step_of p x a) (refused 0) (Steps p means0 a) r (λ x. steps p x a)
+  step_table_lem a = on_table_lem p.characters t (λ x. step_of p x a) (refused 0) (Steps p means0 a) r
+      (λ x. steps p x a)
 
   pub step_table_iff : (a : ℕ) (o : Outcome) → Steps p means0 a o ↔ (step_table p t a ≡ o)
   step_table_iff a o = (λ y. steps-one (step_table_lem a) y, λ e. subst (Steps p means0 a) e (step_table_lem a))

@@ -53,14 +53,17 @@ module _ (C N : ℕ) where
       ⊎_elim (λ (e : k ≡ acted 0). subst In (sym e) refl)
       (λ (m : Memᴰ k rest). ⊎_elim (λ (m : Memᴰ k (map old (below N))).
       let (n, i, e) = map_out old (below N) k m in subst In (sym e) (below_out N n i))
-      (λ (m : Memᴰ k (edges C N)). edges_out N (omega arith) k m) (mathlib.Core.List.Memᴰ.append_cases (map old (below N)) m))
+      (λ (m : Memᴰ k (edges C N)). edges_out N (omega arith) k m)
+      (mathlib.Core.List.Memᴰ.append_cases (map old (below N)) m))
       (mathlib.Core.List.Memᴰ.cases_cons m)
 
   whole : (k : Member) → In k → Memᴰ k (acted 0 ∷ rest)
   unfolding In rest
   whole (acted m) h = mathlib.Core.List.Memᴰ.head (ap acted h)
-  whole (edge m c) h = mathlib.Core.List.Memᴰ.tail (mathlib.Core.List.Memᴰ.append_right (map old (below N)) (edges_in C N m c h.0 h.1))
-  whole (old m) h = mathlib.Core.List.Memᴰ.tail (mathlib.Core.List.Memᴰ.append_left (edges C N) (map_in old (below N) m (below_in N m h)))
+  whole (edge m c) h = mathlib.Core.List.Memᴰ.tail
+      (mathlib.Core.List.Memᴰ.append_right (map old (below N)) (edges_in C N m c h.0 h.1))
+  whole (old m) h = mathlib.Core.List.Memᴰ.tail (mathlib.Core.List.Memᴰ.append_left (edges C N)
+      (map_in old (below N) m (below_in N m h)))
 
 module _ (C : ℕ) (t : List Node) (closed : Closed C t) (some : 0 < length t) (effects : State → List Effect)
     (takes : State → ℕ → Bool) where

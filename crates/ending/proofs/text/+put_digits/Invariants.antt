@@ -1,0 +1,5 @@
+-- One digit fewer is left to put. Assumes nothing.
+use Rattle.ending.proofs.text.+put_digits.Given as goal
+
+abbrev pub decreases-put_digits : goal.decreases-put_digits
+decreases-put_digits l = l.most

@@ -1,0 +1,15 @@
+-- The rank stays a byte, and what is left of the number gets smaller. Assumes nothing.
+use native.Mathlib.Omega.{arith}
+use Rattle.planner.proofs.cell.rank_of.Goals as goal
+
+pub loop-left-init : goal.loop-left-init
+loop-left-init c = omega arith
+
+pub overflow_add-rank : goal.overflow_add-rank
+overflow_add-rank c = omega (arith, c.if-rank.false, c.loop-left.invariant)
+
+pub loop-left-smaller : goal.loop-left-smaller
+loop-left-smaller c = omega (arith, c.loop-left-test.true)
+
+pub loop-left-preserved : goal.loop-left-preserved
+loop-left-preserved c = omega (arith, c.if-rank.false, c.loop-left.invariant)

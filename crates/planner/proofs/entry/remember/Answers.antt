@@ -1,0 +1,37 @@
+-- An entry put down by the table's id. Assumes nothing.
+use Prim.Native.Nat.{◌+◌}
+use mathlib.Core.Path.{◌∙◌}
+use native.Mathlib.Omega.{arith}
+use lib.ListN.{length-set}
+use Rattle.planner.proofs.TrueMemory.{remembered, notes, remembered_none}
+use Rattle.planner.proofs.entry.remember.Goals as goal
+
+pub entry_at-at-requires : goal.entry_at-at-requires
+entry_at-at-requires c = (c.requires.laid, c.id_of-id.ensures.interning.small)
+
+pub put_key-requires : goal.put_key-requires
+put_key-requires c =
+    let s = c.storable.ensures.0 c.if-storable.true in
+    (omega (arith, c.entry_at-at.ensures.1.is, c.entry_at-at.ensures.1.few, c.id_of-id.auto.work, c.requires.room, c.requires.laid.room), s.who, s.nesting, s.number, s.base)
+
+pub overflow_add-work : goal.overflow_add-work
+overflow_add-work c =
+    omega (arith, c.entry_at-at.ensures.1.is, c.entry_at-at.ensures.1.few, c.requires.laid.room)
+
+pub bounds-work-at : goal.bounds-work-at
+bounds-work-at c =
+    omega (arith, c.entry_at-at.ensures.1.is, c.entry_at-at.ensures.1.few, c.id_of-id.auto.work, c.put_key.auto.work, c.requires.room, c.requires.laid.room)
+
+pub shape_of-work-then-storable : goal.shape_of-work-then-storable
+shape_of-work-then-storable c =
+    length-set c.put_key.new.work (c.entry_at-at.result + 6) c.id_of-id.result ∙ c.put_key.auto.work ∙ c.id_of-id.auto.work
+
+pub returns-then-storable : goal.returns-then-storable
+returns-then-storable c =
+    let some = (c.storable.ensures.0 c.if-storable.true).some in
+    let (at, place) = c.entry_at-at.ensures in
+    (remembered c.args.p c.requires c.id_of-id.auto.work c.put_key.auto.work c.id_of-id.ensures some at place c.put_key.ensures, notes c.args.p c.requires c.id_of-id.auto.work c.put_key.auto.work c.id_of-id.ensures some at place c.put_key.ensures)
+
+pub returns-else-storable : goal.returns-else-storable
+returns-else-storable c =
+    remembered_none c.args.p c.requires c.id_of-id.ensures (c.storable.ensures.1 c.if-storable.false)

@@ -1,0 +1,500 @@
+-- Explanations over states in slots. Assumes nothing.
+use Prim.Native.Nat.{ℕ, suc, ◌+◌, ◌*◌, ◌-◌, ◌<◌}
+use mathlib.Core.Path.{◌≡◌, refl, sym, ◌∙◌, subst}
+use mathlib.Core.List.{List}
+use native.Mathlib.Omega.{arith}
+use lib.ListN.{length, get_or}
+use borrow.Author.Count.{below_more}
+use Rattle.pack.specs.Syntax.{Node, Theory}
+use Rattle.pack.specs.State.{State, meaning}
+use Rattle.transition.specs.Laws.ChangedRows.{small}
+use Rattle.planner.specs.Ending.{Explained, utility_to}
+use Rattle.planner.specs.Inner.Lists.{slot_table, AboveBy, ExplainedBy}
+use Rattle.planner.specs.Inner.Lists as inner
+use Rattle.planner.specs.Inner.Memory.{deed_key, Memory}
+use Rattle.planner.specs.Inner.Explain.{Stage, Free}
+use Rattle.planner.proofs.TrueMemory.{memory_fewer}
+use Rattle.planner.proofs.Pruning.{below_far, stage_trying, stage_skipped}
+use Rattle.planner.proofs.Reckoning.{free_few, above_beyond}
+use Rattle.planner.proofs.Explanations.{told_none, told_by, told_no, told_yes, stage_rules, stage_utility, next_table, next_plays, next_stage, reach_here, reach_no_more, by_hopeless, by_from, by_to, explained_from, explained_to, explained_zero, explained_plays, by_belief, of_belief, agreed_all, content_of, content_more, free_fewer, free_two, free_held, within, held_step, held_rest, consenters_of, consent_place, consent_readable, consent_count, consent_each, slot_same, stage_before, known, note, verdict, extended, noted, rules_in, utility_in}
+use Rattle.planner.proofs.explain.+explaining.Goals as goal
+use Rattle.planner.proofs.explain.+explaining.Goals.{explains-After-known_step-number}
+
+pub allowed-overflow_mul-at : goal.allowed-overflow_mul-at
+allowed-overflow_mul-at t c =
+    let (th, (T, (y, mem))) = c.requires.0 in
+    omega (arith, consent_place y _ c.requires.1)
+
+pub allowed-overflow_add-at : goal.allowed-overflow_add-at
+allowed-overflow_add-at t c =
+    let (th, (T, (y, mem))) = c.requires.0 in
+    omega (arith, consent_place y _ c.requires.1)
+
+pub allowed-offset_bounds-places-d : goal.allowed-offset_bounds-places-d
+allowed-offset_bounds-places-d t c =
+    let (th, (T, (y, mem))) = c.requires.0 in
+    omega (arith, consent_place y _ c.requires.1)
+
+pub allowed-bounds-places-d : goal.allowed-bounds-places-d
+allowed-bounds-places-d t c =
+    let (th, (T, (y, mem))) = c.requires.0 in
+    omega (arith, consent_place y _ c.requires.1)
+
+pub allowed-consenters-count-requires : goal.allowed-consenters-count-requires
+allowed-consenters-count-requires t c =
+    let (th, (T, (y, mem))) = c.requires.0 in
+    consent_readable y _ c.requires.1
+
+pub allowed-loop-i-init : goal.allowed-loop-i-init
+allowed-loop-i-init t c =
+    (refl, λ q l. refl, λ q l. refl, λ th T y mem. (mem, λ j l. absurd (omega arith)))
+
+pub allowed-consenter-c-requires : goal.allowed-consenter-c-requires
+allowed-consenter-c-requires t c =
+    let (th, (T, (y, mem))) = c.requires.0 in
+    (consent_readable y _ c.requires.1, omega (arith, c.loop-i-test.true, consent_count y _ c.requires.1 c.consenters-count.ensures))
+
+pub allowed-fine-content-requires : goal.allowed-fine-content-requires
+allowed-fine-content-requires t c =
+    let (th, (T, (y, mem))) = c.requires.0 in
+    let (long, low, high, rest) = c.loop-i.invariant in
+    let count = consent_count y _ c.requires.1 c.consenters-count.ensures in
+    let d = consent_each y _ c.requires.1 {i = c.loop-i.i} (omega (arith, count, c.loop-i-test.true)) c.consenter-c.ensures in
+    (omega (arith, c.decreases), ((th, (T, (slot_same c.args.slot y low long, (rest th T y mem).0))), d.1, c.requires.1, c.requires.2, c.requires.3, c.requires.4))
+
+pub allowed-returns-then-not-content : goal.allowed-returns-then-not-content
+allowed-returns-then-not-content t c =
+    let (long, low, high, rest) = c.loop-i.invariant in
+    λ th T y mem.
+    let told = c.fine-content.ensures th T (slot_same c.args.slot y low long) (rest th T y mem).0 in
+    let count = consent_count y _ c.requires.1 c.consenters-count.ensures in
+    let li : c.loop-i.i < length (consenters_of y _ c.requires.1) = omega (arith, count, c.loop-i-test.true) in
+    let d = consent_each y _ c.requires.1 li c.consenter-c.ensures in
+    told_no (λ q l. told.low q l ∙ low q l) (λ q l. told.high q l ∙ high q l) told.memory
+    (λ agreed. told.complete c.if-not-content.true (content_of th c.args.p.foresight.0 c.args.d.nesting.0 c.args.d.who c.args.d.action (meaning c.args.p.characters T 0) agreed li d.0))
+
+pub allowed-loop-i-preserved : goal.allowed-loop-i-preserved
+allowed-loop-i-preserved t c =
+    let (long, low, high, rest) = c.loop-i.invariant in
+    let (th, (T, (y, mem))) = c.requires.0 in
+    let told = c.fine-content.ensures th T (slot_same c.args.slot y low long) (rest th T y mem).0 in (
+      c.fine-content.auto.work ∙ long,
+      λ q l. told.low q l ∙ low q l,
+      λ q l. told.high q l ∙ high q l,
+      λ th T y mem.
+          let told = c.fine-content.ensures th T (slot_same c.args.slot y low long) (rest th T y mem).0 in
+          let count = consent_count y _ c.requires.1 c.consenters-count.ensures in
+          let li : c.loop-i.i < length (consenters_of y _ c.requires.1) = omega (arith, count, c.loop-i-test.true) in
+          let d = consent_each y _ c.requires.1 li c.consenter-c.ensures in
+          (told.memory, content_more th c.args.p.foresight.0 c.args.d.nesting.0 c.args.d.who c.args.d.action (meaning c.args.p.characters T 0) (rest th T y mem).1 d.0 (told.sound c.if-not-content.false)),
+    )
+
+pub allowed-returns : goal.allowed-returns
+allowed-returns t c =
+    let (long, low, high, rest) = c.loop-i.invariant in
+    λ th T y mem. let count = consent_count y _ c.requires.1 c.consenters-count.ensures in told_yes low high (rest th T y mem).0 (agreed_all th c.args.p.foresight.0 c.args.d.nesting.0 c.args.d.who c.args.d.action (meaning c.args.p.characters T 0) {n = c.loop-i.i} (omega (arith, count, c.loop-i-test.false)) (rest th T y mem).1)
+
+pub explained-returns-then-d-eq0 : goal.explained-returns-then-d-eq0
+explained-returns-then-d-eq0 t c =
+    let none : 0 ≡ c.args.d.nesting.0 = omega (arith, c.if-d-eq0.true) in
+    λ th T y mem. told_none _ mem (λ z. explained_zero th c.args.p.foresight.0 c.args.d.who c.args.d.action (meaning c.args.p.characters T 0) (subst (λ (e : ℕ). Explained th c.args.p.foresight.0 e c.args.d.who c.args.d.action (meaning c.args.p.characters T 0)) (sym none) z))
+
+pub explained-pointless-requires : goal.explained-pointless-requires
+explained-pointless-requires t c =
+    let (th, (T, (y, mem))) = c.requires.0 in
+    ((th, (T, y)), c.requires.1, c.requires.2, omega (arith, c.requires.5))
+
+pub explained-returns-then-pointless : goal.explained-returns-then-pointless
+explained-returns-then-pointless t c =
+    λ th T y mem. told_none _ mem (c.pointless.ensures c.if-pointless.true th T y c.args.p.foresight.0 c.args.d.nesting.0)
+
+pub explained-place_belief-b-requires : goal.explained-place_belief-b-requires
+explained-place_belief-b-requires t c =
+    ((c.args.pack.now, (c.args.places.now, c.requires.0)), c.requires.1, free_two c.args.p c.args.slot c.requires.3 (omega (arith, c.if-d-eq0.false)) c.requires.5)
+
+pub explained-judged-requires : goal.explained-judged-requires
+explained-judged-requires t c =
+    let (th, (T, (y, mem))) = c.requires.0 in
+    let b = c.place_belief-b.ensures c.args.pack.now c.args.places.now th T y mem in
+    (omega (arith, c.decreases), ((th, (b.rows, (b.stage, b.memory))), c.requires.1, c.requires.2, c.requires.3, c.requires.4, free_held c.args.p c.args.slot _ b.to c.requires.5, omega (arith, c.if-d-eq0.false), b.inside))
+
+pub explained-returns : goal.explained-returns
+explained-returns t c =
+    λ th T y mem.
+    let b = c.place_belief-b.ensures c.args.pack.now c.args.places.now th T y mem in
+    let told = c.judged.ensures th b.rows b.stage b.memory in
+    let by : State → Type 0 = ExplainedBy th c.args.p.foresight.0 c.args.d.nesting.0 c.args.d.who c.args.d.action in
+    told_by (omega (arith, b.from)) (memory_fewer c.args.p (omega (arith, b.from))) b.low b.high told
+    (λ z. of_belief th c.args.p.foresight.0 c.args.d.nesting.0 c.args.d.who c.args.d.action (meaning c.args.p.characters T 0) (subst by b.means z))
+    (λ z. subst by (sym b.means) (by_belief th c.args.p.foresight.0 c.args.d.nesting.0 c.args.d.who c.args.d.action (meaning c.args.p.characters T 0) z))
+
+pub explains-known_step-number-requires : goal.explains-known_step-number-requires
+explains-known_step-number-requires t c =
+    let (th, (T, (y, mem))) = c.requires.0 in
+    (((th, (T, (y, mem))), c.requires.2, c.requires.7, held_step c.args.p c.args.slot c.requires.3 c.requires.6 c.requires.5))
+
+pub explains-returns-then-number-ne0 : goal.explains-returns-then-number-ne0
+explains-returns-then-number-ne0 t c =
+    λ th T y mem.
+    let played = c.known_step-number.ensures.0 th T y mem in
+    told_no played.low played.high played.memory (explained_plays th c.args.p.foresight.0 c.args.d.nesting.0 c.args.d.who c.args.d.action (meaning c.args.p.characters T c.args.q) (played.none c.if-number-ne0.true))
+
+pub explains-overflow_add-next : goal.explains-overflow_add-next
+explains-overflow_add-next t c =
+    let (th, (T, (y, mem))) = c.requires.0 in
+    omega (arith, held_step c.args.p c.args.slot c.requires.3 c.requires.6 c.requires.5, y.laid.room)
+
+pub explains-table_in-before-requires : goal.explains-table_in-before-requires
+explains-table_in-before-requires t c =
+    let (th, (T, (y, mem))) = c.requires.0 in
+    (omega (arith, held_step c.args.p c.args.slot c.requires.3 c.requires.6 c.requires.5, y.laid.room, y.laid.some, y.room, c.known_step-number.auto.work), omega (arith, small y.tabled))
+
+pub explains-overflow_add-d : goal.explains-overflow_add-d
+explains-overflow_add-d t c =
+    let (th, (T, (y, mem))) = c.requires.0 in
+    omega (arith, small y.tabled, c.requires.1)
+
+pub explains-offset_bounds-places-d : goal.explains-offset_bounds-places-d
+explains-offset_bounds-places-d t c =
+    let (th, (T, (y, mem))) = c.requires.0 in
+    omega (arith, small y.tabled, c.requires.1)
+
+pub explains-bounds-places-d : goal.explains-bounds-places-d
+explains-bounds-places-d t c =
+    let (th, (T, (y, mem))) = c.requires.0 in
+    omega (arith, y.theorized.marked, small y.tabled, c.requires.1)
+
+-- the table in the slot after the step
+explains_stays : (t : ℕ) (c : explains-After-known_step-number t) {th : Theory} {T : List Node} →
+    let a = c.args in
+    Stage th T a.pack.now a.places.now a.p a.work.now (slot_table a.p a.work.now a.slot) (a.slot + a.p.stride) → Memory th a.p.foresight.0 a.p (a.slot + a.p.stride) a.work.now
+    → Stage th T a.pack.now a.places.now a.p c.known_step-number.new.work (slot_table a.p c.known_step-number.new.work a.slot) (a.slot + a.p.stride) × (a.q < get_or c.known_step-number.new.work a.slot 0)
+explains_stays t c {th} {T} y mem =
+    let a = c.args in
+    let s = c.known_step-number in
+    let low = (s.ensures.0 th T y mem).low in
+    (slot_same a.slot y low s.auto.work, omega (arith, c.requires.7, low a.slot (omega (arith, y.laid.some))))
+
+pub explains-utility-base-requires : goal.explains-utility-base-requires
+explains-utility-base-requires t c =
+    let (th, (T, (y, mem))) = c.requires.0 in
+    let (z, inside) = explains_stays t (goal.at.explains-utility-base-requires t c).After-known_step-number y mem in
+    rules_in _ _ _ c.args.q c.table_in-before.ensures (stage_rules z _ _ c.requires.1 inside).0
+
+pub explains-overflow_sub-nesting : goal.explains-overflow_sub-nesting
+explains-overflow_sub-nesting t c =
+    omega (arith, c.requires.6)
+
+pub explains-overflow_sub-quest : goal.explains-overflow_sub-quest
+explains-overflow_sub-quest t c =
+    omega (arith, c.requires.3)
+
+pub explains-extends-requires : goal.explains-extends-requires
+explains-extends-requires t c =
+    let (th, (T, (y, mem))) = c.requires.0 in
+    let f = held_step c.args.p c.args.slot c.requires.3 c.requires.6 c.requires.5 in
+    let played = c.known_step-number.ensures.0 th T y mem in
+    let zero : c.known_step-number.result ≡ 0 = omega (arith, c.if-number-ne0.false) in
+    (omega (arith, c.decreases, c.requires.4, c.requires.6), ((th, (next_table y _ played f c.known_step-number.auto.work zero, (next_stage y _ played f c.known_step-number.auto.work zero, played.further zero))), c.requires.1, c.requires.3, c.requires.4, held_rest c.args.p c.args.slot c.requires.3 c.requires.6 c.requires.5))
+
+pub explains-returns : goal.explains-returns
+explains-returns t c =
+    let f = held_step c.args.p c.args.slot c.requires.3 c.requires.6 c.requires.5 in
+    let zero : c.known_step-number.result ≡ 0 = omega (arith, c.if-number-ne0.false) in
+    let up : suc (c.args.d.nesting.0 - 1) ≡ c.args.d.nesting.0 = omega (arith, c.requires.6) in
+    let all : suc (c.args.p.foresight.0 - 1) ≡ c.args.p.foresight.0 = omega (arith, c.requires.3) in
+    λ th T y mem.
+    let b = meaning c.args.p.characters T c.args.q in
+    let by : ℕ → Type 0 = λ e. ExplainedBy th c.args.p.foresight.0 e c.args.d.who c.args.d.action b in
+    let played = c.known_step-number.ensures.0 th T y mem in
+    let base = stage_utility (explains_stays t (goal.at.explains-returns t c).After-known_step-number y mem).0 c.args.d.who c.args.q c.requires.1 (utility_in c.args.pack.now (get_or c.args.places.now (321 + c.args.d.who) 0) c.known_step-number.new.work c.args.q c.utility-base.result c.table_in-before.ensures c.utility-base.ensures) in
+    let plays = next_plays y _ played f c.known_step-number.auto.work zero in
+    let told = c.extends.ensures th (next_table y _ played f c.known_step-number.auto.work zero) (next_stage y _ played f c.known_step-number.auto.work zero) (played.further zero) in
+    told_by (omega arith) (memory_fewer c.args.p (omega arith)) played.low played.high told
+    (λ z. subst by up (explained_from th c.args.p.foresight.0 (c.args.d.nesting.0 - 1) c.args.d.who c.args.d.action b _ _ base plays (c.args.p.foresight.0 - 1) all z))
+    (λ z. explained_to th c.args.p.foresight.0 (c.args.d.nesting.0 - 1) c.args.d.who c.args.d.action b _ _ base plays (c.args.p.foresight.0 - 1) all (subst by (sym up) z))
+
+pub extends-table_in-t-requires : goal.extends-table_in-t-requires
+extends-table_in-t-requires t c =
+    let (th, (T, (y, mem))) = c.requires.0 in
+    (omega (arith, c.requires.4, y.room), omega (arith, small y.tabled))
+
+pub extends-overflow_add-goal : goal.extends-overflow_add-goal
+extends-overflow_add-goal t c =
+    let (th, (T, (y, mem))) = c.requires.0 in
+    omega (arith, small y.tabled, c.requires.1)
+
+pub extends-offset_bounds-places-goal : goal.extends-offset_bounds-places-goal
+extends-offset_bounds-places-goal t c =
+    let (th, (T, (y, mem))) = c.requires.0 in
+    omega (arith, small y.tabled, c.requires.1)
+
+pub extends-bounds-places-goal : goal.extends-bounds-places-goal
+extends-bounds-places-goal t c =
+    let (th, (T, (y, mem))) = c.requires.0 in
+    omega (arith, y.theorized.marked, small y.tabled, c.requires.1)
+
+pub extends-utility-worth-requires : goal.extends-utility-worth-requires
+extends-utility-worth-requires t c =
+    let (th, (T, (y, mem))) = c.requires.0 in
+    rules_in _ _ _ 0 c.table_in-t.ensures (stage_rules y _ 0 c.requires.1 y.tabled.some).0
+
+pub extends-returns-then-goal-worth : goal.extends-returns-then-goal-worth
+extends-returns-then-goal-worth t c =
+    λ th T y mem. told_yes (λ q l. refl) (λ q l. refl) mem (reach_here th c.args.p.foresight.0 c.args.quest.goal.nesting.0 c.args.quest.goal.who c.args.quest.goal.base c.args.quest.left (meaning c.args.p.characters T 0) (omega (arith, stage_utility y c.args.quest.goal.who 0 c.requires.1 (utility_in c.args.pack.now (get_or c.args.places.now (321 + c.args.quest.goal.who) 0) c.args.work.now 0 c.utility-worth.result c.table_in-t.ensures c.utility-worth.ensures), c.if-goal-worth.true)))
+
+pub extends-returns-then-quest-eq0 : goal.extends-returns-then-quest-eq0
+extends-returns-then-quest-eq0 t c =
+    let none : 1 ≡ suc c.args.quest.left = omega (arith, c.if-quest-eq0.true) in
+    λ th T y mem. told_none _ mem (λ z. reach_no_more th c.args.p.foresight.0 c.args.quest.goal.nesting.0 c.args.quest.goal.who c.args.quest.goal.base (meaning c.args.p.characters T 0) (λ b. omega (arith, stage_utility y c.args.quest.goal.who 0 c.requires.1 (utility_in c.args.pack.now (get_or c.args.places.now (321 + c.args.quest.goal.who) 0) c.args.work.now 0 c.utility-worth.result c.table_in-t.ensures c.utility-worth.ensures), c.if-goal-worth.false)) (subst (λ (n : ℕ). inner.Above th c.args.p.foresight.0 c.args.quest.goal.nesting.0 c.args.quest.goal.who c.args.quest.goal.base n (meaning c.args.p.characters T 0)) (sym none) z))
+
+pub extends-overflow_add-whose : goal.extends-overflow_add-whose
+extends-overflow_add-whose t c =
+    let (th, (T, (y, mem))) = c.requires.0 in
+    omega (arith, small y.tabled, c.requires.1)
+
+pub extends-within_reach-requires : goal.extends-within_reach-requires
+extends-within_reach-requires t c =
+    let (th, (T, (y, mem))) = c.requires.0 in
+    let wanted = 1 + c.args.quest.left + (1 + c.args.p.foresight.0) * c.args.quest.goal.nesting.0 in
+    let few = free_few c.args.p c.args.slot wanted y.laid c.requires.4 in
+    (((th, (T, y)), free_fewer c.args.p c.args.slot wanted 1 (omega arith) c.requires.4, omega (arith, c.requires.1)), omega (arith, few))
+
+pub extends-returns-then-not-within_reach : goal.extends-returns-then-not-within_reach
+extends-returns-then-not-within_reach t c =
+    λ th T y mem. told_none _ mem (above_beyond th c.args.p.foresight.0 c.args.quest.goal.nesting.0 c.args.quest.goal.who c.args.quest.goal.base c.args.quest.left (meaning c.args.p.characters T 0) (c.within_reach.ensures c.if-not-within_reach.true th T y))
+
+pub extends-recall-known-requires : goal.extends-recall-known-requires
+extends-recall-known-requires t c =
+    let (th, (T, (y, mem))) = c.requires.0 in
+    stage_before y (omega (arith, c.requires.4))
+
+pub extends-returns-then-known-eq1 : goal.extends-returns-then-known-eq1
+extends-returns-then-known-eq1 t c =
+    λ th T y mem.
+    let (m, fact) = c.recall-known.ensures.0.told th c.args.p.foresight.0 (c.args.slot + c.args.p.stride) (omega (arith, c.requires.4)) y.slotted mem in
+    told_no (λ q l. c.recall-known.ensures.0.only.low q (omega (arith, l, c.requires.4))) c.recall-known.ensures.0.only.high m ((known y c.goal_key-key.ensures fact).no c.if-known-eq1.true)
+
+pub extends-returns-then-known-eq2 : goal.extends-returns-then-known-eq2
+extends-returns-then-known-eq2 t c =
+    λ th T y mem.
+    let (m, fact) = c.recall-known.ensures.0.told th c.args.p.foresight.0 (c.args.slot + c.args.p.stride) (omega (arith, c.requires.4)) y.slotted mem in
+    told_yes (λ q l. c.recall-known.ensures.0.only.low q (omega (arith, l, c.requires.4))) c.recall-known.ensures.0.only.high m ((known y c.goal_key-key.ensures fact).yes c.if-known-eq2.true)
+
+pub extends-steps_made-since-requires : goal.extends-steps_made-since-requires
+extends-steps_made-since-requires t c =
+    let (th, (T, (y, mem))) = c.requires.0 in
+    (omega (arith, y.laid.room), omega (arith, y.room, c.recall-known.auto.work))
+
+pub extends-overflow_sub-fewer : goal.extends-overflow_sub-fewer
+extends-overflow_sub-fewer t c =
+    omega (arith, c.if-quest-eq0.false)
+
+pub extends-extends_by-found-requires : goal.extends-extends_by-found-requires
+extends-extends_by-found-requires t c =
+    let (th, (T, (y, mem))) = c.requires.0 in
+    (omega (arith, c.decreases, c.if-quest-eq0.false), ((th, (T, (slot_same c.args.slot y (λ q l. c.recall-known.ensures.0.only.low q (omega (arith, l, c.requires.4))) c.recall-known.auto.work, (c.recall-known.ensures.0.told th c.args.p.foresight.0 (c.args.slot + c.args.p.stride) (omega (arith, c.requires.4)) y.slotted mem).0))), c.requires.1, c.requires.2, c.requires.3, free_fewer c.args.p c.args.slot (1 + c.args.quest.left + (1 + c.args.p.foresight.0) * c.args.quest.goal.nesting.0) (2 + (c.args.quest.left - 1) + (1 + c.args.p.foresight.0) * c.args.quest.goal.nesting.0) (omega (arith, c.if-quest-eq0.false)) c.requires.4))
+
+pub extends-remember_worth-requires : goal.extends-remember_worth-requires
+extends-remember_worth-requires t c =
+    let (th, (T, (y, mem))) = c.requires.0 in
+    let told = c.extends_by-found.ensures th T (slot_same c.args.slot y (λ q l. c.recall-known.ensures.0.only.low q (omega (arith, l, c.requires.4))) c.recall-known.auto.work) (c.recall-known.ensures.0.told th c.args.p.foresight.0 (c.args.slot + c.args.p.stride) (omega (arith, c.requires.4)) y.slotted mem).0 in
+    (stage_before (slot_same c.args.slot (slot_same {now = c.recall-known.new.work} c.args.slot y (λ q l. c.recall-known.ensures.0.only.low q (omega (arith, l, c.requires.4))) c.recall-known.auto.work) told.low c.extends_by-found.auto.work) (omega (arith, c.requires.4)), c.steps_made-since.ensures)
+
+pub extends-returns : goal.extends-returns
+extends-returns t c =
+    let some : 0 < c.args.quest.left = omega (arith, c.if-quest-eq0.false) in
+    λ th T y mem.
+    let s = meaning c.args.p.characters T in
+    let told = c.extends_by-found.ensures th T (slot_same c.args.slot y (λ q l. c.recall-known.ensures.0.only.low q (omega (arith, l, c.requires.4))) c.recall-known.auto.work) (c.recall-known.ensures.0.told th c.args.p.foresight.0 (c.args.slot + c.args.p.stride) (omega (arith, c.requires.4)) y.slotted mem).0 in
+    let here : c.args.quest.goal.base < utility_to th c.args.quest.goal.who (s 0) → ⊥ = (λ b. omega (arith, stage_utility y c.args.quest.goal.who 0 c.requires.1 (utility_in c.args.pack.now (get_or c.args.places.now (321 + c.args.quest.goal.who) 0) c.args.work.now 0 c.utility-worth.result c.table_in-t.ensures c.utility-worth.ensures), c.if-goal-worth.false, b)) in
+    let whole = extended th c.args.p.foresight.0 c.args.quest.goal.nesting.0 c.args.quest.goal.who c.args.quest.goal.base c.args.quest.left s some here told in
+    let z' = slot_same c.args.slot (slot_same {now = c.recall-known.new.work} c.args.slot y (λ q l. c.recall-known.ensures.0.only.low q (omega (arith, l, c.requires.4))) c.recall-known.auto.work) told.low c.extends_by-found.auto.work in
+    record {
+      sound = whole.sound;
+      complete = whole.complete;
+      low = λ q l. c.remember_worth.ensures.0.only.low q (omega (arith, l, c.requires.4)) ∙ told.low q l ∙ c.recall-known.ensures.0.only.low q (omega (arith, l, c.requires.4));
+      high = λ q l. c.remember_worth.ensures.0.only.high q l ∙ told.high q l ∙ c.recall-known.ensures.0.only.high q l;
+      memory = c.remember_worth.ensures.0.memory th c.args.p.foresight.0 (c.args.slot + c.args.p.stride) (omega (arith, c.requires.4)) z'.slotted told.memory (note z' c.goal_key-key.ensures (noted th c.args.p.foresight.0 c.args.quest.goal.nesting.0 c.args.quest.goal.who c.args.quest.goal.base c.args.quest.left s some here told c.mark_of.ensures));
+    }
+
+pub extends_by-overflow_add-whose : goal.extends_by-overflow_add-whose
+extends_by-overflow_add-whose t c =
+    let (th, (T, (y, mem))) = c.requires.0 in
+    omega (arith, c.requires.1, small y.tabled)
+
+pub extends_by-next_promising-x-requires : goal.extends_by-next_promising-x-requires
+extends_by-next_promising-x-requires t c =
+    let (th, (T, (y, mem))) = c.requires.0 in
+    (stage_trying y (omega (arith, c.requires.4)) (omega (arith, c.requires.1)), omega arith)
+
+pub extends_by-loop-x-init : goal.extends_by-loop-x-init
+extends_by-loop-x-init t c =
+    (refl, λ q l. refl, λ q l. refl, λ th T y mem. (mem, λ j l. by_hopeless th c.args.p.foresight.0 c.args.quest.goal.nesting.0 c.args.quest.goal.who c.args.quest.goal.base c.args.quest.left j (meaning c.args.p.characters T 0) (stage_skipped y (omega (arith, c.requires.4)) c.next_promising-x.ensures j (omega arith) l)))
+
+pub extends_by-via-found-requires : goal.extends_by-via-found-requires
+extends_by-via-found-requires t c =
+    let (th, (T, (y, mem))) = c.requires.0 in
+    let (long, low, high, rest) = c.loop-x.invariant in
+    (omega (arith, c.decreases), ((th, (T, (slot_same c.args.slot y low long, (rest th T y mem).0))), c.requires.1, c.loop-x-test.true, c.requires.2, c.requires.3, omega (arith, c.requires.4)))
+
+pub extends_by-returns-then-found : goal.extends_by-returns-then-found
+extends_by-returns-then-found t c =
+    let (long, low, high, rest) = c.loop-x.invariant in
+    λ th T y mem.
+    let told = c.via-found.ensures th T (slot_same c.args.slot y low long) (rest th T y mem).0 in
+    told_yes (λ q l. told.low q l ∙ low q l) (λ q l. told.high q l ∙ high q l) told.memory (c.loop-x.x, told.sound c.if-found.true)
+
+pub extends_by-overflow_add-x : goal.extends_by-overflow_add-x
+extends_by-overflow_add-x t c =
+    let (th, (T, (y, mem))) = c.requires.0 in
+    omega (arith, c.loop-x-test.true, y.theorized.found.most_actions)
+
+pub extends_by-next_promising-x-requires-in-loop-x : goal.extends_by-next_promising-x-requires-in-loop-x
+extends_by-next_promising-x-requires-in-loop-x t c =
+    let (long, low, high, rest) = c.loop-x.invariant in
+    let (th, (T, (y, mem))) = c.requires.0 in
+    let told = c.via-found.ensures th T (slot_same c.args.slot y low long) (rest th T y mem).0 in
+    (stage_trying (slot_same c.args.slot y (λ q l. told.low q l ∙ low q l) (c.via-found.auto.work ∙ long)) (omega (arith, c.requires.4)) (omega (arith, c.requires.1)), omega (arith, c.loop-x-test.true))
+
+pub extends_by-loop-x-smaller : goal.extends_by-loop-x-smaller
+extends_by-loop-x-smaller t c =
+    omega (arith, c.next_promising-x-in-loop-x.ensures.from, c.loop-x-test.true)
+
+pub extends_by-loop-x-preserved : goal.extends_by-loop-x-preserved
+extends_by-loop-x-preserved t c =
+    let (long, low, high, rest) = c.loop-x.invariant in
+    let (th, (T, (y, mem))) = c.requires.0 in
+    let told = c.via-found.ensures th T (slot_same c.args.slot y low long) (rest th T y mem).0 in (
+      c.via-found.auto.work ∙ long,
+      λ q l. told.low q l ∙ low q l,
+      λ q l. told.high q l ∙ high q l,
+      λ th T y mem.
+          let told = c.via-found.ensures th T (slot_same c.args.slot y low long) (rest th T y mem).0 in
+          let z = slot_same c.args.slot y (λ q l. told.low q l ∙ low q l) (c.via-found.auto.work ∙ long) in (
+            told.memory,
+            below_far (λ x. AboveBy th c.args.p.foresight.0 c.args.quest.goal.nesting.0 c.args.quest.goal.who c.args.quest.goal.base (suc c.args.quest.left) x (meaning c.args.p.characters T 0) → ⊥)
+                (below_more (λ x. AboveBy th c.args.p.foresight.0 c.args.quest.goal.nesting.0 c.args.quest.goal.who c.args.quest.goal.base (suc c.args.quest.left) x (meaning c.args.p.characters T 0) → ⊥) c.loop-x.x (rest th T y mem).1 (told.complete c.if-found.false))
+                (λ j f l. by_hopeless th c.args.p.foresight.0 c.args.quest.goal.nesting.0 c.args.quest.goal.who c.args.quest.goal.base c.args.quest.left j (meaning c.args.p.characters T 0) (stage_skipped z (omega (arith, c.requires.4)) c.next_promising-x-in-loop-x.ensures j f l)),
+          ),
+    )
+
+pub extends_by-returns : goal.extends_by-returns
+extends_by-returns t c =
+    let (long, low, high, rest) = c.loop-x.invariant in
+    λ th T y mem. told_no low high (rest th T y mem).0 (λ z. (rest th T y mem).1 z.0 (omega (arith, z.1.1.there, y.theorized.found.actions, c.loop-x-test.false)) z.1)
+
+pub fine-returns-then-c-d : goal.fine-returns-then-c-d
+fine-returns-then-c-d t c =
+    λ th T y mem. told_yes (λ q l. refl) (λ q l. refl) mem (λ o. absurd (o c.if-c-d.true))
+
+pub fine-explained-requires : goal.fine-explained-requires
+fine-explained-requires t c =
+    (omega (arith, c.decreases), (c.requires.0, c.requires.1, c.requires.2, c.requires.3, c.requires.4, c.requires.5))
+
+pub fine-returns : goal.fine-returns
+fine-returns t c =
+    λ th T y mem. told_by (omega arith) (λ m. m) (λ q l. refl) (λ q l. refl) (c.explained.ensures th T y mem) (λ z o. z) (λ f. f c.if-c-d.false)
+
+pub judged-recall-known-requires : goal.judged-recall-known-requires
+judged-recall-known-requires t c =
+    let (th, (T, (y, mem))) = c.requires.0 in
+    stage_before y (within c.args.p c.args.slot c.requires.3 c.requires.6 c.requires.5)
+
+pub judged-returns-then-known-eq4 : goal.judged-returns-then-known-eq4
+judged-returns-then-known-eq4 t c =
+    λ th T y mem.
+    let (m, fact) = c.recall-known.ensures.0.told th c.args.p.foresight.0 (c.args.slot + c.args.p.stride) (within c.args.p c.args.slot c.requires.3 c.requires.6 c.requires.5) y.slotted mem in
+    told_no (λ q l. c.recall-known.ensures.0.only.low q (omega (arith, l, within c.args.p c.args.slot c.requires.3 c.requires.6 c.requires.5))) c.recall-known.ensures.0.only.high m ((known y c.deed_key-key.ensures fact).unexplained c.if-known-eq4.true)
+
+pub judged-returns-then-known-eq5 : goal.judged-returns-then-known-eq5
+judged-returns-then-known-eq5 t c =
+    λ th T y mem.
+    let (m, fact) = c.recall-known.ensures.0.told th c.args.p.foresight.0 (c.args.slot + c.args.p.stride) (within c.args.p c.args.slot c.requires.3 c.requires.6 c.requires.5) y.slotted mem in
+    told_yes (λ q l. c.recall-known.ensures.0.only.low q (omega (arith, l, within c.args.p c.args.slot c.requires.3 c.requires.6 c.requires.5))) c.recall-known.ensures.0.only.high m ((known y c.deed_key-key.ensures fact).explained c.if-known-eq5.true)
+
+pub judged-steps_made-since-requires : goal.judged-steps_made-since-requires
+judged-steps_made-since-requires t c =
+    let (th, (T, (y, mem))) = c.requires.0 in
+    (omega (arith, y.laid.room), omega (arith, y.room, c.recall-known.auto.work))
+
+pub judged-explains-found-requires : goal.judged-explains-found-requires
+judged-explains-found-requires t c =
+    let (th, (T, (y, mem))) = c.requires.0 in
+    (omega (arith, c.decreases), ((th, (T, (slot_same {now = c.recall-known.new.work} c.args.slot y (λ q l. c.recall-known.ensures.0.only.low q (omega (arith, l, within c.args.p c.args.slot c.requires.3 c.requires.6 c.requires.5))) c.recall-known.auto.work, (c.recall-known.ensures.0.told th c.args.p.foresight.0 (c.args.slot + c.args.p.stride) (within c.args.p c.args.slot c.requires.3 c.requires.6 c.requires.5) y.slotted mem).0))), c.requires.1, c.requires.2, c.requires.3, c.requires.4, c.requires.5, c.requires.6, omega (arith, c.requires.7, c.recall-known.ensures.0.only.low c.args.slot (omega (arith, within c.args.p c.args.slot c.requires.3 c.requires.6 c.requires.5, y.laid.some)))))
+
+pub judged-overflow_add-mark_of : goal.judged-overflow_add-mark_of
+judged-overflow_add-mark_of t c =
+    omega (arith, c.mark_of.ensures)
+
+pub judged-remember_worth-requires : goal.judged-remember_worth-requires
+judged-remember_worth-requires t c =
+    let (th, (T, (y, mem))) = c.requires.0 in
+    let told = c.explains-found.ensures th T (slot_same {now = c.recall-known.new.work} c.args.slot y (λ q l. c.recall-known.ensures.0.only.low q (omega (arith, l, within c.args.p c.args.slot c.requires.3 c.requires.6 c.requires.5))) c.recall-known.auto.work) (c.recall-known.ensures.0.told th c.args.p.foresight.0 (c.args.slot + c.args.p.stride) (within c.args.p c.args.slot c.requires.3 c.requires.6 c.requires.5) y.slotted mem).0 in
+    let z = slot_same c.args.slot (slot_same {now = c.recall-known.new.work} c.args.slot y (λ q l. c.recall-known.ensures.0.only.low q (omega (arith, l, within c.args.p c.args.slot c.requires.3 c.requires.6 c.requires.5))) c.recall-known.auto.work) told.low c.explains-found.auto.work in
+    (stage_before z (within c.args.p c.args.slot c.requires.3 c.requires.6 c.requires.5), c.steps_made-since.ensures)
+
+pub judged-returns : goal.judged-returns
+judged-returns t c =
+    λ th T y mem.
+    let told = c.explains-found.ensures th T (slot_same {now = c.recall-known.new.work} c.args.slot y (λ q l. c.recall-known.ensures.0.only.low q (omega (arith, l, within c.args.p c.args.slot c.requires.3 c.requires.6 c.requires.5))) c.recall-known.auto.work) (c.recall-known.ensures.0.told th c.args.p.foresight.0 (c.args.slot + c.args.p.stride) (within c.args.p c.args.slot c.requires.3 c.requires.6 c.requires.5) y.slotted mem).0 in
+    let z = slot_same c.args.slot (slot_same {now = c.recall-known.new.work} c.args.slot y (λ q l. c.recall-known.ensures.0.only.low q (omega (arith, l, within c.args.p c.args.slot c.requires.3 c.requires.6 c.requires.5))) c.recall-known.auto.work) told.low c.explains-found.auto.work in
+    let most = within c.args.p c.args.slot c.requires.3 c.requires.6 c.requires.5 in
+    record {
+      sound = told.sound;
+      complete = told.complete;
+      low = λ q l. c.remember_worth.ensures.0.only.low q (omega (arith, l, most)) ∙ told.low q l ∙ c.recall-known.ensures.0.only.low q (omega (arith, l, most));
+      high = λ q l. c.remember_worth.ensures.0.only.high q l ∙ told.high q l ∙ c.recall-known.ensures.0.only.high q l;
+      memory = c.remember_worth.ensures.0.memory th c.args.p.foresight.0 (c.args.slot + c.args.p.stride) most z.slotted told.memory (note z c.deed_key-key.ensures (verdict th c.args.p.foresight.0 (deed_key c.args.d c.args.q) (meaning c.args.p.characters T) told.sound told.complete c.mark_of.ensures));
+    }
+
+pub via-allowed-agreed-requires : goal.via-allowed-agreed-requires
+via-allowed-agreed-requires t c =
+    (omega (arith, c.decreases), (c.requires.0, c.requires.2, c.requires.3, c.requires.4, omega (arith, c.requires.5)))
+
+pub via-returns-then-not-agreed : goal.via-returns-then-not-agreed
+via-returns-then-not-agreed t c =
+    λ th T y mem.
+    let told = c.allowed-agreed.ensures th T y mem in
+    told_no told.low told.high told.memory (λ z. told.complete c.if-not-agreed.true z.2)
+
+pub via-known_step-number-requires : goal.via-known_step-number-requires
+via-known_step-number-requires t c =
+    let (th, (T, (y, mem))) = c.requires.0 in
+    let told = c.allowed-agreed.ensures th T y mem in
+    let z = slot_same c.args.slot y told.low c.allowed-agreed.auto.work in
+    (((th, (T, (z, told.memory))), c.requires.2, z.tabled.some, omega (arith, c.requires.5)))
+
+pub via-returns-then-number-ne0 : goal.via-returns-then-number-ne0
+via-returns-then-number-ne0 t c =
+    λ th T y mem.
+    let told = c.allowed-agreed.ensures th T y mem in
+    let played = c.known_step-number.ensures.0 th T (slot_same c.args.slot y told.low c.allowed-agreed.auto.work) told.memory in
+    told_no (λ q l. played.low q l ∙ told.low q l) (λ q l. played.high q l ∙ told.high q l) played.memory (λ g. played.none c.if-number-ne0.true g.0 g.1)
+
+pub via-overflow_add-slot : goal.via-overflow_add-slot
+via-overflow_add-slot t c =
+    omega (arith, c.requires.5)
+
+pub via-extends-requires : goal.via-extends-requires
+via-extends-requires t c =
+    let (th, (T, (y, mem))) = c.requires.0 in
+    let told = c.allowed-agreed.ensures th T y mem in
+    let z' = slot_same c.args.slot y told.low c.allowed-agreed.auto.work in
+    let f : Free c.args.p (c.args.slot + c.args.p.stride) 1 = omega (arith, c.requires.5) in
+    let played = c.known_step-number.ensures.0 th T z' told.memory in
+    let zero : c.known_step-number.result ≡ 0 = omega (arith, c.if-number-ne0.false) in
+    (omega (arith, c.decreases), ((th, (next_table z' 0 played f c.known_step-number.auto.work zero, (next_stage z' 0 played f c.known_step-number.auto.work zero, played.further zero))), c.requires.1, c.requires.3, c.requires.4, omega (arith, c.requires.5)))
+
+pub via-returns : goal.via-returns
+via-returns t c =
+    let zero : c.known_step-number.result ≡ 0 = omega (arith, c.if-number-ne0.false) in
+    let f : Free c.args.p (c.args.slot + c.args.p.stride) 1 = omega (arith, c.requires.5) in
+    λ th T y mem.
+    let told = c.allowed-agreed.ensures th T y mem in
+    let z' = slot_same c.args.slot y told.low c.allowed-agreed.auto.work in
+    let played = c.known_step-number.ensures.0 th T z' told.memory in
+    let plays = next_plays z' 0 played f c.known_step-number.auto.work zero in
+    told_by (omega arith) (memory_fewer c.args.p (omega arith)) (λ q l. played.low q l ∙ told.low q l) (λ q l. played.high q l ∙ told.high q l) (c.extends.ensures th (next_table z' 0 played f c.known_step-number.auto.work zero) (next_stage z' 0 played f c.known_step-number.auto.work zero) (played.further zero))
+    (λ g. by_from th c.args.p.foresight.0 c.args.quest.goal.nesting.0 c.args.quest.goal.who c.args.quest.goal.base (suc c.args.quest.left) c.args.x (meaning c.args.p.characters T 0) _ plays (told.sound c.if-not-agreed.false) g)
+    (λ g. by_to th c.args.p.foresight.0 c.args.quest.goal.nesting.0 c.args.quest.goal.who c.args.quest.goal.base (suc c.args.quest.left) c.args.x (meaning c.args.p.characters T 0) _ plays g)

@@ -1,0 +1,30 @@
+-- What the action leaves, and the triggers after it, is within the ranges. Assumes nothing.
+use Prim.Native.Nat.{◌+◌, ◌*◌}
+use mathlib.Core.Path.{refl}
+use native.Mathlib.Omega.{arith}
+use Rattle.planner.proofs.Pruning.{try_copyable, try_writable, try_triggered, try_rules, try_hopeless}
+use Rattle.planner.proofs.prune.could_leave.Goals as goal
+
+pub copy_bytes-requires : goal.copy_bytes-requires
+copy_bytes-requires c = try_copyable _ _ _ _ _ _ c.requires refl
+
+pub overflow_cast-effects : goal.overflow_cast-effects
+overflow_cast-effects c = omega (arith, c.shared_slice_known-4-1.given (9 * c.args.x + 1))
+
+pub write_effects-requires : goal.write_effects-requires
+write_effects-requires c = try_writable _ _ _ _ _ _ c.requires c.copy_bytes.auto.buffer
+
+pub widen_by_triggers-requires : goal.widen_by_triggers-requires
+widen_by_triggers-requires c =
+    (try_triggered _ _ _ _ _ _ c.requires, record { lowest = omega (arith, c.copy_bytes.auto.buffer, c.write_effects.auto.buffer); highest = omega (arith, c.copy_bytes.auto.buffer, c.write_effects.auto.buffer) })
+
+pub overflow_cast-rules : goal.overflow_cast-rules
+overflow_cast-rules c = omega (arith, c.shared_slice_known-5-1.given (320 + c.args.h.whose))
+
+pub could_exceed-requires : goal.could_exceed-requires
+could_exceed-requires c =
+    (try_rules _ _ _ _ _ _ c.requires, record { lowest = omega (arith, c.widen_by_triggers.auto.lows, c.copy_bytes.auto.buffer, c.write_effects.auto.buffer); highest = omega (arith, c.widen_by_triggers.auto.highs, c.copy_bytes.auto.buffer, c.write_effects.auto.buffer) })
+
+pub returns : goal.returns
+returns c =
+    try_hopeless _ _ _ _ _ _ c.requires c.copy_bytes.ensures c.write_effects.ensures c.widen_by_triggers.ensures c.could_exceed.ensures

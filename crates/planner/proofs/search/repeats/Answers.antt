@@ -1,0 +1,51 @@
+-- A state held against those before it. Assumes nothing.
+use Prim.Native.Nat.{ℕ, ◌+◌, ◌*◌}
+use mathlib.Core.Path.{sym, ap, ◌∙◌, subst}
+use mathlib.Core.Logic.{by_cases}
+use native.Mathlib.Decide.{ℕ_discrete}
+use lib.ListN.{get_or}
+use Rattle.pack.specs.Duties.Table.{table_of}
+use Rattle.chart.specs.Chart.{Written}
+use native.Mathlib.Omega.{arith}
+use Rattle.planner.specs.Inner.Lists.{slot_table}
+use Rattle.planner.proofs.TrueMemory.{unset, set_not, state_moved}
+use Rattle.planner.proofs.SameBytes.{same_state_bytes}
+use Rattle.planner.proofs.EarliestList.{slots_upto, slots_most}
+use Rattle.planner.proofs.search.repeats.Goals as goal
+
+pub loop-i-init : goal.loop-i-init
+loop-i-init c = (omega arith, λ j l. absurd (omega (arith, l)))
+
+pub overflow_mul-i : goal.overflow_mul-i
+overflow_mul-i c =
+    omega (arith, slots_upto c.args.p {i = c.loop-i.i} {n = c.args.done} (omega (arith, c.loop-i-test.true)), c.requires.1, c.requires.0.before, c.requires.0.laid.room)
+
+pub first_other-requires : goal.first_other-requires
+first_other-requires c =
+    let upto = slots_upto c.args.p {i = c.loop-i.i} {n = c.args.done} (omega (arith, c.loop-i-test.true)) in
+    (omega (arith, c.extent-n.ensures, c.requires.0.before, c.requires.0.room, c.requires.0.laid.room), omega (arith, c.extent-n.ensures, upto, c.requires.1, c.requires.0.before, c.requires.0.room, c.requires.0.laid.room))
+
+pub returns-then-n-first_other : goal.returns-then-n-first_other
+returns-then-n-first_other c =
+    (λ e. (c.loop-i.i, c.loop-i-test.true, state_moved c.args.p c.args.work.now c.args.work.now c.args.slot (c.loop-i.i * c.args.p.stride) (λ q l. sym (c.first_other.ensures.before q (omega (arith, l, c.extent-n.ensures, c.if-n-first_other.true))))), λ e. set_not e)
+
+pub overflow_add-i : goal.overflow_add-i
+overflow_add-i c =
+    omega (arith, c.loop-i-test.true, slots_most c.args.p c.args.done c.requires.0.laid, c.requires.1, c.requires.0.before, c.requires.0.laid.room)
+
+pub loop-i-preserved : goal.loop-i-preserved
+loop-i-preserved c = (
+  omega (arith, c.loop-i-test.true),
+  λ j l all. by_cases (ℕ_discrete j c.loop-i.i)
+      (λ z. c.first_other.ensures.here (omega (arith, c.if-n-first_other.false)) (all c.first_other.result (omega (arith, c.if-n-first_other.false)) ∙ ap (λ (j : ℕ). get_or c.args.work.now (j * c.args.p.stride + c.first_other.result) 0) z))
+      (λ z. c.loop-i.invariant.1 j (omega (arith, l, z)) all),
+)
+
+pub returns : goal.returns
+returns c = (
+  unset,
+  λ e (i, less, same). c.loop-i.invariant.1 i (omega (arith, less, c.loop-i-test.false, c.loop-i.invariant.0))
+      (λ q l. same_state_bytes c.args.p c.args.work.now c.args.slot (i * c.args.p.stride)
+      (subst (λ (k : ℕ). Written c.args.p.characters (table_of (slot_table c.args.p c.args.work.now k) c.args.work.now)) (sym c.requires.1) (c.requires.2 c.args.done (omega arith)))
+      (c.requires.2 i (omega (arith, less))) same q (omega (arith, l, c.extent-n.ensures))),
+)
