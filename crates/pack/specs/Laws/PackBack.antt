@@ -1,4 +1,4 @@
--- Every pack that keeps the layout, written as `packBytes` writes it, is read back; and so is every chart. Assumes
+-- Every pack that keeps the layout, written as `pack_bytes` writes it, is read back; and so is every chart. Assumes
 -- nothing.
 use Prim.Native.Nat.{ℕ, suc, ◌+◌, ◌-◌, ◌<◌, ◌≤◌}
 use Rattle.std.specs.Prelude.{◌≡◌, refl, length, replicate}
