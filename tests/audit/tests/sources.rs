@@ -11,6 +11,7 @@ fn no_forbidden_word() {
 fn forbidden_words_are_found() {
     assert_eq!(words::uses("decide p = lem p"), ["lem"]);
     assert_eq!(words::uses("choose f = (ac f)"), ["ac"]);
+    assert_eq!(words::uses("decide p = Prim.Axiom.lem p"), ["Prim.Axiom"]);
     assert_eq!(words::uses("returns c = ?"), ["?"]);
     assert_eq!(words::uses("-- by lem"), Vec::<&str>::new());
     assert_eq!(words::uses("acted = problem ac_same"), Vec::<&str>::new());
