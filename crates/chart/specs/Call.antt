@@ -30,7 +30,7 @@ unfoldable pub charts_of : Theory → List (List ℕ) → Reply (List (List Node
 charts_of p [] = gives []
 charts_of p (bytes ∷ rest) = with (chart_of p bytes) (λ t. with (charts_of p rest) (λ ts. gives (t ∷ ts)))
 
--- "Order: pack, first chart, second chart, 8, 9, the rest." `enough` says that the lent buffers are, `inRange` that
+-- "Order: pack, first chart, second chart, 8, 9, the rest." `enough` says that the lent buffers are, `in_range` that
 -- each number handed in is that of something there. "Place is .. for 8 to 19 .. 0."
 unfoldable pub call : {A : Type 0}
     → (pack : List ℕ) (charts : List (List ℕ)) (enough : Bool) (in_range : Theory → Bool)

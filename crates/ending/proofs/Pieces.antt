@@ -5,7 +5,7 @@ use mathlib.Core.List.{List, [], ◌∷◌, ◌++◌, append_assoc, append-nil}
 use native.Mathlib.Numerals.{add-one}
 use native.Mathlib.Omega.{arith}
 use lib.ListN.{length, take, drop, set, get_or, length-append}
-use lib.Seq.{sets, sets-eq, take-append_seam, take-suc, take_all, length-sets, length-take-le}
+use lib.Seq.{sets, sets-eq, take-append_seam, take-suc, length-sets, length-take-le}
 use borrow.Author.Tests.{lt-ltb, le-ltb}
 use lib.Dec.{ltb}
 use mathlib.Core.Bool.{Bool, true, false}

@@ -1,13 +1,13 @@
 -- When tests and conditions hold in a state, what effects write, and what a state is worth. Document 01, "The pack",
 -- its last paragraph and its last item.
 use Rattle.std.specs.Prelude.{ℕ, Bool, true, false, ◌&&◌, ◌||◌, not, cond, List, [], ◌∷◌, get_or, set, leb, eqb}
-use Rattle.pack.specs.Syntax.{Kind, is, isNot, at_least, Test, Condition, Effect, Rule}
+use Rattle.pack.specs.Syntax.{Kind, is, is_not, at_least, Test, Condition, Effect, Rule}
 use Rattle.pack.specs.State.{State}
 
 -- "Test kinds are 0 is, 1 is not, 2 at least."
 unfoldable pub compares : Kind → ℕ → ℕ → Bool
 compares is x v = eqb x v
-compares isNot x v = not (eqb x v)
+compares is_not x v = not (eqb x v)
 compares at_least x v = leb v x
 
 -- "A test looks where the chain leads"

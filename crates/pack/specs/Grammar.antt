@@ -1,7 +1,7 @@
 -- The grammar of a pack and of a chart, as readers. Each reader follows one item of document 01, "The pack", in its
 -- order.
 use Rattle.std.specs.Prelude.{ℕ, suc, ◌+◌, List, length, get_or, ltb, eqb}
-use Rattle.pack.specs.Syntax.{Kind, is, isNot, at_least, Test, Condition, Effect}
+use Rattle.pack.specs.Syntax.{Kind, is, is_not, at_least, Test, Condition, Effect}
 use Rattle.pack.specs.Syntax.{Action, Trigger, Rule, Theory, Node, Pack}
 use Rattle.pack.specs.Reading.{Reader, pick, bind, mapped, runs, many, Reply, gives, refuses, whole}
 use Rattle.pack.specs.Number.{number_at, between, item, counted, belief_at, rising_at}
@@ -20,7 +20,7 @@ head_at s at =
 
 -- "0 is, 1 is not, 2 at least"
 abbrev pub kind_of : ℕ → Kind
-kind_of k = pick (eqb k 0) is (pick (eqb k 1) isNot at_least)
+kind_of k = pick (eqb k 0) is (pick (eqb k 1) is_not at_least)
 
 module _ (d : Dimensions) where
   -- one of the fluents

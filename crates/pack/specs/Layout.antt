@@ -1,7 +1,7 @@
 -- How a pack is written, and which packs keep document 01's layout. `Laws.PackBack` shows that each of those, written
 -- so, is read back.
 use Rattle.std.specs.Prelude.{ℕ, suc, ◌+◌, ◌/◌, ◌%◌, ◌<◌, ◌≤◌, ◌≡◌, List, [], ◌∷◌, ◌++◌, length, get_or, ltb}
-use Rattle.pack.specs.Syntax.{Kind, is, isNot, at_least, Test, Condition, Effect}
+use Rattle.pack.specs.Syntax.{Kind, is, is_not, at_least, Test, Condition, Effect}
 use Rattle.pack.specs.Syntax.{Action, Trigger, Rule, Theory, Node, Pack}
 use Rattle.pack.specs.Reading.{pick}
 use Rattle.pack.specs.Grammar.{longest_pack}
@@ -25,7 +25,7 @@ counted_bytes f l = number_bytes (length l) ++ list_bytes f l
 -- "0 is, 1 is not, 2 at least"
 abbrev pub kind_number : Kind → ℕ
 kind_number is = 0
-kind_number isNot = 1
+kind_number is_not = 1
 kind_number at_least = 2
 
 -- "a chain length 0 to 4, its characters, a kind, a fluent, a value"

@@ -4,7 +4,7 @@ use Rattle.std.specs.Prelude.{ℕ, List}
 
 -- "Test kinds are 0 is, 1 is not, 2 at least."
 pub data Kind : Type 0 where
-  is isNot at_least : Kind
+  is is_not at_least : Kind
 
 -- "each a chain length 0 to 4, its characters, a kind, a fluent, a value"
 pub record Test : Type 0 where

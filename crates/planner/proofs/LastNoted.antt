@@ -57,9 +57,9 @@ module _ (h : Context) where
     same_id {p} {K} {limit} i m e y = y.interning.exact p K limit i m n (same_has e)
 
     -- written charts of two ids: it is one id exactly where no chain of beliefs tells the states apart
-    pub one-state-one_id : {m : ℕ} → Chained h work → Before h work (slot_table h work b) → HasId h work (slot_table h work b) m → Written h.characters (table_of (slot_table h work a) work) → Written h.characters (table_of (slot_table h work b) work)
+    pub one_state_one_id : {m : ℕ} → Chained h work → Before h work (slot_table h work b) → HasId h work (slot_table h work b) m → Written h.characters (table_of (slot_table h work a) work) → Written h.characters (table_of (slot_table h work b) work)
         → (state_of (slot_table h work a) work 0 ≡ state_of (slot_table h work b) work 0) ↔ (n ≡ m)
-    one-state-one_id c before y wa wb = (
+    one_state_one_id c before y wa wb = (
       λ e. id_once h before c (same_has (unique h.characters (table_of (slot_table h work a) work) (table_of (slot_table h work b) work) wa wb e)) y,
       λ e. ap (λ (T : List Node). meaning h.characters T 0) (sym x.same ∙ ap (λ (k : ℕ). table_of (kept_table h work k) work) e ∙ y.same),
     )

@@ -8,6 +8,9 @@ use std::path::Path;
 /// The excluded middle, choice, and what is left open.
 const FORBIDDEN: [&str; 3] = ["lem", "ac", "?"];
 
+/// The module of the first two, which may be named without a `use` line.
+const AXIOMS: &str = "Prim.Axiom";
+
 /// Each use of a forbidden word in the specs and proofs of the crates, with its file and line.
 pub fn forbidden(repository: &Path) -> Result<Vec<String>> {
     let mut found = Vec::new();
@@ -25,5 +28,9 @@ pub fn forbidden(repository: &Path) -> Result<Vec<String>> {
 pub fn uses(line: &str) -> Vec<&'static str> {
     let code = if line.trim_start().starts_with("--") { "" } else { line.split(" -- ").next().unwrap_or("") };
     let words = code.split(|c: char| c.is_whitespace() || "(){},;=".contains(c));
-    words.filter_map(|word| FORBIDDEN.iter().find(|forbidden| **forbidden == word).copied()).collect()
+    let forbidden = |word: &str| match word.starts_with(AXIOMS) {
+        true => Some(AXIOMS),
+        false => FORBIDDEN.iter().find(|forbidden| **forbidden == word).copied(),
+    };
+    words.filter_map(forbidden).collect()
 }

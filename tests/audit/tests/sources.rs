@@ -11,6 +11,7 @@ fn no_forbidden_word() {
 fn forbidden_words_are_found() {
     assert_eq!(words::uses("decide p = lem p"), ["lem"]);
     assert_eq!(words::uses("choose f = (ac f)"), ["ac"]);
+    assert_eq!(words::uses("decide p = Prim.Axiom.lem p"), ["Prim.Axiom"]);
     assert_eq!(words::uses("returns c = ?"), ["?"]);
     assert_eq!(words::uses("-- by lem"), Vec::<&str>::new());
     assert_eq!(words::uses("acted = problem ac_same"), Vec::<&str>::new());
@@ -69,9 +70,7 @@ fn wrong_programs_have_their_edits() {
     let cited: Vec<&str> = page.split('`').skip(1).step_by(2).collect();
     let mut there = Vec::new();
     for name in of {
-        for in_gate in [true, false] {
-            there.extend(edits::names(&repository(), name, in_gate).expect("edits"));
-        }
+        there.extend(edits::names(&repository(), name).expect("edits"));
     }
     let uncited: Vec<_> = there.iter().filter(|edit| !cited.contains(&edit.as_str())).collect();
     assert!(uncited.is_empty(), "not on the page: {uncited:?}");

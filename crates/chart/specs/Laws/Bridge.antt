@@ -10,7 +10,7 @@ use Rattle.pack.specs.State.{State, node, meaning, target, Closed}
 use Rattle.pack.specs.Syntax.{Node}
 use Rattle.chart.specs.Chart.{Ordered}
 use Rattle.chart.specs.States.{AtMost}
-use Rattle.chart.specs.Laws.Counted.{at_least}
+use Rattle.chart.specs.Laws.Counted.{at_least_so_many}
 use Rattle.chart.specs.Laws.Merged.{classes, Numbered, first}
 use Rattle.chart.specs.Laws.Unique.{ordered_reached}
 
@@ -47,6 +47,6 @@ pub many : (C : ℕ) (t : List Node) → Ordered C t → (cls : ℕ → ℕ) →
 many C t w cls d same n h x =
     omega (
       arith,
-      at_least C t (ordered_reached C t w) cls (classes cls (length t))
+      at_least_so_many C t (ordered_reached C t w) cls (classes cls (length t))
           (λ i l. let (r, lr, e, f) = first cls (length t) d i l in (r, lr, e)) same n x,
     )

@@ -51,11 +51,11 @@ module _ (C : ℕ) (t : List Node) (reached : (i : ℕ) → i < length t → Rea
   there i r = after-walk C t r.0 0 r.1 ∙ ap at r.2
 
   -- no fewer states than classes, where rows that mean the same are of one class
-  pub at_least : (cls : ℕ → ℕ) (q : ℕ) → ((i : ℕ) → i < q → (r : ℕ) × (r < length t) × (cls r ≡ i))
+  pub at_least_so_many : (cls : ℕ → ℕ) (q : ℕ) → ((i : ℕ) → i < q → (r : ℕ) × (r < length t) × (cls r ≡ i))
       → ((r s : ℕ) → r < length t → s < length t → at r ≡ at s → cls r ≡ cls s)
       → (n : ℕ) → AtMost n C (at 0) → q ≤ n
   unfolding AtMost
-  at_least cls q used one n (l, few, h) =
+  at_least_so_many cls q used one n (l, few, h) =
       omega (
         arith,
         count_all q,
@@ -96,7 +96,7 @@ module _ (C : ℕ) (t : List Node) (reached : (i : ℕ) → i < length t → Rea
         )
 
     pub counted : Apart C t → (n : ℕ) → AtMost n C (at 0) ↔ (length t ≤ n)
-    counted apart n = (at_least (λ r. r) (length t) (λ i l. (i, l, refl)) one n, at_most n)
+    counted apart n = (at_least_so_many (λ r. r) (length t) (λ i l. (i, l, refl)) one n, at_most n)
       where
         one : (r s : ℕ) → r < length t → s < length t → at r ≡ at s → r ≡ s
         one r s lr ls e =

@@ -1,5 +1,5 @@
 -- The pass that numbers on demand, breadth first: row after row, each belief a member numbered before or the next. When
--- no row is left it is a table as `built` and `ordered-reached` ask for. Assumes nothing.
+-- no row is left it is a table as `built` and `ordered_reached` ask for. Assumes nothing.
 use Prim.Native.Nat.{ℕ, zero, suc, ◌<◌, ◌≤◌}
 use Rattle.std.specs.Prelude.{◌≡◌, get_or}
 use Rattle.std.proofs.Math.Path.{refl, ap, ap₂, subst}

@@ -112,7 +112,7 @@ abbrev pub replied_count : Number → Reply ℕ
 replied_count (numbers.Is v n) = gives v
 replied_count (numbers.Refused k p) = refuses k p
 
--- The contract of the pack reader: the bytes are accepted or refused as `packOf` says, and what is accepted is found
+-- The contract of the pack reader: the bytes are accepted or refused as `pack_of` says, and what is accepted is found
 -- where the answer says.
 pub record PackRead (s places : List ℕ) (r : Contents) : Type 0 where
   pub answer : told forget (pack_of s) ≡ replied r.answer

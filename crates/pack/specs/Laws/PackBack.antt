@@ -1,4 +1,4 @@
--- Every pack that keeps the layout, written as `packBytes` writes it, is read back; and so is every chart. Assumes
+-- Every pack that keeps the layout, written as `pack_bytes` writes it, is read back; and so is every chart. Assumes
 -- nothing.
 use Prim.Native.Nat.{ℕ, suc, ◌+◌, ◌-◌, ◌<◌, ◌≤◌}
 use Rattle.std.specs.Prelude.{◌≡◌, refl, length, replicate}
@@ -9,7 +9,7 @@ use native.Mathlib.Omega.{arith}
 use Rattle.std.proofs.Math.ListN.{get_or}
 use Rattle.std.proofs.lemmas.List.{length-replicate}
 use borrow.Author.Tests.{le-ltb, le-leb, ne_eqb}
-use Rattle.pack.specs.Syntax.{Kind, is, isNot, at_least, Test, Condition, Effect}
+use Rattle.pack.specs.Syntax.{Kind, is, is_not, at_least, Test, Condition, Effect}
 use Rattle.pack.specs.Syntax.{Action, Trigger, Rule, Theory, Node, Pack}
 use Rattle.pack.specs.Reading.{runs, gives, whole}
 use Rattle.pack.specs.Number.{belief_at, rising_at}
@@ -37,12 +37,12 @@ module _ (d : Dimensions) (few : d.characters ≤ 6) (slim : length d.domains �
 
   kind_back : (k : Kind) → kind_of (kind_number k) ≡ k
   kind_back is = refl
-  kind_back isNot = refl
+  kind_back is_not = refl
   kind_back at_least = refl
 
   kind_low : (k : Kind) → kind_number k < 3
   kind_low is = omega arith
-  kind_low isNot = omega arith
+  kind_low is_not = omega arith
   kind_low at_least = omega arith
 
   fluent_accepts : (f : ℕ) → f < length D → Accepts (fluent_at d) (number_bytes f) f

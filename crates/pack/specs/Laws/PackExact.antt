@@ -1,4 +1,4 @@
--- What is accepted keeps the layout and is written as `packBytes` writes it: with `PackBack`, reading is exactly the
+-- What is accepted keeps the layout and is written as `pack_bytes` writes it: with `PackBack`, reading is exactly the
 -- inverse of writing. Assumes nothing.
 use Prim.Native.Nat.{ℕ, zero, suc, ◌+◌, ◌-◌, ◌<◌, ◌≤◌}
 use Rattle.std.specs.Prelude.{◌≡◌, Bool, true, false, ◌↔◌, ltb, leb, eqb}

@@ -1,5 +1,5 @@
 -- From what a call promises of its answer and its lent buffers to its reply, and back. Assumes nothing.
-use Rattle.std.specs.Prelude.{ℕ, ◌≤◌, refl, Bool, true, ◌↔◌}
+use Rattle.std.specs.Prelude.{ℕ, ◌≤◌, refl, Bool, ◌↔◌}
 use Rattle.std.proofs.Math.Path.{◌≡◌, ap, ap₂}
 use Rattle.std.proofs.Common.{sym, ◌∙◌, arith, le-leb}
 use mathlib.Core.List.{List, [], ◌∷◌, ◌++◌}
@@ -13,9 +13,9 @@ use Rattle.chart.specs.declared.Queried.TheVariants as queried
 use Rattle.chart.specs.declared.Matched.{Matched}
 use Rattle.chart.specs.declared.Matched.TheVariants as matched
 use Rattle.chart.specs.Compare.{Verdict, same, differ}
-use Rattle.chart.specs.Call.{fits, cleared, result_after, work_after}
+use Rattle.chart.specs.Call.{cleared, result_after, work_after}
 use Rattle.chart.specs.Replies.{chain_of}
-use Rattle.chart.specs.Promises.{chart_said, query_said, Difference, nowhere, after, difference, compare_said}
+use Rattle.chart.specs.Promises.{chart_said, query_said, nowhere, after, difference, compare_said}
 use Rattle.planner.specs.declared.Judged.{Judged}
 use Rattle.planner.specs.declared.Judged.TheVariants as judged
 use Rattle.planner.specs.declared.Found.{Found}

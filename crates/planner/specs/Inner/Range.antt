@@ -13,7 +13,7 @@ use native.Mathlib.Omega.{arith}
 use Rattle.std.proofs.Math.ListN.{get_or}
 use Rattle.std.proofs.Math.Dec.{eqb, ltb}
 use borrow.Author.Tests.{eq-eqb, ne_eqb, eqb-true, ltb-false, leb-false, le-leb, lt-leb}
-use Rattle.pack.specs.Syntax.{Kind, is, isNot, at_least, Effect, Trigger, Test, Condition, Rule, Theory}
+use Rattle.pack.specs.Syntax.{Kind, is, is_not, at_least, Effect, Trigger, Test, Condition, Rule, Theory}
 use Rattle.pack.specs.State.{State}
 use Rattle.pack.specs.Condition.{compares, passes, all_pass, holds, utility, write}
 use Rattle.transition.specs.Happening.{change, firing, effects_of, fires, round, Settles}
@@ -35,7 +35,7 @@ module _ (may : Test → Bool) where
 -- some value from low to high compares so
 unfoldable pub could_meet : Kind → (low high v : ℕ) → Bool
 could_meet is low high v = leb low v && leb v high
-could_meet isNot low high v = ltb low high || not (eqb low v)
+could_meet is_not low high v = ltb low high || not (eqb low v)
 could_meet at_least low high v = leb v high
 
 module _ (lows highs : List ℕ) where
@@ -133,7 +133,7 @@ unmet is {low} {high} {w} v l h e = ne_eqb w v (λ q. unequal (sym (within q) �
     within q =
         ap (λ (b : Bool). b && leb v high) (le-leb low v (omega (arith, l, q)))
         ∙ le-leb v high (omega (arith, h, q))
-unmet isNot {low} {high} {w} v l h e =
+unmet is_not {low} {high} {w} v l h e =
     let (flat, same) = neither (ltb low high) e in
     let low-is : low ≡ v = eqb-true low v (denied (eqb low v) same) in
     ap not (eq-eqb w v (omega (arith, ltb-false low high flat, low-is, l, h)))

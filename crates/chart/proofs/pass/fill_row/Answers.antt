@@ -23,7 +23,7 @@ place c =
     let x : c.wide-x.result < c.args.s.nodes = omega (arith, c.wide-x.ensures, c.requires.numbering.0.there c.args.i c.requires.numbering.1) in (
       x,
       omega (arith, row_in c.args.s.nodes c.args.s.width c.wide-x.result x, c.requires.laid.0.source),
-      omega (arith, row_in c.args.s.nodes c.args.s.width c.args.i (omega (arith, (let it : c.args.count ≤ c.args.s.nodes = few c.args.work.now c.args.m c.args.s.nodes c.args.count c.requires.numbering.0 in it), c.requires.numbering.1)), c.requires.laid.0.target),
+      omega (arith, row_in c.args.s.nodes c.args.s.width c.args.i (omega (arith, few c.args.work.now c.args.m c.args.s.nodes c.args.count c.requires.numbering.0, c.requires.numbering.1)), c.requires.laid.0.target),
     )
 
 pub overflow_add-m-2 : goal.overflow_add-m-2

@@ -10,7 +10,7 @@ loop-q-init c = (omega arith, omega arith, sym (sum_none _ _ _))
 
 pub overflow_add-sum : goal.overflow_add-sum
 overflow_add-sum c =
-    omega (arith, c.wide.ensures, c.shared_slice_known-in-loop-q-1.given (c.args.a + c.loop-q.q))
+    omega (arith, c.wide.ensures, c.type_inv.work (c.args.a + c.loop-q.q))
 
 pub loop-q-preserved : goal.loop-q-preserved
 loop-q-preserved c = (

@@ -56,7 +56,7 @@ bounds-places-d c =
     omega (arith, c.requires.2, y.theorized.found.most_actions, y.theorized.marked)
 
 pub overflow_cast-places : goal.overflow_cast-places
-overflow_cast-places c = omega (arith, c.shared_slice_known-5-1.given (9 * c.args.d.action))
+overflow_cast-places c = omega (arith, c.type_inv.places (9 * c.args.d.action))
 
 pub holds-may-requires : goal.holds-may-requires
 holds-may-requires c =
@@ -86,7 +86,7 @@ bounds-places-d-2 c =
     omega (arith, (stage_rules y _ 0 c.requires.1 y.tabled.some).1)
 
 pub overflow_cast-rules : goal.overflow_cast-rules
-overflow_cast-rules c = omega (arith, c.shared_slice_known-6-1.given (321 + c.args.d.who))
+overflow_cast-rules c = omega (arith, c.type_inv.places (321 + c.args.d.who))
 
 pub utility-base-requires : goal.utility-base-requires
 utility-base-requires c =

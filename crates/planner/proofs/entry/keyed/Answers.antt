@@ -20,11 +20,11 @@ returns-then-wide-k-3 c =
     (unset, λ e x. omega (arith, c.wide-3.ensures, c.if-wide-k-3.true, ap (λ (k : Key). k.number) x))
 
 pub overflow_mul-result : goal.overflow_mul-result
-overflow_mul-result c = omega (arith, c.wide-5.ensures, c.shared_slice_known-1.given (c.args.at + 5))
+overflow_mul-result c = omega (arith, c.wide-5.ensures, c.type_inv.work (c.args.at + 5))
 
 pub overflow_add-result : goal.overflow_add-result
 overflow_add-result c =
-    omega (arith, c.wide-4.ensures, c.wide-5.ensures, c.shared_slice_known-1.given (c.args.at + 4), c.shared_slice_known-1.given (c.args.at + 5))
+    omega (arith, c.wide-4.ensures, c.wide-5.ensures, c.type_inv.work (c.args.at + 4), c.type_inv.work (c.args.at + 5))
 
 pub returns : goal.returns
 returns c =

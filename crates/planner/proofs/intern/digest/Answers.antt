@@ -20,7 +20,7 @@ bounds-work-from c = omega (arith, c.requires, c.loop-i-test.true)
 
 pub overflow_add-h : goal.overflow_add-h
 overflow_add-h c =
-    omega (arith, c.loop-i.invariant.1, c.wide.ensures, c.shared_slice_known-1.given (c.args.from + c.loop-i.i))
+    omega (arith, c.loop-i.invariant.1, c.wide.ensures, c.type_inv.work (c.args.from + c.loop-i.i))
 
 pub overflow_add-i : goal.overflow_add-i
 overflow_add-i c = omega (arith, c.loop-i-test.true, c.requires, c.well_formed.0.0)

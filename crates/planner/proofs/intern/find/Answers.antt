@@ -12,7 +12,7 @@ bounds-work-at c = omega (arith, c.requires.1)
 
 pub loop-id-init : goal.loop-id-init
 loop-id-init c =
-    let small = c.shared_slice_known-2-1.given c.args.at in (
+    let small = c.type_inv.work c.args.at in (
       omega (arith, c.wide-id.ensures, small),
       λ z. record { some = z; low = omega (arith, small); links = 0; behind = subst (Behind c.args.p c.args.work.now c.wide-id.result 0) (sym c.wide-id.ensures) (behind_here c.args.p c.args.work.now c.wide-id.result) },
       λ n x y. (x.links, subst (Behind c.args.p c.args.work.now n x.links) c.wide-id.ensures x.behind),
@@ -50,7 +50,7 @@ loop-id-smaller c = omega (arith, c.if-id-next.false)
 
 pub loop-id-preserved : goal.loop-id-preserved
 loop-id-preserved c = (
-  omega (arith, c.wide-next.ensures, c.shared_slice_known-in-loop-id-1.given (links_at c.args.p + c.loop-id.id)),
+  omega (arith, c.wide-next.ensures, c.type_inv.work (links_at c.args.p + c.loop-id.id)),
   λ z. subst (OnChain c.args.p c.args.work.now c.args.at) c.wide-next.ensures (chain_next c.args.p (omega (arith, c.wide-next.ensures, c.if-id-next.false)) (omega (arith, c.wide-next.ensures, z)) (c.loop-id.invariant.1 (omega (arith, c.loop-id-test.true)))),
   λ n x y.
       let (k, z) = c.loop-id.invariant.2 n x y in

@@ -20,11 +20,11 @@ bounds-work-p c = omega (arith, c.requires.0.laid.room, c.requires.0.room)
 
 pub overflow_mul-p : goal.overflow_mul-p
 overflow_mul-p c =
-    omega (arith, c.requires.0.laid.tabled, blocks_most c.args.p c.requires.0.laid c.wide.result (omega (arith, c.wide.ensures, c.shared_slice_known-2-1.given (c.args.p.memory + 48))))
+    omega (arith, c.requires.0.laid.tabled, blocks_most c.args.p c.requires.0.laid c.wide.result (omega (arith, c.wide.ensures, c.type_inv.work (c.args.p.memory + 48))))
 
 pub overflow_add-p-2 : goal.overflow_add-p-2
 overflow_add-p-2 c =
-    omega (arith, c.requires.0.laid.tabled, blocks_most c.args.p c.requires.0.laid c.wide.result (omega (arith, c.wide.ensures, c.shared_slice_known-2-1.given (c.args.p.memory + 48))), c.requires.0.laid.room, c.requires.0.laid.tabled)
+    omega (arith, c.requires.0.laid.tabled, blocks_most c.args.p c.requires.0.laid c.wide.result (omega (arith, c.wide.ensures, c.type_inv.work (c.args.p.memory + 48))), c.requires.0.laid.room, c.requires.0.laid.tabled)
 
 pub overflow_mul-p-2 : goal.overflow_mul-p-2
 overflow_mul-p-2 c =
@@ -52,7 +52,7 @@ overflow_add-at c =
 
 pub bounds-work-at : goal.bounds-work-at
 bounds-work-at c =
-    omega (arith, c.requires.0.laid.tabled, blocks_most c.args.p c.requires.0.laid c.wide.result (omega (arith, c.wide.ensures, c.shared_slice_known-2-1.given (c.args.p.memory + 48))), c.requires.0.laid.room, c.requires.0.room, c.if-p-wide.false)
+    omega (arith, c.requires.0.laid.tabled, blocks_most c.args.p c.requires.0.laid c.wide.result (omega (arith, c.wide.ensures, c.type_inv.work (c.args.p.memory + 48))), c.requires.0.laid.room, c.requires.0.room, c.if-p-wide.false)
 
 pub returns-then-wide-t : goal.returns-then-wide-t
 returns-then-wide-t c =
@@ -65,7 +65,7 @@ overflow_add-at-2 c =
 
 pub first_other-requires : goal.first_other-requires
 first_other-requires c =
-    (omega (arith, c.requires.0.before, c.requires.0.room, c.requires.0.laid.room, c.requires.0.laid.tabled), omega (arith, c.if-p-wide.false, blocks_most c.args.p c.requires.0.laid c.wide.result (omega (arith, c.wide.ensures, c.shared_slice_known-2-1.given (c.args.p.memory + 48))), c.requires.0.room, c.requires.0.laid.room, c.requires.0.laid.tabled))
+    (omega (arith, c.requires.0.before, c.requires.0.room, c.requires.0.laid.room, c.requires.0.laid.tabled), omega (arith, c.if-p-wide.false, blocks_most c.args.p c.requires.0.laid c.wide.result (omega (arith, c.wide.ensures, c.type_inv.work (c.args.p.memory + 48))), c.requires.0.room, c.requires.0.laid.room, c.requires.0.laid.tabled))
 
 pub returns : goal.returns
 returns c =

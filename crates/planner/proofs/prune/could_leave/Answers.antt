@@ -9,7 +9,7 @@ pub copy_bytes-requires : goal.copy_bytes-requires
 copy_bytes-requires c = try_copyable _ _ _ _ _ _ c.requires refl
 
 pub overflow_cast-effects : goal.overflow_cast-effects
-overflow_cast-effects c = omega (arith, c.shared_slice_known-4-1.given (9 * c.args.x + 1))
+overflow_cast-effects c = omega (arith, c.type_inv.places (9 * c.args.x + 1))
 
 pub write_effects-requires : goal.write_effects-requires
 write_effects-requires c = try_writable _ _ _ _ _ _ c.requires c.copy_bytes.auto.buffer
@@ -19,7 +19,7 @@ widen_by_triggers-requires c =
     (try_triggered _ _ _ _ _ _ c.requires, record { lowest = omega (arith, c.copy_bytes.auto.buffer, c.write_effects.auto.buffer); highest = omega (arith, c.copy_bytes.auto.buffer, c.write_effects.auto.buffer) })
 
 pub overflow_cast-rules : goal.overflow_cast-rules
-overflow_cast-rules c = omega (arith, c.shared_slice_known-5-1.given (320 + c.args.h.whose))
+overflow_cast-rules c = omega (arith, c.type_inv.places (320 + c.args.h.whose))
 
 pub could_exceed-requires : goal.could_exceed-requires
 could_exceed-requires c =

@@ -7,7 +7,7 @@ use Rattle.planner.proofs.Pruning.{unequal, try_judged, try_forbidden}
 use Rattle.planner.proofs.prune.promising.Goals as goal
 
 pub overflow_cast-places : goal.overflow_cast-places
-overflow_cast-places c = omega (arith, c.shared_slice_known-4-1.given (9 * c.args.x))
+overflow_cast-places c = omega (arith, c.type_inv.places (9 * c.args.x))
 
 pub holds-may-requires : goal.holds-may-requires
 holds-may-requires c = try_judged _ _ _ _ _ _ c.requires

@@ -22,7 +22,7 @@ pub bounds-places-i : goal.bounds-places-i
 bounds-places-i c = omega (arith, triggered_few _ _ _ c.requires.0, c.loop-i-test.true)
 
 pub overflow_cast-effects : goal.overflow_cast-effects
-overflow_cast-effects c = omega (arith, c.shared_slice_known-in-loop-i-1.given (289 + 2 * c.loop-i.i))
+overflow_cast-effects c = omega (arith, c.type_inv.places (289 + 2 * c.loop-i.i))
 
 pub widen-requires : goal.widen-requires
 widen-requires c =

@@ -11,7 +11,7 @@ use Rattle.planner.proofs.Reckoning.{reach_rules, reach_fluents, bounded_start, 
 use Rattle.planner.proofs.reach.nearest.Goals as goal
 
 pub overflow_cast-rules : goal.overflow_cast-rules
-overflow_cast-rules c = omega (arith, c.shared_slice_known-4-1.given (320 + c.args.h.whose))
+overflow_cast-rules c = omega (arith, c.type_inv.places (320 + c.args.h.whose))
 
 pub overflow_add-slot : goal.overflow_add-slot
 overflow_add-slot c =

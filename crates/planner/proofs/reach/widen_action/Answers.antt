@@ -14,7 +14,7 @@ pub bounds-places-x : goal.bounds-places-x
 bounds-places-x c = omega (arith, action_few _ _ _ c.requires.0)
 
 pub overflow_cast-condition : goal.overflow_cast-condition
-overflow_cast-condition c = omega (arith, c.shared_slice_known-5-1.given (9 * c.args.x))
+overflow_cast-condition c = omega (arith, c.type_inv.places (9 * c.args.x))
 
 pub could_hold-requires : goal.could_hold-requires
 could_hold-requires c = (action_condition _ _ _ c.requires.0, c.requires.1)
@@ -35,7 +35,7 @@ pub bounds-places-x-2 : goal.bounds-places-x-2
 bounds-places-x-2 c = omega (arith, action_few _ _ _ c.requires.0)
 
 pub overflow_cast-effects : goal.overflow_cast-effects
-overflow_cast-effects c = omega (arith, c.shared_slice_known-6-1.given (9 * c.args.x + 1))
+overflow_cast-effects c = omega (arith, c.type_inv.places (9 * c.args.x + 1))
 
 pub widen-requires : goal.widen-requires
 widen-requires c = (action_effects _ _ _ c.requires.0, c.requires.2)

@@ -21,7 +21,7 @@ bounds-places-320 c =
     omega (arith, y.theorized.marked)
 
 pub overflow_cast-places : goal.overflow_cast-places
-overflow_cast-places c = omega (arith, c.shared_slice_known-3-1.given 320)
+overflow_cast-places c = omega (arith, c.type_inv.places 320)
 
 pub can_exceed-requires : goal.can_exceed-requires
 can_exceed-requires c =

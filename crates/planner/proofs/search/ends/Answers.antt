@@ -18,7 +18,7 @@ bounds-places-320 c =
     omega (arith, y.theorized.marked)
 
 pub overflow_cast-places : goal.overflow_cast-places
-overflow_cast-places c = omega (arith, c.shared_slice_known-4-1.given 320)
+overflow_cast-places c = omega (arith, c.type_inv.places 320)
 
 pub utility-worth-requires : goal.utility-worth-requires
 utility-worth-requires c =

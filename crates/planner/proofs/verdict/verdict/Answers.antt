@@ -15,30 +15,30 @@ slice_bounds-check_under-end c =
 pub overflow_add-k : goal.overflow_add-k
 overflow_add-k c =
     let ranges = judge_ranges c.args.chart.now c.args.character c.args.action c.args.k.0 c.args.e.0 c.args.work.now c.read_pack-p.ensures c.check_under-nodes.result c.check_under-nodes.ensures c.in_range-there.result c.in_range-there.ensures c.check_lent.result c.check_lent.ensures
-    (λ i. omega (arith, c.shared_slice_known-1.given i)) (λ i. omega (arith, c.shared_slice_known-2-1.given i)) (omega (arith, c.read_pack-p.auto)) _ _ c.in-Is.is in
+    (λ i. omega (arith, c.type_inv.pack i)) (λ i. omega (arith, c.type_inv.chart i)) (omega (arith, c.read_pack-p.auto)) _ _ c.in-Is.is in
     omega (arith, ranges)
 
 pub overflow_mul-k : goal.overflow_mul-k
 overflow_mul-k c =
     let sizes = judge_sizes c.args.chart.now c.args.character c.args.action c.args.k.0 c.args.e.0 c.args.work.now c.read_pack-p.ensures c.check_under-nodes.result c.check_under-nodes.ensures c.in_range-there.result c.in_range-there.ensures c.check_lent.result c.check_lent.ensures
-    (λ i. omega (arith, c.shared_slice_known-1.given i)) (λ i. omega (arith, c.shared_slice_known-2-1.given i)) (omega (arith, c.read_pack-p.auto)) _ _ c.in-Is.is in
+    (λ i. omega (arith, c.type_inv.pack i)) (λ i. omega (arith, c.type_inv.chart i)) (omega (arith, c.read_pack-p.auto)) _ _ c.in-Is.is in
     omega (arith, sizes)
 
 pub overflow_add-k-in-Is : goal.overflow_add-k-in-Is
 overflow_add-k-in-Is c =
     let sizes = judge_sizes c.args.chart.now c.args.character c.args.action c.args.k.0 c.args.e.0 c.args.work.now c.read_pack-p.ensures c.check_under-nodes.result c.check_under-nodes.ensures c.in_range-there.result c.in_range-there.ensures c.check_lent.result c.check_lent.ensures
-    (λ i. omega (arith, c.shared_slice_known-1.given i)) (λ i. omega (arith, c.shared_slice_known-2-1.given i)) (omega (arith, c.read_pack-p.auto)) _ _ c.in-Is.is in
+    (λ i. omega (arith, c.type_inv.pack i)) (λ i. omega (arith, c.type_inv.chart i)) (omega (arith, c.read_pack-p.auto)) _ _ c.in-Is.is in
     omega (arith, sizes)
 
 pub laid_out-context-requires : goal.laid_out-context-requires
 laid_out-context-requires c =
     judge_sizes c.args.chart.now c.args.character c.args.action c.args.k.0 c.args.e.0 c.args.work.now c.read_pack-p.ensures c.check_under-nodes.result c.check_under-nodes.ensures c.in_range-there.result c.in_range-there.ensures c.check_lent.result c.check_lent.ensures
-    (λ i. omega (arith, c.shared_slice_known-1.given i)) (λ i. omega (arith, c.shared_slice_known-2-1.given i)) (omega (arith, c.read_pack-p.auto)) _ _ c.in-Is.is
+    (λ i. omega (arith, c.type_inv.pack i)) (λ i. omega (arith, c.type_inv.chart i)) (omega (arith, c.read_pack-p.auto)) _ _ c.in-Is.is
 
 pub verdict_in-verdict-requires : goal.verdict_in-verdict-requires
 verdict_in-verdict-requires c =
     judge_able c.args.chart.now c.args.character c.args.action c.args.k.0 c.args.e.0 c.args.work.now c.read_pack-p.ensures c.check_under-nodes.result c.check_under-nodes.ensures c.in_range-there.result c.in_range-there.ensures c.check_lent.result c.check_lent.ensures
-    (λ i. omega (arith, c.shared_slice_known-1.given i)) (λ i. omega (arith, c.shared_slice_known-2-1.given i)) (omega (arith, c.read_pack-p.auto)) _ _ c.in-Is.is c.laid_out-context.result c.laid_out-context.ensures
+    (λ i. omega (arith, c.type_inv.pack i)) (λ i. omega (arith, c.type_inv.chart i)) (omega (arith, c.read_pack-p.auto)) _ _ c.in-Is.is c.laid_out-context.result c.laid_out-context.ensures
 
 pub returns-in-Refused : goal.returns-in-Refused
 returns-in-Refused c =
@@ -47,4 +47,4 @@ returns-in-Refused c =
 pub returns-in-Is : goal.returns-in-Is
 returns-in-Is c =
     judge_done c.args.chart.now c.args.character c.args.action c.args.k.0 c.args.e.0 c.args.work.now c.read_pack-p.ensures c.check_under-nodes.result c.check_under-nodes.ensures c.in_range-there.result c.in_range-there.ensures c.check_lent.result c.check_lent.ensures
-    (λ i. omega (arith, c.shared_slice_known-1.given i)) (λ i. omega (arith, c.shared_slice_known-2-1.given i)) (omega (arith, c.read_pack-p.auto)) _ _ c.in-Is.is c.laid_out-context.result c.laid_out-context.ensures _ _ c.verdict_in-verdict.ensures
+    (λ i. omega (arith, c.type_inv.pack i)) (λ i. omega (arith, c.type_inv.chart i)) (omega (arith, c.read_pack-p.auto)) _ _ c.in-Is.is c.laid_out-context.result c.laid_out-context.ensures _ _ c.verdict_in-verdict.ensures

@@ -25,7 +25,7 @@ bounds-places-action c =
     omega (arith, act_places x l)
 
 pub overflow_cast-at : goal.overflow_cast-at
-overflow_cast-at c = omega (arith, c.shared_slice_known-3-1.given (9 * c.args.action + 1))
+overflow_cast-at c = omega (arith, c.type_inv.places (9 * c.args.action + 1))
 
 pub lowest_untold-requires : goal.lowest_untold-requires
 lowest_untold-requires c =

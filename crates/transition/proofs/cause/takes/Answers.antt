@@ -21,7 +21,7 @@ bounds-places-observed c =
 
 -- a place that was read fits a number
 pub overflow_cast-places : goal.overflow_cast-places
-overflow_cast-places c = omega (arith, c.shared_slice_known-4-1.given (c.args.observed + c.args.c))
+overflow_cast-places c = omega (arith, c.type_inv.places (c.args.observed + c.args.c))
 
 pub holds-requires : goal.holds-requires
 holds-requires c = watched_judged _ _ _ _ _ _ _ c.requires c.if-observed-eq-PLACES.false

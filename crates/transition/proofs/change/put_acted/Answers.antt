@@ -29,7 +29,7 @@ pub bounds-effects-m : goal.bounds-effects-m
 bounds-effects-m c = omega (arith, c.requires.1, c.requires.0.1.long)
 
 pub overflow_cast-effects : goal.overflow_cast-effects
-overflow_cast-effects c = omega (arith, c.shared_slice_known-4-1.given c.args.m)
+overflow_cast-effects c = omega (arith, c.type_inv.effects c.args.m)
 
 pub write_told-requires : goal.write_told-requires
 write_told-requires c =

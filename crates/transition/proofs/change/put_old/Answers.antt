@@ -7,6 +7,8 @@ use native.Mathlib.Omega.{arith}
 use Rattle.pack.specs.Syntax.{Node}
 use Rattle.pack.specs.State.{target}
 use Rattle.pack.specs.Grammar.{Dimensions}
+use Rattle.pack.specs.Duties.Table.{Below}
+use Rattle.pack.specs.declared.table.Table.{Table}
 use Rattle.transition.specs.Duties.Cause.{Tabled}
 use Rattle.transition.specs.Laws.ChangedRows.{row_inside, belief_is, belief_in, tabled_same, old_slot, slots_none, slots_more, slots_all, old_put}
 use Rattle.transition.proofs.change.put_old.Goals as goal
@@ -17,17 +19,22 @@ place : (s : After-struct_known-1) → (s.args.h.table.rows + s.args.m * s.args.
 place s =
     (row_inside s.requires.0.1 s.args.m s.requires.1, s.requires.3.behind, s.requires.3.room)
 
--- the table once the values are copied, and in the loop
+-- a table that lies before the place written to means the same afterwards
+moved : (to : ℕ) {d : Dimensions} {T : List Node} {was now : List ℕ} {t : Table} →
+    Tabled d T was t → t.rows + t.nodes * t.width ≤ to → Below was now to → length now ≡ length was → Tabled d T now t
+moved to x before low long = tabled_same x (λ q l. low q (omega arith)) long
+
+-- so the table does once the values are copied, and in the loop
 copied : (c : After-struct_known-in-loop-d-1) {d : Dimensions} {T : List Node} →
     Tabled d T c.args.work.now c.args.h.table → Tabled d T c.copy_part.new.work c.args.h.table
-copied c x =
-    tabled_same x (λ q l. c.copy_part.ensures.low q (omega (arith, (let it : (c.args.h.table.rows + c.args.m * c.args.h.table.width + c.args.h.table.fluents + c.args.h.table.characters ≤ c.args.h.table.rows + c.args.h.table.nodes * c.args.h.table.width) × (c.args.h.table.rows + c.args.h.table.nodes * c.args.h.table.width ≤ c.args.to) × (c.args.to + c.args.h.table.fluents + c.args.h.table.characters ≤ length c.args.work.now) = (row_inside c.requires.0.1 c.args.m c.requires.1, c.requires.3.behind, c.requires.3.room) in it)))) c.copy_part.auto.work
+copied c x = moved c.args.to x c.requires.3.behind c.copy_part.ensures.low c.copy_part.auto.work
 
 here : (c : After-wide-q) {d : Dimensions} {T : List Node} →
     Tabled d T c.copy_part.new.work c.args.h.table → Tabled d T c.loop-d.work c.args.h.table
 here c x =
     let (few, long, from, put) = c.loop-d.invariant in
-    tabled_same x (λ q l. (put c.requires.0.0 ((tabled_same c.requires.0.1 (λ q l. c.copy_part.ensures.low q (omega (arith, (let it : (c.args.h.table.rows + c.args.m * c.args.h.table.width + c.args.h.table.fluents + c.args.h.table.characters ≤ c.args.h.table.rows + c.args.h.table.nodes * c.args.h.table.width) × (c.args.h.table.rows + c.args.h.table.nodes * c.args.h.table.width ≤ c.args.to) × (c.args.to + c.args.h.table.fluents + c.args.h.table.characters ≤ length c.args.work.now) = (row_inside c.requires.0.1 c.args.m c.requires.1, c.requires.3.behind, c.requires.3.room) in it)))) c.copy_part.auto.work))).low q (omega (arith, (let it : (c.args.h.table.rows + c.args.m * c.args.h.table.width + c.args.h.table.fluents + c.args.h.table.characters ≤ c.args.h.table.rows + c.args.h.table.nodes * c.args.h.table.width) × (c.args.h.table.rows + c.args.h.table.nodes * c.args.h.table.width ≤ c.args.to) × (c.args.to + c.args.h.table.fluents + c.args.h.table.characters ≤ length c.args.work.now) = (row_inside c.requires.0.1 c.args.m c.requires.1, c.requires.3.behind, c.requires.3.room) in it)))) long
+    let tabled = moved c.args.to c.requires.0.1 c.requires.3.behind c.copy_part.ensures.low c.copy_part.auto.work in
+    tabled_same x (λ q l. (put c.requires.0.0 tabled).low q (omega (arith, c.requires.3.behind))) long
 
 -- a belief's byte names a row
 byte : (c : After-wide-q) {d : Dimensions} {T : List Node} →
@@ -38,7 +45,7 @@ byte c x =
 
 few : (c : After-wide-q) → c.wide-q.result < 32
 few c =
-    let x = (tabled_same c.requires.0.1 (λ q l. c.copy_part.ensures.low q (omega (arith, (let it : (c.args.h.table.rows + c.args.m * c.args.h.table.width + c.args.h.table.fluents + c.args.h.table.characters ≤ c.args.h.table.rows + c.args.h.table.nodes * c.args.h.table.width) × (c.args.h.table.rows + c.args.h.table.nodes * c.args.h.table.width ≤ c.args.to) × (c.args.to + c.args.h.table.fluents + c.args.h.table.characters ≤ length c.args.work.now) = (row_inside c.requires.0.1 c.args.m c.requires.1, c.requires.3.behind, c.requires.3.room) in it)))) c.copy_part.auto.work) in
+    let x = moved c.args.to c.requires.0.1 c.requires.3.behind c.copy_part.ensures.low c.copy_part.auto.work in
     omega (arith, byte c x, belief_in x _ _ c.requires.1 c.loop-d-test.true, x.few)
 
 pub overflow_mul-from : goal.overflow_mul-from

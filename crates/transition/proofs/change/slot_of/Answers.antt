@@ -42,7 +42,7 @@ pub bounds-effects-m : goal.bounds-effects-m
 bounds-effects-m c = omega (arith, c.requires.1, c.requires.0.1.long)
 
 pub overflow_cast-effects : goal.overflow_cast-effects
-overflow_cast-effects c = omega (arith, c.shared_slice_known-5-1.given c.args.m)
+overflow_cast-effects c = omega (arith, c.type_inv.effects c.args.m)
 
 pub overflow_add-d : goal.overflow_add-d
 overflow_add-d c = omega (arith, c.requires.2, small c.requires.0.1.tabled)

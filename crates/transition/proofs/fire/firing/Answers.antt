@@ -29,7 +29,7 @@ pub bounds-places-i : goal.bounds-places-i
 bounds-places-i c = omega (arith, few (goal.at.bounds-places-i c).In-loop-i)
 
 pub overflow_cast-places : goal.overflow_cast-places
-overflow_cast-places c = omega (arith, c.shared_slice_known-in-loop-i-1.given (288 + 2 * c.loop-i.i))
+overflow_cast-places c = omega (arith, c.type_inv.places (288 + 2 * c.loop-i.i))
 
 pub holds-requires : goal.holds-requires
 holds-requires c = fire_judged _ _ _ _ c.args.m _ c.requires.0 c.requires.1 _ c.loop-i-test.true

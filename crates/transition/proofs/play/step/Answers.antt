@@ -15,7 +15,7 @@ slice_bounds-check_under-end c =
 pub play-requires : goal.play-requires
 play-requires c =
     step_able c.args.chart.now c.args.action c.args.out.now c.args.work.now c.read_pack-p.ensures c.check_under-nodes.result c.check_under-nodes.ensures c.both_at_most-enough.result c.both_at_most-enough.ensures _ refl c.check_lent.result c.check_lent.ensures
-    (λ i. omega (arith, c.shared_slice_known-1.given i)) (λ i. omega (arith, c.shared_slice_known-2-1.given i)) (omega (arith, c.read_pack-p.auto)) _ _ c.in-Is.is
+    (λ i. omega (arith, c.type_inv.pack i)) (λ i. omega (arith, c.type_inv.chart i)) (omega (arith, c.read_pack-p.auto)) _ _ c.in-Is.is
 
 pub returns-in-Refused : goal.returns-in-Refused
 returns-in-Refused c =
@@ -24,4 +24,4 @@ returns-in-Refused c =
 pub returns-in-Is : goal.returns-in-Is
 returns-in-Is c =
     step_done c.args.chart.now c.args.action c.args.out.now c.args.work.now c.read_pack-p.ensures c.check_under-nodes.result c.check_under-nodes.ensures c.both_at_most-enough.result c.both_at_most-enough.ensures _ refl c.check_lent.result c.check_lent.ensures
-    (λ i. omega (arith, c.shared_slice_known-1.given i)) (λ i. omega (arith, c.shared_slice_known-2-1.given i)) (omega (arith, c.read_pack-p.auto)) _ _ c.in-Is.is _ _ _ c.play.ensures
+    (λ i. omega (arith, c.type_inv.pack i)) (λ i. omega (arith, c.type_inv.chart i)) (omega (arith, c.read_pack-p.auto)) _ _ c.in-Is.is _ _ _ c.play.ensures

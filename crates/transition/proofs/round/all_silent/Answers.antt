@@ -15,7 +15,7 @@ pub bounds-effects-m : goal.bounds-effects-m
 bounds-effects-m c = omega (arith, c.requires.1, c.loop-m-test.true)
 
 pub overflow_cast-effects : goal.overflow_cast-effects
-overflow_cast-effects c = omega (arith, c.shared_slice_known-in-loop-m-1.given c.loop-m.m)
+overflow_cast-effects c = omega (arith, c.type_inv.effects c.loop-m.m)
 
 pub silent-requires : goal.silent-requires
 silent-requires c = c.requires.2 _ c.loop-m-test.true

@@ -19,7 +19,7 @@ bounds-effects-m c =
     omega (arith, x.long, c.loop-m-test.true)
 
 pub overflow_cast-effects : goal.overflow_cast-effects
-overflow_cast-effects c = omega (arith, c.shared_slice_known-in-loop-m-1.given c.loop-m.m)
+overflow_cast-effects c = omega (arith, c.type_inv.effects c.loop-m.m)
 
 pub overflow_mul-m : goal.overflow_mul-m
 overflow_mul-m c =

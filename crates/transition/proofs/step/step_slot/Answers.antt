@@ -22,7 +22,7 @@ bounds-places-m c =
     omega (arith, act_places x l)
 
 pub overflow_cast-places : goal.overflow_cast-places
-overflow_cast-places c = omega (arith, c.shared_slice_known-3-1.given (9 * c.args.m.action))
+overflow_cast-places c = omega (arith, c.type_inv.places (9 * c.args.m.action))
 
 pub holds-may-requires : goal.holds-may-requires
 holds-may-requires c =
