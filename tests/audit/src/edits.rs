@@ -4,17 +4,18 @@
 use crate::{files, layers};
 use std::collections::BTreeMap;
 use std::fs;
-use std::io::Result;
+use std::io::{Error, Result};
 use std::path::{Path, PathBuf};
 
-/// The edits of a crate that the gate tries, as `crate/name`, or those outside it (`must-fail/more`).
-pub fn names(repository: &Path, of: &str, in_gate: bool) -> Result<Vec<String>> {
+/// The edits of a crate, as `crate/name`. rt tries those right in `must-fail`, so one in a folder below it is an error.
+pub fn names(repository: &Path, of: &str) -> Result<Vec<String>> {
     let folder = repository.join("crates").join(of).join("must-fail");
     let mut found = Vec::new();
     for file in files(&folder, ".edit")? {
-        if (file.parent() == Some(folder.as_path())) == in_gate {
-            found.push(format!("{of}/{}", file.file_stem().expect("a name").to_string_lossy()));
+        if file.parent() != Some(folder.as_path()) {
+            return Err(Error::other(format!("{}: not tried there", file.display())));
         }
+        found.push(format!("{of}/{}", file.file_stem().expect("a name").to_string_lossy()));
     }
     Ok(found)
 }

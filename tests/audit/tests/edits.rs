@@ -1,10 +1,9 @@
-//! Every must-fail edit fits the sources; those outside the gate are on the page that says why, and a command tries them.
+//! Every must-fail edit fits the sources and stands where the gate tries it.
 
-use audit::{edits, layers, repository};
+use audit::{edits, repository};
 use std::fs;
 use std::os::unix::fs::PermissionsExt;
 use std::path::PathBuf;
-use std::process::Command;
 
 #[test]
 fn every_edit_fits() {
@@ -45,43 +44,14 @@ fn an_edit_that_does_not_fit_is_found() {
     assert!(edits::fits(&room.0, "file: src/b.rt\nold: one\nnew: x\n").is_err(), "no such file");
 }
 
-/// The page lists those outside the gate, and no others.
+/// An edit that the gate would not try is an error.
 #[test]
-fn edits_outside_the_gate_are_said() {
-    let repository = repository();
-    let page = fs::read_to_string(repository.join("docs/CONTRACTS.md")).expect("the page");
-    let (_, section) = page.split_once("## Outside the gate").expect("the section");
-    let section = section.split("\n## ").next().unwrap_or("");
-    let rows = section.lines().filter(|line| line.starts_with("| `"));
-    let first = rows.map(|row| row.split('|').nth(1).unwrap_or(""));
-    let mut said: Vec<String> = first.flat_map(|cell| cell.split('`').skip(1).step_by(2)).map(String::from).collect();
-    let mut there = Vec::new();
-    for of in layers::crates(&repository).expect("crates.txt") {
-        there.extend(edits::names(&repository, &of, false).expect("edits"));
-    }
-    said.sort();
+fn edits_outside_the_gate_are_found() {
+    let file = |path: &str| Room::new("outside", &[("crates/a/must-fail/in.edit", ""), (path, "")]);
+    let room = file("crates/a/must-fail/also.edit");
+    let mut there = edits::names(&room.0, "a").expect("edits");
     there.sort();
-    assert_eq!(said, there);
-}
-
-/// The command puts them in the place of the others, in a copy, and asks for their crates alone; its status is rt's.
-#[test]
-fn the_command_tries_them() {
-    let script = fs::read_to_string(repository().join("tests/more-edits")).expect("the command");
-    let files = [
-        ("tests/more-edits", script.as_str()),
-        ("crates.txt", "a:\nb: a\nc: b\n"),
-        ("crates/a/must-fail/in.edit", ""),
-        ("crates/a/must-fail/more/out.edit", ""),
-        ("crates/b/must-fail/in.edit", ""),
-        ("crates/c/must-fail/more/other.edit", ""),
-        ("bin/rt", "#!/bin/sh\necho \"$@\" && ls crates/*/must-fail/*.edit && exit 3\n"),
-    ];
-    let room = Room::new("more", &files);
-    let path = format!("{}:{}", room.0.join("bin").display(), std::env::var("PATH").expect("a path"));
-    let output = Command::new(room.0.join("tests/more-edits")).env("PATH", path).output().expect("bash");
-    let said = String::from_utf8(output.stdout).expect("text");
-    assert_eq!(said, "must-fail a c\ncrates/a/must-fail/out.edit\ncrates/c/must-fail/other.edit\n");
-    assert_eq!(output.status.code(), Some(3));
-    assert!(room.0.join("crates/a/must-fail/in.edit").is_file(), "the repository is as it was");
+    assert_eq!(there, ["a/also", "a/in"]);
+    drop(room);
+    assert!(edits::names(&file("crates/a/must-fail/more/out.edit").0, "a").is_err());
 }

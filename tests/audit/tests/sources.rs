@@ -78,15 +78,13 @@ fn wrong_programs_have_their_edits() {
     let cited: Vec<&str> = page.split('`').skip(1).step_by(2).collect();
     let mut there = Vec::new();
     for name in &of {
-        for in_gate in [true, false] {
-            there.extend(edits::names(&repository(), name, in_gate).expect("edits"));
-        }
+        there.extend(edits::names(&repository(), name).expect("edits"));
     }
     let uncited: Vec<_> = there.iter().filter(|edit| !cited.contains(&edit.as_str())).collect();
     assert!(uncited.is_empty(), "not on the page: {uncited:?}");
-    let named = cited
-        .iter()
-        .filter(|word| word.split_once('/').is_some_and(|(name, rest)| of.iter().any(|of| of == name) && !rest.contains('/')));
+    let named = cited.iter().filter(|word| {
+        word.split_once('/').is_some_and(|(name, rest)| of.iter().any(|of| of == name) && !rest.contains('/'))
+    });
     let gone: Vec<_> = named.filter(|word| !there.iter().any(|edit| edit == *word)).collect();
     assert!(gone.is_empty(), "on the page and not there: {gone:?}");
 }
