@@ -1,9 +1,9 @@
 /*
  * The six calls of Pirwodd, for C.
  *
- * `rt lib` in crates/pirwodd makes the archive out/libpirwodd.a there; a program is linked with it and with nothing else:
+ * `./archives` makes the archive target/staticlib/libpirwodd.a; a program is linked with it and with nothing else:
  *
- *     cc -Iinclude program.c crates/pirwodd/out/libpirwodd.a
+ *     cc -Iinclude program.c target/staticlib/libpirwodd.a
  *
  * docs/PACK.md says what packs and charts are, byte by byte; crates/pirwodd/specs/Exports.antt states what is proved of these
  * functions, for any bytes, numbers and lengths.

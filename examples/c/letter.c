@@ -2,7 +2,7 @@
  * The story of examples/letter.story, told by the calls: how it begins, what Ada's action leaves, who knows of it, who has a
  * reason for what, and the shortest ending.
  *
- *     cc -Iinclude examples/c/letter.c crates/pirwodd/out/libpirwodd.a -o letter && ./letter examples/letter.pack
+ *     cc -Iinclude examples/c/letter.c target/staticlib/libpirwodd.a -o letter && ./letter examples/letter.pack
  *
  * examples/c/letter.txt is what it prints.
  */

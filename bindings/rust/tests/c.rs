@@ -17,7 +17,7 @@ fn compiled(source: &str, name: &str) -> PathBuf {
     let program = folder.join(name);
     let compiled = Command::new(env::var_os("CC").unwrap_or("cc".into()))
         .args(["-std=c99", "-O1", "-Wall", "-Wextra", "-Wpedantic", "-Werror", "-Iinclude", source])
-        .args(["crates/pirwodd/out/libpirwodd.a", "-o"])
+        .args(["target/staticlib/libpirwodd.a", "-o"])
         .arg(&program)
         .current_dir(repository())
         .output()

@@ -3,7 +3,7 @@
 
 use std::collections::BTreeMap;
 
-const LIBRARY: &str = include_str!("../../../crates/pirwodd/src/lib.rt");
+const LIBRARY: &str = include_str!("../../../crates/pirwodd_c/src/lib.rt");
 const HEADER: &str = include_str!("../../../include/pirwodd.h");
 const RUST: &str = include_str!("../src/lent.rs");
 /// The tests that compare the library with others declare its functions once more.

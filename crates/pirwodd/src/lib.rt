@@ -121,13 +121,7 @@ fn tell_found(answer: Found, report: &mut [u64]) -> u32
 }
 
 // Start: the report's entry is the chart's length.
-#[unsafe(no_mangle)]
-pub extern "C" fn pirwodd_start(
-    pack: &[u8],
-    chart: &mut [u8],
-    work: &mut [u8],
-    report: &mut [u64],
-) -> u32
+pub fn pirwodd_start(pack: &[u8], chart: &mut [u8], work: &mut [u8], report: &mut [u64]) -> u32
     ensures { StartReturned pack.now chart.old work.old report.old
         chart.new work.new report.new result }
 {
@@ -137,8 +131,7 @@ pub extern "C" fn pirwodd_start(
 }
 
 // Query: the report's entry is the value.
-#[unsafe(no_mangle)]
-pub extern "C" fn pirwodd_query(
+pub fn pirwodd_query(
     pack: &[u8],
     chart: &[u8],
     chain: &[u8],
@@ -157,8 +150,7 @@ pub extern "C" fn pirwodd_query(
 }
 
 // Compare: the report's entries are 0 for "same", or 1, the chain's length and the fluent.
-#[unsafe(no_mangle)]
-pub extern "C" fn pirwodd_compare(
+pub fn pirwodd_compare(
     pack: &[u8],
     first: &[u8],
     second: &[u8],
@@ -178,8 +170,7 @@ pub extern "C" fn pirwodd_compare(
 }
 
 // Step: the report's entry is the length of the chart of what the action leaves.
-#[unsafe(no_mangle)]
-pub extern "C" fn pirwodd_step(
+pub fn pirwodd_step(
     pack: &[u8],
     chart: &[u8],
     action: u64,
@@ -196,8 +187,7 @@ pub extern "C" fn pirwodd_step(
 }
 
 // Explained: the report's entry is 1 for yes, 0 for no.
-#[unsafe(no_mangle)]
-pub extern "C" fn pirwodd_explained(
+pub fn pirwodd_explained(
     pack: &[u8],
     chart: &[u8],
     character: u64,
@@ -224,8 +214,7 @@ pub extern "C" fn pirwodd_explained(
 }
 
 // Search: the report's entries are the list's length, and the author's utility at the start and at the list's end.
-#[unsafe(no_mangle)]
-pub extern "C" fn pirwodd_search(
+pub fn pirwodd_search(
     pack: &[u8],
     story: u64,
     foresight: u64,

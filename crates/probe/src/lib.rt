@@ -37,8 +37,7 @@ fn put_counts(c: Contents, report: &mut [u64])
 }
 
 // Reads a pack: 0 and its counts, or a refusal's number and its place. A report of fewer than five entries is 8.
-#[unsafe(no_mangle)]
-pub extern "C" fn pirwodd_probe_pack(pack: &[u8], report: &mut [u64]) -> u32
+pub fn pirwodd_probe_pack(pack: &[u8], report: &mut [u64]) -> u32
     ensures { PackProbed pack.now report.old report.new result }
 {
     if report.len() < 5 {
@@ -77,8 +76,7 @@ fn count_nodes(pack: &[u8], chart: &[u8]) -> Number
 }
 
 // Reads a chart under a pack: 0 and how many nodes it has, or a refusal's number and its place. An empty report is 8.
-#[unsafe(no_mangle)]
-pub extern "C" fn pirwodd_probe_chart(pack: &[u8], chart: &[u8], report: &mut [u64]) -> u32
+pub fn pirwodd_probe_chart(pack: &[u8], chart: &[u8], report: &mut [u64]) -> u32
     ensures { ChartProbed pack.now chart.now report.old
         report.new result }
 {

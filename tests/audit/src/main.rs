@@ -20,6 +20,8 @@ fn faults(repository: &Path) -> Result<Vec<String>> {
             faults.push(format!("{}: a public call has a contract, and no `requires`", head.name));
         }
     }
+    let unlike = calls::unlike(repository)?.into_iter();
+    faults.extend(unlike.map(|head| format!("{head}: what C calls is not what the library has")));
     faults.extend(layers::trespasses(repository)?.into_iter().map(|place| format!("{place} is another layer's own")));
     faults.extend(counts::differences(&counts::listed(repository)?, &counts::counted(repository)?));
     match lengths::verdict(lengths::long(repository)?.len(), lengths::BOUND) {

@@ -28,7 +28,7 @@ fn clone(name: &str) -> Folder {
     for source in ["src/lib.rt", "specs/Number.antt", "proofs/Shared.antt"] {
         clone.say(&format!("crates/pack/{source}"), "");
     }
-    clone.say("crates/pirwodd/src/lib.rt", "");
+    clone.say("crates/pirwodd_c/src/lib.rt", "").copy("archives");
     for source in ["program/src/main.rs", "story/src/lib.rs", "bindings/rust/src/lib.rs"] {
         clone.say(source, "");
     }

@@ -1,6 +1,6 @@
 //! The library's sources have nothing that they must not have, and the checks find it where they do.
 
-use audit::{believed, calls, edits, repository, words};
+use audit::{believed, calls, edits, layers, repository, words};
 
 #[test]
 fn no_forbidden_word() {
@@ -20,11 +20,20 @@ fn forbidden_words_are_found() {
 #[test]
 fn public_calls_ask_nothing() {
     let heads = calls::heads(&repository()).expect("the sources");
-    assert_eq!(heads.len(), 12, "six calls, and six exported");
+    assert_eq!(heads.len(), 22, "six calls, and of eight that C calls the library's function and the export");
     for head in heads {
         assert!(!head.requires(), "{} has a `requires`", head.name);
         assert!(head.ensures(), "{} promises nothing", head.name);
     }
+}
+
+/// Each export states what the library's function promises, no more and no less.
+#[test]
+fn what_c_calls_is_the_librarys() {
+    assert_eq!(calls::unlike(&repository()).expect("the sources"), Vec::<String>::new());
+    let (one, more) = ("f(x: u8, y: u8) -> u8\n  ensures { A }", "f(\n  x: u8,\n  y: u8,\n) -> u8\n  ensures { A }");
+    assert_eq!(calls::said(one), calls::said(more));
+    assert_ne!(calls::said(one), calls::said(&one.replace('A', "B")));
 }
 
 #[test]
@@ -61,22 +70,21 @@ fn use_lines_are_read() {
     assert_eq!(believed::used("use Rattle.std.proofs.Common.{length}"), None);
 }
 
-/// Every must-fail edit of the library and of the program is on the page of wrong programs, and every edit on it is
-/// there.
+/// Every must-fail edit is on the page of wrong programs, and every edit on it is there.
 #[test]
 fn wrong_programs_have_their_edits() {
     let page = std::fs::read_to_string(repository().join("docs/CONTRACTS.md")).expect("the page");
-    let of = ["pack", "chart", "transition", "planner", "pirwodd", "ending"];
+    let of = layers::crates(&repository()).expect("crates.txt");
     let cited: Vec<&str> = page.split('`').skip(1).step_by(2).collect();
     let mut there = Vec::new();
-    for name in of {
+    for name in &of {
         there.extend(edits::names(&repository(), name).expect("edits"));
     }
     let uncited: Vec<_> = there.iter().filter(|edit| !cited.contains(&edit.as_str())).collect();
     assert!(uncited.is_empty(), "not on the page: {uncited:?}");
-    let named = cited
-        .iter()
-        .filter(|word| word.split_once('/').is_some_and(|(name, rest)| of.contains(&name) && !rest.contains('/')));
+    let named = cited.iter().filter(|word| {
+        word.split_once('/').is_some_and(|(name, rest)| of.iter().any(|of| of == name) && !rest.contains('/'))
+    });
     let gone: Vec<_> = named.filter(|word| !there.iter().any(|edit| edit == *word)).collect();
     assert!(gone.is_empty(), "on the page and not there: {gone:?}");
 }

@@ -1,5 +1,5 @@
 //! The proved reader of packs and charts, each function behind a safe one. Slices pass as in `library`; nothing
-//! checks these declarations against the source of `crates/probe`.
+//! checks these declarations against the source of `crates/probe_c`.
 
 use crate::report::Report;
 use reference::generate::random::Random;

@@ -26,7 +26,10 @@ impl Folder {
     }
 
     pub fn copy(&self, file: &str) -> &Folder {
-        self.say(file, &fs::read_to_string(repository().join(file)).expect(file))
+        let from = repository().join(file);
+        self.say(file, &fs::read_to_string(&from).expect(file));
+        fs::set_permissions(self.0.join(file), fs::metadata(from).expect(file).permissions()).expect(file);
+        self
     }
 
     pub fn stand_in(&self, tool: &str, text: &str) -> &Folder {
