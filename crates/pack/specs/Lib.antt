@@ -1,5 +1,6 @@
 pub mod Reading
 pub mod Number
+pub mod Refusals
 pub mod Laws
 pub mod Duties
 pub mod Syntax

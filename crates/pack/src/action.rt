@@ -2,128 +2,71 @@
 // its consenters, and the observation condition of each character.
 ghost use Rattle.std.specs.Prelude.{◌+◌, ◌≤◌, length};
 ghost use Rattle.pack.specs.Duties.Answer.{dims};
-ghost use Rattle.pack.specs.Duties.Places.{places_room, Within, Ready};
-ghost use Rattle.pack.specs.Duties.Places.{ObservedRead, ActionRead, ActionsRead, ActionsAfter};
+ghost use Rattle.pack.specs.Duties.Places.{places_room, Within};
+ghost use Rattle.pack.specs.Duties.Places.{ObservedRead, ActionRead, ActionsRead};
 
 use crate::condition::check_condition;
 use crate::effect::{check_consenters, check_effects};
-use crate::head::Head;
-use crate::number::{Checked, Number, read_between};
-use crate::places::ACTION;
-use crate::refusal::LIMIT;
+use crate::dimensions::Dimensions;
+use crate::number::read_between;
+use crate::places::{ACTION, CONSENTERS, EFFECTS, OBSERVED};
+use crate::refusal::{Fault, Flaw};
 
 // The observation conditions, one for each character.
-pub fn read_observed(
+pub fn read_observed<'a>(
     s: &[u8],
     at: usize,
-    characters: usize,
-    domains: &[u8],
+    d: Dimensions<'a>,
     places: &mut [u16],
     base: usize,
-) -> Checked
-    requires { (base + characters ≤ length places.old) × Within s.now at }
-    ensures { ObservedRead (dims characters domains.now) s.now at base
+) -> Result<usize, Flaw>
+    requires { (base + d.characters ≤ length places.old) × Within s.now at }
+    ensures { ObservedRead (dims d.entry.characters d.entry.domains.now) s.now at base
         places.old places.new result }
 {
-    let mut i: usize = 0;
     let mut n = at;
-    let mut left = characters;
-    while 0 < left {
-        places[base + i] = n as u16;
-        match check_condition(s, n, characters, domains) {
-            Checked::Refused(k, p) => {
-                return Checked::Refused(k, p);
-            }
-            Checked::Passed(next) => {
-                i = i + 1;
-                n = next;
-                left = left - 1;
-            }
-        }
+    for c in 0..d.characters {
+        places[base + c] = n as u16;
+        n = check_condition(s, n, d)?;
     }
-    Checked::Passed(n)
+    Ok(n)
 }
 
 // An action: a condition, effects, consenters, observation conditions. Its places are marked from base on.
-pub fn read_action(
+pub fn read_action<'a>(
     s: &[u8],
     at: usize,
-    characters: usize,
-    domains: &[u8],
+    d: Dimensions<'a>,
     places: &mut [u16],
     base: usize,
-) -> Checked
-    requires { (characters ≤ 6) × (base + 9 ≤ length places.old) × Within s.now at }
-    ensures { ActionRead (dims characters domains.now) s.now at base places.old
+) -> Result<usize, Flaw>
+    requires { (d.characters ≤ 6) × (base + 9 ≤ length places.old) × Within s.now at }
+    ensures { ActionRead (dims d.entry.characters d.entry.domains.now) s.now at base places.old
         places.new result }
 {
     places[base] = at as u16;
-    match check_condition(s, at, characters, domains) {
-        Checked::Refused(k, p) => Checked::Refused(k, p),
-        Checked::Passed(effects) => {
-            places[base + 1] = effects as u16;
-            match check_effects(s, effects, characters, domains) {
-                Checked::Refused(k, p) => Checked::Refused(k, p),
-                Checked::Passed(consenters) => {
-                    places[base + 2] = consenters as u16;
-                    match check_consenters(s, consenters, characters, domains) {
-                        Checked::Refused(k, p) => Checked::Refused(k, p),
-                        Checked::Passed(n) => {
-                            read_observed(s, n, characters, domains, places, base + 3)
-                        }
-                    }
-                }
-            }
-        }
-    }
+    let effects = check_condition(s, at, d)?;
+    places[base + EFFECTS] = effects as u16;
+    let consenters = check_effects(s, effects, d)?;
+    places[base + CONSENTERS] = consenters as u16;
+    let observed = check_consenters(s, consenters, d)?;
+    read_observed(s, observed, d, places, base + OBSERVED)
 }
 
 // How many actions there are, and the place after them.
-pub fn read_actions(
+pub fn read_actions<'a>(
     s: &[u8],
     at: usize,
-    characters: usize,
-    domains: &[u8],
+    d: Dimensions<'a>,
     places: &mut [u16],
-) -> Number
-    requires { (characters ≤ 6) × (places_room ≤ length places.old) × Within s.now at }
-    ensures { ActionsRead (dims characters domains.now) s.now at places.new result }
+) -> Result<(usize, usize), Flaw>
+    requires { (d.characters ≤ 6) × (places_room ≤ length places.old) × Within s.now at }
+    ensures { ActionsRead (dims d.entry.characters d.entry.domains.now) s.now at places.new result }
 {
-    match read_between(s, at, 0, 33, LIMIT) {
-        Number::Refused(k, p) => Number::Refused(k, p),
-        Number::Is(count, first) => {
-            let mut i: usize = 0;
-            let mut n = first;
-            let mut left = count;
-            while 0 < left {
-                match read_action(s, n, characters, domains, places, ACTION * i) {
-                    Checked::Refused(k, p) => {
-                        return Number::Refused(k, p);
-                    }
-                    Checked::Passed(next) => {
-                        i = i + 1;
-                        n = next;
-                        left = left - 1;
-                    }
-                }
-            }
-            Number::Is(count, n)
-        }
+    let (count, first) = read_between(s, at, 0, 33, Fault::Limit)?;
+    let mut n = first;
+    for i in 0..count {
+        n = read_action(s, n, d, places, ACTION * i)?;
     }
-}
-
-// The same, where the part before it was read; else its refusal is handed on.
-pub fn actions_after(s: &[u8], at: usize, h: Head, earlier: Number, places: &mut [u16]) -> Number
-    requires { Ready s.now at h places.old }
-    ensures { ActionsAfter h earlier s.now at places.new result }
-{
-    match earlier {
-        Number::Refused(k, p) => Number::Refused(k, p),
-        Number::Is(_, _) => {
-            let sizes = h.sizes;
-            let fluents = h.fluents;
-            let domains = &sizes[..fluents];
-            read_actions(s, at, h.characters, domains, places)
-        }
-    }
+    Ok((count, n))
 }

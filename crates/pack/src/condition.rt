@@ -6,113 +6,60 @@ ghost use Rattle.pack.specs.Grammar.{test_at, condition_at};
 ghost use Rattle.pack.specs.Duties.Said.{shown, forget};
 ghost use Rattle.pack.specs.Duties.Answer.{dims, claim_at};
 
-use crate::number::{Checked, Number, read_between, read_kind, wide};
+use crate::dimensions::Dimensions;
+use crate::number::{read_between, read_kind};
+use crate::part::{check_counted, check_many};
 use crate::plain::plain_test;
-use crate::refusal::{ABSENT, LIMIT};
+use crate::refusal::{Fault, Flaw};
+
+// One of the things that are numbered from 0, of so many.
+pub fn check_item(s: &[u8], at: usize, limit: usize) -> Result<usize, Flaw>
+    ensures { mapped forget (item limit s.now at) ≡ shown result }
+{
+    let (_, after) = read_between(s, at, 0, limit, Fault::Absent)?;
+    Ok(after)
+}
 
 // A chain's characters: count of them, from a position on.
-pub fn check_chain(s: &[u8], at: usize, characters: usize, count: usize) -> Checked
+pub fn check_chain(s: &[u8], at: usize, characters: usize, count: usize) -> Result<usize, Flaw>
     ensures { mapped forget (many (item characters) count s.now at) ≡ shown result }
 {
-    let mut n = at;
-    let mut left = count;
-    while 0 < left {
-        match read_between(s, n, 0, characters, ABSENT) {
-            Number::Refused(k, p) => {
-                return Checked::Refused(k, p);
-            }
-            Number::Is(_, next) => {
-                n = next;
-                left = left - 1;
-            }
-        }
-    }
-    Checked::Passed(n)
+    check_many(at, count, |n| check_item(s, n, characters))
 }
 
 // A fluent and one of its values.
-pub fn check_claim(s: &[u8], at: usize, domains: &[u8]) -> Checked
+pub fn check_claim(s: &[u8], at: usize, domains: &[u8]) -> Result<usize, Flaw>
     ensures { claim_at domains.now s.now at ≡ shown result }
 {
-    match read_between(s, at, 0, domains.len(), ABSENT) {
-        Number::Refused(k, p) => Checked::Refused(k, p),
-        Number::Is(fluent, n) => match read_between(s, n, 0, wide(domains[fluent]), ABSENT) {
-            Number::Refused(k, p) => Checked::Refused(k, p),
-            Number::Is(_, n) => Checked::Passed(n),
-        },
-    }
+    let (fluent, after) = read_between(s, at, 0, domains.len(), Fault::Absent)?;
+    check_item(s, after, usize::from(domains[fluent]))
 }
 
 // A chain's length and characters, a kind, a fluent, a value.
-pub fn check_test(s: &[u8], at: usize, characters: usize, domains: &[u8]) -> Checked
-    ensures { mapped forget (test_at (dims characters domains.now) s.now at) ≡ shown result }
+pub fn check_test<'a>(s: &[u8], at: usize, d: Dimensions<'a>) -> Result<usize, Flaw>
+    ensures { mapped forget (test_at (dims d.entry.characters d.entry.domains.now) s.now at) ≡ shown result }
 {
-    match read_between(s, at, 0, 5, LIMIT) {
-        Number::Refused(k, p) => Checked::Refused(k, p),
-        Number::Is(count, n) => match check_chain(s, n, characters, count) {
-            Checked::Refused(k, p) => Checked::Refused(k, p),
-            Checked::Passed(n) => match read_kind(s, n) {
-                Number::Refused(k, p) => Checked::Refused(k, p),
-                Number::Is(_, n) => check_claim(s, n, domains),
-            },
-        },
-    }
+    let (count, chain) = read_between(s, at, 0, 5, Fault::Limit)?;
+    let kind = check_chain(s, chain, d.characters, count)?;
+    let (_, claim) = read_kind(s, kind)?;
+    check_claim(s, claim, d.domains)
 }
 
 // An alternative: a count of tests, and the tests, of which plain ones are passed over at once.
-pub fn check_alternative(s: &[u8], at: usize, characters: usize, domains: &[u8]) -> Checked
-    ensures { mapped forget (counted 0 9 (test_at (dims characters domains.now)) s.now at)
+pub fn check_alternative<'a>(s: &[u8], at: usize, d: Dimensions<'a>) -> Result<usize, Flaw>
+    ensures { mapped forget (counted 0 9 (test_at (dims d.entry.characters d.entry.domains.now)) s.now at)
         ≡ shown result }
 {
-    match read_between(s, at, 0, 9, LIMIT) {
-        Number::Refused(k, p) => Checked::Refused(k, p),
-        Number::Is(count, first) => {
-            let mut n = first;
-            let mut left = count;
-            while 0 < left {
-                let after = plain_test(s, n, characters, domains);
-                if 0 < after {
-                    n = after;
-                    left = left - 1;
-                } else {
-                    match check_test(s, n, characters, domains) {
-                        Checked::Refused(k, p) => {
-                            return Checked::Refused(k, p);
-                        }
-                        Checked::Passed(next) => {
-                            n = next;
-                            left = left - 1;
-                        }
-                    }
-                }
-            }
-            Checked::Passed(n)
-        }
-    }
+    check_counted(s, at, 9, |n| match plain_test(s, n, d.characters, d.domains) {
+        0 => check_test(s, n, d),
+        after => Ok(after),
+    })
 }
 
 // A condition: a count of alternatives, and the alternatives.
-pub fn check_condition(s: &[u8], at: usize, characters: usize, domains: &[u8]) -> Checked
-    ensures { mapped forget (condition_at (dims characters domains.now) s.now at)
+pub fn check_condition<'a>(s: &[u8], at: usize, d: Dimensions<'a>) -> Result<usize, Flaw>
+    ensures { mapped forget (condition_at (dims d.entry.characters d.entry.domains.now) s.now at)
         ≡ shown result }
 {
-    match read_between(s, at, 0, 9, LIMIT) {
-        Number::Refused(k, p) => Checked::Refused(k, p),
-        Number::Is(count, first) => {
-            let mut n = first;
-            let mut left = count;
-            while 0 < left {
-                match check_alternative(s, n, characters, domains) {
-                    Checked::Refused(k, p) => {
-                        return Checked::Refused(k, p);
-                    }
-                    Checked::Passed(next) => {
-                        n = next;
-                        left = left - 1;
-                    }
-                }
-            }
-            Checked::Passed(n)
-        }
-    }
+    check_counted(s, at, 9, |n| check_alternative(s, n, d))
 }

@@ -1,83 +1,50 @@
 // Effects and consenters of an action.
-ghost use Rattle.std.specs.Prelude.{◌≡◌, ◌+◌, ◌≤◌};
+ghost use Rattle.std.specs.Prelude.{◌≡◌, ◌≤◌};
 ghost use Rattle.pack.specs.Reading.{mapped};
 ghost use Rattle.pack.specs.Grammar.{effect_at, effects_at, consenters_at};
 ghost use Rattle.pack.specs.Duties.Said.{shown, forget};
 ghost use Rattle.pack.specs.Duties.Answer.{dims};
 
-use crate::condition::check_claim;
-use crate::number::{Checked, Number, read_between, read_rising};
+use crate::condition::{check_claim, check_item};
+use crate::dimensions::Dimensions;
+use crate::number::{read_between, read_rising};
+use crate::part::check_counted;
 use crate::plain::plain_effect;
-use crate::refusal::{ABSENT, LIMIT};
+use crate::refusal::{Fault, Flaw};
 
 // Whom an effect is for, a fluent, a value.
-pub fn check_effect(s: &[u8], at: usize, characters: usize, domains: &[u8]) -> Checked
-    requires { characters ≤ 6 }
-    ensures { mapped forget (effect_at (dims characters domains.now) s.now at) ≡ shown result }
+pub fn check_effect<'a>(s: &[u8], at: usize, d: Dimensions<'a>) -> Result<usize, Flaw>
+    requires { d.characters ≤ 6 }
+    ensures { mapped forget (effect_at (dims d.entry.characters d.entry.domains.now) s.now at) ≡ shown result }
 {
-    match read_between(s, at, 0, characters + 1, ABSENT) {
-        Number::Refused(k, p) => Checked::Refused(k, p),
-        Number::Is(_, n) => check_claim(s, n, domains),
-    }
+    let claim = check_item(s, at, d.characters + 1)?;
+    check_claim(s, claim, d.domains)
 }
 
 // A count of effects, and the effects, of which plain ones are passed over at once.
-pub fn check_effects(s: &[u8], at: usize, characters: usize, domains: &[u8]) -> Checked
-    requires { characters ≤ 6 }
-    ensures { mapped forget (effects_at (dims characters domains.now) s.now at)
+pub fn check_effects<'a>(s: &[u8], at: usize, d: Dimensions<'a>) -> Result<usize, Flaw>
+    requires { d.characters ≤ 6 }
+    ensures { mapped forget (effects_at (dims d.entry.characters d.entry.domains.now) s.now at)
         ≡ shown result }
 {
-    match read_between(s, at, 0, 17, LIMIT) {
-        Number::Refused(k, p) => Checked::Refused(k, p),
-        Number::Is(count, first) => {
-            let mut n = first;
-            let mut left = count;
-            while 0 < left {
-                let after = plain_effect(s, n, characters, domains);
-                if 0 < after {
-                    n = after;
-                    left = left - 1;
-                } else {
-                    match check_effect(s, n, characters, domains) {
-                        Checked::Refused(k, p) => {
-                            return Checked::Refused(k, p);
-                        }
-                        Checked::Passed(next) => {
-                            n = next;
-                            left = left - 1;
-                        }
-                    }
-                }
-            }
-            Checked::Passed(n)
-        }
-    }
+    check_counted(s, at, 17, |n| match plain_effect(s, n, d.characters, d.domains) {
+        0 => check_effect(s, n, d),
+        after => Ok(after),
+    })
 }
 
 // A count of consenters, and the consenters, strictly rising.
-pub fn check_consenters(s: &[u8], at: usize, characters: usize, domains: &[u8]) -> Checked
-    ensures { mapped forget (consenters_at (dims characters domains.now) s.now at)
+pub fn check_consenters<'a>(s: &[u8], at: usize, d: Dimensions<'a>) -> Result<usize, Flaw>
+    ensures { mapped forget (consenters_at (dims d.entry.characters d.entry.domains.now) s.now at)
         ≡ shown result }
 {
-    match read_between(s, at, 0, 7, LIMIT) {
-        Number::Refused(k, p) => Checked::Refused(k, p),
-        Number::Is(count, first) => {
-            let mut least: usize = 0;
-            let mut n = first;
-            let mut left = count;
-            while 0 < left {
-                match read_rising(s, n, characters, least) {
-                    Number::Refused(k, p) => {
-                        return Checked::Refused(k, p);
-                    }
-                    Number::Is(v, next) => {
-                        least = v + 1;
-                        n = next;
-                        left = left - 1;
-                    }
-                }
-            }
-            Checked::Passed(n)
-        }
+    let (count, first) = read_between(s, at, 0, 7, Fault::Limit)?;
+    let mut least = 0;
+    let mut n = first;
+    for _ in 0..count {
+        let (consenter, after) = read_rising(s, n, d.characters, least)?;
+        least = consenter + 1;
+        n = after;
     }
+    Ok(n)
 }

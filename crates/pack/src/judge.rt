@@ -10,7 +10,7 @@ ghost use Rattle.pack.specs.Condition.{compares, all_pass};
 ghost use Rattle.pack.specs.Duties.Table.{state_of};
 ghost use Rattle.pack.specs.Duties.Judge.{alternative_at, Small, Over, Readable, Judged};
 
-use crate::number::{Number, read_number, wide};
+use crate::number::{read_number, wide};
 use crate::table::{Table, follow};
 use crate::test::after_test;
 
@@ -129,10 +129,10 @@ pub fn utility(s: &[u8], at: usize, buffer: &[u8], t: Table, node: usize) -> usi
             }
         }
         match read_number(s, after_condition(s, n)) {
-            Number::Refused(_, _) => {
+            Err(_) => {
                 return 0;
             }
-            Number::Is(value, next) => {
+            Ok((value, next)) => {
                 if holding {
                     return value;
                 }

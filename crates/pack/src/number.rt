@@ -1,23 +1,10 @@
 // Numbers, and numbers with their limits.
 ghost use Rattle.std.specs.Prelude.{◌≡◌};
 ghost use Rattle.pack.specs.Number.{number_at, between, item, belief_at, rising_at};
-ghost use Rattle.pack.specs.Duties.Said.{said, behind, value_of};
+ghost use Rattle.pack.specs.Refusals.{number_of};
+ghost use Rattle.pack.specs.Duties.Said.{said};
 
-use crate::refusal::{ABSENT, BLANK, ENDS, FORM, ORDER};
-
-// What reading a number finds: its value and the place after it, or a refusal's number and place.
-#[derive(Clone, Copy)]
-pub enum Number {
-    Is(usize, usize),
-    Refused(u8, usize),
-}
-
-// What checking a part finds: the place after it, or a refusal's number and place.
-#[derive(Clone, Copy)]
-pub enum Checked {
-    Passed(usize),
-    Refused(u8, usize),
-}
+use crate::refusal::{Fault, Flaw};
 
 // A byte as a number as wide as places and counts.
 pub fn wide(x: u8) -> usize
@@ -26,128 +13,93 @@ pub fn wide(x: u8) -> usize
     x as usize
 }
 
-// The number that starts at a position: groups of seven bits, lowest first, at most three bytes, shortest form, at most
-// 65,535.
-pub fn read_number(s: &[u8], at: usize) -> Number
+// The number that starts at a position, and the place after it: groups of seven bits, lowest first, at most three
+// bytes, shortest form, at most 65,535.
+pub fn read_number(s: &[u8], at: usize) -> Result<(usize, usize), Flaw>
     ensures { number_at s.now at ≡ said result }
 {
     if s.len() <= at {
-        return Number::Refused(ENDS, s.len());
+        return Err(Fault::Ends.at(s.len()));
     }
-    let a = s[at];
+    let a = usize::from(s[at]);
     if a < 128 {
-        return Number::Is((a % 128) as usize, at + 1);
+        return Ok((a, at + 1));
     }
     if s.len() <= at + 1 {
-        return Number::Refused(ENDS, s.len());
+        return Err(Fault::Ends.at(s.len()));
     }
-    let b = s[at + 1];
+    let b = usize::from(s[at + 1]);
     if b == 0 {
-        return Number::Refused(FORM, at);
+        return Err(Fault::Form.at(at));
     }
     if b < 128 {
-        return Number::Is((a % 128) as usize + 128 * ((b % 128) as usize), at + 2);
+        return Ok((a % 128 + 128 * (b % 128), at + 2));
     }
     if s.len() <= at + 2 {
-        return Number::Refused(ENDS, s.len());
+        return Err(Fault::Ends.at(s.len()));
     }
-    let d = s[at + 2];
-    if d == 0 {
-        return Number::Refused(FORM, at);
+    let d = usize::from(s[at + 2]);
+    if d == 0 || 3 < d {
+        return Err(Fault::Form.at(at));
     }
-    if 3 < d {
-        return Number::Refused(FORM, at);
-    }
-    Number::Is(
-        (a % 128) as usize + 128 * ((b % 128) as usize) + 16384 * ((d % 128) as usize),
-        at + 3,
-    )
+    Ok((a % 128 + 128 * (b % 128) + 16384 * d, at + 3))
 }
 
-// The number at a position, where it is from low up to limit; any other is refused under the number given.
-pub fn read_between(s: &[u8], at: usize, low: usize, limit: usize, number: u8) -> Number
-    ensures { between low limit number s.now at ≡ said result }
+// The number at a position, where it is from low up to limit; any other is refused under the fault given.
+pub fn read_between(
+    s: &[u8],
+    at: usize,
+    low: usize,
+    limit: usize,
+    fault: Fault,
+) -> Result<(usize, usize), Flaw>
+    ensures { between low limit (number_of fault) s.now at ≡ said result }
 {
-    match read_number(s, at) {
-        Number::Refused(k, p) => Number::Refused(k, p),
-        Number::Is(v, n) => {
-            if v < low {
-                return Number::Refused(number, at);
-            }
-            if v < limit {
-                Number::Is(v, n)
-            } else {
-                Number::Refused(number, at)
-            }
-        }
-    }
-}
-
-// The place behind a number that was read; a refusal moves nothing.
-pub fn place_after(n: Number, at: usize) -> usize
-    ensures { result ≡ behind n at }
-{
-    match n {
-        Number::Is(_, next) => next,
-        Number::Refused(_, _) => at,
-    }
-}
-
-// The number that was read; 0 for a refusal.
-pub fn value_of(n: Number) -> usize
-    ensures { result ≡ value_of n }
-{
-    match n {
-        Number::Is(v, _) => v,
-        Number::Refused(_, _) => 0,
+    let (v, after) = read_number(s, at)?;
+    if low <= v && v < limit {
+        Ok((v, after))
+    } else {
+        Err(fault.at(at))
     }
 }
 
 // The kind of a test: 0 is, 1 is not, 2 at least; every other number is refused as 4.
-pub fn read_kind(s: &[u8], at: usize) -> Number
+pub fn read_kind(s: &[u8], at: usize) -> Result<(usize, usize), Flaw>
     ensures { item 3 s.now at ≡ said result }
 {
-    match read_number(s, at) {
-        Number::Refused(k, p) => Number::Refused(k, p),
-        Number::Is(v, n) => match v {
-            0 | 1 | 2 => Number::Is(v, n),
-            3.. => Number::Refused(ABSENT, at),
-        },
+    let (v, after) = read_number(s, at)?;
+    match v {
+        0 | 1 | 2 => Ok((v, after)),
+        3.. => Err(Fault::Absent.at(at)),
     }
 }
 
 // A believed node, of so many, written plus 1; a 0 is a blank.
-pub fn read_belief(s: &[u8], at: usize, nodes: usize) -> Number
+pub fn read_belief(s: &[u8], at: usize, nodes: usize) -> Result<(usize, usize), Flaw>
     ensures { belief_at nodes s.now at ≡ said result }
 {
-    match read_number(s, at) {
-        Number::Refused(k, p) => Number::Refused(k, p),
-        Number::Is(v, n) => {
-            if v == 0 {
-                Number::Refused(BLANK, at)
-            } else if v <= nodes {
-                Number::Is(v - 1, n)
-            } else {
-                Number::Refused(ABSENT, at)
-            }
-        }
+    let (v, after) = read_number(s, at)?;
+    if v == 0 {
+        Err(Fault::Blank.at(at))
+    } else if v <= nodes {
+        Ok((v - 1, after))
+    } else {
+        Err(Fault::Absent.at(at))
     }
 }
 
 // A character that is least or more; one that isn't there is refused before one that doesn't rise.
-pub fn read_rising(s: &[u8], at: usize, characters: usize, least: usize) -> Number
+pub fn read_rising(
+    s: &[u8],
+    at: usize,
+    characters: usize,
+    least: usize,
+) -> Result<(usize, usize), Flaw>
     ensures { rising_at characters least s.now at ≡ said result }
 {
-    match read_number(s, at) {
-        Number::Refused(k, p) => Number::Refused(k, p),
-        Number::Is(v, n) => {
-            if characters <= v {
-                return Number::Refused(ABSENT, at);
-            }
-            if v < least {
-                return Number::Refused(ORDER, at);
-            }
-            Number::Is(v, n)
-        }
+    let (v, after) = read_between(s, at, 0, characters, Fault::Absent)?;
+    if v < least {
+        return Err(Fault::Order.at(at));
     }
+    Ok((v, after))
 }

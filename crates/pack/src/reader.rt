@@ -1,18 +1,22 @@
 // The pack reader: the bytes that were lent and a position in them. It hands out number after number and part after
-// part, and is moved behind each. Its functions are thin: each takes the reader apart, and one on the slice and the
-// position does the work.
+// part, and stands behind what it handed out; where that is refused it stays. Its functions are thin: each has one on
+// the slice and the position do the work.
 ghost use Rattle.std.specs.Prelude.{◌≤◌, length, ◌≡◌};
+ghost use Rattle.pack.specs.Reading.{many, mapped};
 ghost use Rattle.pack.specs.Number.{between};
-ghost use Rattle.pack.specs.Duties.Said.{said, behind, value_of};
-ghost use Rattle.pack.specs.Duties.Answer.{DomainsAfter, behind_head, rows_after};
-ghost use Rattle.pack.specs.Duties.Places.{Ready, ActionsAfter, TriggersAfter, UtilitiesAfter};
+ghost use Rattle.pack.specs.Grammar.{node_at};
+ghost use Rattle.pack.specs.Duties.Said.{said, placed, passed_to, forget};
+ghost use Rattle.pack.specs.Duties.Answer.{dims, DomainsRead};
+ghost use Rattle.pack.specs.Duties.Places.{places_room, Within, ActionsRead, TriggersRead, UtilitiesRead};
 
-use crate::action::actions_after;
-use crate::head::{Head, domains_after, head_end};
-use crate::node::rows_after;
-use crate::number::{Checked, Number, place_after, read_between};
-use crate::trigger::triggers_after;
-use crate::utility::utilities_after;
+use crate::action::read_actions;
+use crate::dimensions::{Dimensions, Domains};
+use crate::head::read_domains;
+use crate::node::check_rows;
+use crate::number::read_between;
+use crate::refusal::{Fault, Flaw};
+use crate::trigger::read_triggers;
+use crate::utility::read_utilities;
 
 // The bytes, and the place of what comes next.
 #[derive(Clone, Copy)]
@@ -21,78 +25,77 @@ pub struct Reader<'a> {
     pub at: usize,
 }
 
-// A reader of these bytes, at a position.
-pub fn new<'a>(src: &'a [u8], at: usize) -> Reader<'a>
-    ensures { (result.src ≡ src.entry) × (result.at ≡ at) }
-{
-    Reader { src, at }
-}
-
-// The number that the reader is at, where it is from low up to limit; any other is refused under the number given.
-pub fn next<'a>(r: Reader<'a>, low: usize, limit: usize, number: u8) -> Number
-    ensures { between low limit number r.entry.src.now r.entry.at ≡ said result }
-{
-    read_between(r.src, r.at, low, limit, number)
-}
-
-// The reader behind a number or a part that it handed out; where that is a refusal it stays.
-pub fn moved<'a>(r: Reader<'a>, n: Number) -> Reader<'a>
-    ensures { (result.src ≡ r.entry.src) × (result.at ≡ behind n r.entry.at) }
-{
-    Reader {
-        src: r.src,
-        at: place_after(n, r.at),
+impl<'a> Reader<'a> {
+    // A reader of these bytes, at the first.
+    pub fn new(src: &'a [u8]) -> Reader<'a>
+        ensures { (result.src ≡ src.entry) × (result.at ≡ 0) }
+    {
+        Reader { src, at: 0 }
     }
-}
 
-// The domain sizes, and with them the head. Each part is told what came before it, and hands a refusal on.
-pub fn domains<'a>(r: Reader<'a>, version: Number, characters: Number, fluents: Number) -> Head
-    requires { (value_of characters ≤ 6) × (value_of fluents ≤ 24) }
-    ensures { DomainsAfter r.entry.src.now r.entry.at version characters fluents result }
-{
-    domains_after(r.src, r.at, version, characters, fluents)
-}
-
-// The reader behind the head.
-pub fn after_head<'a>(r: Reader<'a>, h: Head) -> Reader<'a>
-    ensures { (result.src ≡ r.entry.src) × (result.at ≡ behind_head h r.entry.at) }
-{
-    Reader {
-        src: r.src,
-        at: head_end(h, r.at),
+    // A number from low up to limit.
+    pub fn number(&mut self, low: usize, limit: usize) -> Result<usize, Flaw>
+        ensures reads { between low limit 3 self.old.src.now self.old.at ≡ said (placed result self.new.at) }
+        ensures same { self.new.src ≡ self.old.src }
+    {
+        let (number, after) = read_between(self.src, self.at, low, limit, Fault::Limit)?;
+        self.at = after;
+        Ok(number)
     }
-}
 
-// The nodes: how many there are.
-pub fn rows<'a>(r: Reader<'a>, h: Head, count: Number) -> Number
-    requires { (h.fluents ≤ 24) × (length h.sizes ≡ 24) }
-    ensures { rows_after h (said count) r.entry.src.now r.entry.at ≡ said result }
-{
-    rows_after(r.src, r.at, h, count)
-}
+    // The domain size of each fluent.
+    pub fn domains(&mut self, fluents: usize) -> Result<Domains, Flaw>
+        requires { fluents ≤ 24 }
+        ensures reads { DomainsRead self.old.src.now self.old.at fluents (placed result self.new.at) }
+        ensures same { self.new.src ≡ self.old.src }
+    {
+        let (domains, after) = read_domains(self.src, self.at, fluents)?;
+        self.at = after;
+        Ok(domains)
+    }
 
-// The actions: how many there are, with the places of their parts.
-pub fn actions<'a, 'b>(r: Reader<'a>, h: Head, earlier: Number, places: &'b mut [u16]) -> Number
-    requires { Ready r.src.now r.at h places.old }
-    ensures { ActionsAfter h earlier r.entry.src.now r.entry.at places.new result }
-{
-    actions_after(r.src, r.at, h, earlier, places)
-}
+    // So many nodes.
+    pub fn nodes<'b>(&mut self, d: Dimensions<'b>, nodes: usize) -> Result<(), Flaw>
+        ensures reads { mapped forget (many (node_at (dims d.entry.characters d.entry.domains.now) nodes) nodes
+            self.old.src.now self.old.at) ≡ said (placed result self.new.at) }
+        ensures same { self.new.src ≡ self.old.src }
+    {
+        self.at = check_rows(self.src, self.at, d, nodes)?;
+        Ok(())
+    }
 
-// The triggers: how many there are, with the places of their parts.
-pub fn triggers<'a, 'b>(r: Reader<'a>, h: Head, earlier: Number, places: &'b mut [u16]) -> Number
-    requires { Ready r.src.now r.at h places.old }
-    ensures { TriggersAfter h earlier r.entry.src.now r.entry.at places.old
-        places.new result }
-{
-    triggers_after(r.src, r.at, h, earlier, places)
-}
+    // The actions: how many there are, with the places of their parts.
+    pub fn actions<'b>(&mut self, d: Dimensions<'b>, places: &mut [u16]) -> Result<usize, Flaw>
+        requires { (d.characters ≤ 6) × (places_room ≤ length places.old) × Within self.old.src.now self.old.at }
+        ensures reads { ActionsRead (dims d.entry.characters d.entry.domains.now) self.old.src.now self.old.at
+            places.new (placed result self.new.at) }
+        ensures same { self.new.src ≡ self.old.src }
+    {
+        let (actions, after) = read_actions(self.src, self.at, d, places)?;
+        self.at = after;
+        Ok(actions)
+    }
 
-// The utilities, with their places.
-pub fn utilities<'a, 'b>(r: Reader<'a>, h: Head, earlier: Number, places: &'b mut [u16]) -> Checked
-    requires { Ready r.src.now r.at h places.old }
-    ensures { UtilitiesAfter h earlier r.entry.src.now r.entry.at places.old
-        places.new result }
-{
-    utilities_after(r.src, r.at, h, earlier, places)
+    // The triggers: how many there are, with the places of their parts.
+    pub fn triggers<'b>(&mut self, d: Dimensions<'b>, places: &mut [u16]) -> Result<usize, Flaw>
+        requires { (d.characters ≤ 6) × (places_room ≤ length places.old) × Within self.old.src.now self.old.at }
+        ensures reads { TriggersRead (dims d.entry.characters d.entry.domains.now) self.old.src.now self.old.at
+            places.old places.new (placed result self.new.at) }
+        ensures same { self.new.src ≡ self.old.src }
+    {
+        let (triggers, after) = read_triggers(self.src, self.at, d, places)?;
+        self.at = after;
+        Ok(triggers)
+    }
+
+    // The utilities, with their places.
+    pub fn utilities<'b>(&mut self, d: Dimensions<'b>, places: &mut [u16]) -> Result<(), Flaw>
+        requires { (d.characters ≤ 6) × (places_room ≤ length places.old) × Within self.old.src.now self.old.at }
+        ensures reads { UtilitiesRead (dims d.entry.characters d.entry.domains.now) self.old.src.now self.old.at
+            places.old places.new (passed_to result self.new.at) }
+        ensures same { self.new.src ≡ self.old.src }
+    {
+        self.at = read_utilities(self.src, self.at, d, places)?;
+        Ok(())
+    }
 }

@@ -1,37 +1,100 @@
-// The numbers of refusals, each in this one place; what they mean is document 01's table.
+// Why bytes or a call are refused, and the number and the place that document 01's table has for it.
+ghost use Rattle.std.specs.Prelude.{◌≡◌, ◌<◌};
+ghost use Rattle.pack.specs.Refusals.{number_of, refusal_number, place_of};
 
-// Of a pack: its bytes end in a number, a number is in no shortest form, a count or size is outside its limits,
-// something isn't there, a belief is blank, consenters don't rise, bytes come after the end.
-pub const ENDS: u8 = 1;
+// What can be at fault in the bytes of a pack or a chart: they end in a number, a number is in no shortest form, a count
+// or size is outside its limits, something isn't there, a belief is blank, consenters don't rise, bytes come after the
+// end.
+#[derive(Clone, Copy, Debug, PartialEq, Eq)]
+pub enum Fault {
+    Ends,
+    Form,
+    Limit,
+    Absent,
+    Blank,
+    Order,
+    After,
+}
 
-pub const FORM: u8 = 2;
+// A fault, and the place of the first byte at fault.
+#[derive(Clone, Copy, Debug, PartialEq, Eq)]
+pub struct Flaw {
+    pub fault: Fault,
+    pub at: usize,
+}
 
-pub const LIMIT: u8 = 3;
+// Why a call is refused: by a flaw of its pack or of a chart; as a lent buffer is too short or a number is out of range;
+// as an action's condition fails, a trigger holds after round 16 or there are over 32 states; as there is no ending.
+#[derive(Clone, Copy, Debug, PartialEq, Eq)]
+pub enum Refusal {
+    Pack(Flaw),
+    Chart(Flaw),
+    Short,
+    Range,
+    Condition,
+    Rounds,
+    States,
+    NoEnding,
+}
 
-pub const ABSENT: u8 = 4;
+impl Fault {
+    // The flaw that is at a place.
+    pub fn at(self, at: usize) -> Flaw
+        ensures { (result.fault ≡ self) × (result.at ≡ at) }
+    {
+        Flaw { fault: self, at }
+    }
 
-pub const BLANK: u8 = 5;
+    // Its number in a pack.
+    pub fn number(self) -> u8
+        ensures { (result ≡ number_of self) × (result < 8) }
+    {
+        match self {
+            Fault::Ends => 1,
+            Fault::Form => 2,
+            Fault::Limit => 3,
+            Fault::Absent => 4,
+            Fault::Blank => 5,
+            Fault::Order => 6,
+            Fault::After => 7,
+        }
+    }
+}
 
-pub const ORDER: u8 = 6;
+impl Refusal {
+    // The refusal's number.
+    pub fn number(self) -> u8
+        ensures { result ≡ refusal_number self }
+    {
+        match self {
+            Refusal::Pack(flaw) => flaw.fault.number(),
+            Refusal::Chart(flaw) => flaw.fault.number() + 20,
+            Refusal::Short => 8,
+            Refusal::Range => 9,
+            Refusal::Condition => 10,
+            Refusal::Rounds => 11,
+            Refusal::States => 12,
+            Refusal::NoEnding => 13,
+        }
+    }
 
-pub const AFTER: u8 = 7;
+    // Its place.
+    pub fn place(self) -> usize
+        ensures { result ≡ place_of self }
+    {
+        match self {
+            Refusal::Pack(flaw) | Refusal::Chart(flaw) => flaw.at,
+            _ => 0,
+        }
+    }
+}
 
-// Of a chart they are so much higher.
-pub const IN_CHART: u8 = 20;
+impl From<Flaw> for Refusal {
+    ghost use Rattle.pack.specs.declared.refusal.Refusal.TheVariants.{Pack};
 
-pub const CHART_AFTER: u8 = 27;
+    ghost from_gives = { λ flaw r. r ≡ Pack flaw };
 
-// Of a call: a lent buffer is too short, a number is out of range.
-pub const SHORT: u8 = 8;
-
-pub const RANGE: u8 = 9;
-
-// Of an action: its condition fails, a trigger holds after round 16, there are over 32 states.
-pub const CONDITION: u8 = 10;
-
-pub const ROUNDS: u8 = 11;
-
-pub const STATES: u8 = 12;
-
-// Of a search.
-pub const NO_ENDING: u8 = 13;
+    fn from(flaw: Flaw) -> Refusal {
+        Refusal::Pack(flaw)
+    }
+}

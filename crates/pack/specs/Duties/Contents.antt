@@ -1,18 +1,15 @@
 -- What the layers above learn of an accepted pack: its dimensions and counts, and that each part of it is read at the
 -- place marked for it. Action i has its places from slot 9 * i on, trigger i from 288 + 2 * i on, the rules of the
 -- author and of each character from 320 on.
-use Rattle.std.specs.Prelude.{ℕ, ◌+◌, ◌*◌, ◌<◌, ◌≤◌, ◌≡◌, List, [], length, get_or, take}
+use Rattle.std.specs.Prelude.{ℕ, ◌+◌, ◌*◌, ◌<◌, ◌≤◌, ◌≡◌, List, [], length, get_or, Result, IfOk}
 use Rattle.pack.specs.Syntax.{Action, Trigger, Theory, Pack}
 use Rattle.pack.specs.Reading.{done, Reader, bind, mapped, many, Reply, gives, refuses, told}
 use Rattle.pack.specs.Grammar.{Dimensions, node_at, nodes_at, pack_at, condition_at}
 use Rattle.pack.specs.Grammar.{effects_at, consenters_at, rules_at, theory_at, pack_of}
-use Rattle.pack.specs.Duties.Said.{behind, value_of, shown, forget, after}
-use Rattle.pack.specs.Duties.Answer.{dims, dims_of}
-use Rattle.pack.specs.declared.number.Number.{Number}
-use Rattle.pack.specs.declared.number.Number.TheVariants as numbers
-use Rattle.pack.specs.declared.number.Checked.{Checked}
-use Rattle.pack.specs.declared.number.Checked.TheVariants.{Passed, Refused}
-use Rattle.pack.specs.declared.head.Head.{Head}
+use Rattle.pack.specs.Duties.Said.{said, forget, replied}
+use Rattle.pack.specs.Duties.Answer.{dims, sizes_of}
+use Rattle.pack.specs.declared.refusal.Flaw.{Flaw}
+use Rattle.pack.specs.declared.refusal.Refusal.{Refusal}
 use Rattle.pack.specs.declared.contents.Counts.{Counts}
 use Rattle.pack.specs.declared.contents.Contents.{Contents}
 
@@ -45,24 +42,17 @@ pub record TheoryFound (d : Dimensions) (s places : List ℕ) (t : Theory) (k l 
   pub rules : (c : ℕ) → c < d.characters + 1
       → Gives (rules_at d) s (get_or places (320 + c) 0) (get_or t.utilities c [])
 
--- what the answers of three parts say together
-abbrev pub counts_of : (actions triggers : Number) → (utilities : Checked) → Counts
-counts_of actions triggers utilities =
-    record { answer = utilities; actions = value_of actions; triggers = value_of triggers }
-
-pub record TheoryRead (d : Dimensions) (s : List ℕ) (at : ℕ) (places : List ℕ) (r : Counts) : Type 0 where
-  pub answer : mapped forget (theory_at d s at) ≡ shown r.answer
-  pub found : (t : Theory) (n : ℕ) → theory_at d s at ≡ done t n → TheoryFound d s places t r.actions r.triggers
-
--- the same behind the nodes: they were read, else their refusal is handed on
-abbrev pub TheoryAfter : Head → (nodes : Number) → (s : List ℕ) (at : ℕ) (places : List ℕ) → Counts → Type 0
-TheoryAfter h nodes s at places c = after nodes Refused c.answer (TheoryRead (dims_of h) s at places c)
+-- the actions, the triggers and the utilities: how many actions and triggers there are, and the place after all
+pub record TheoryRead (d : Dimensions) (s : List ℕ) (at : ℕ) (places : List ℕ) (r : Result (Counts × ℕ) Flaw) : Type 0 where
+  pub answer : mapped forget (theory_at d s at) ≡ mapped forget (said r)
+  pub found : (t : Theory) (n : ℕ) → theory_at d s at ≡ done t n
+      → IfOk r (λ c. TheoryFound d s places t c.0.actions c.0.triggers)
 
 -- an accepted pack: each of its parts, and where it stands
 pub record PackFound (s places : List ℕ) (p : Pack) (r : Contents) : Type 0 where
   pub characters : p.theory.characters ≡ r.characters
-  pub domains : p.theory.domains ≡ take r.fluents r.sizes
-  pub fluents : length p.theory.domains ≡ r.fluents
+  pub domains : p.theory.domains ≡ sizes_of r.domains
+  pub fluents : length p.theory.domains ≡ r.domains.fluents
   pub nodes : length p.nodes ≡ r.nodes
   pub some_nodes : 1 ≤ r.nodes
   pub most_nodes : r.nodes ≤ 32
@@ -76,51 +66,18 @@ unfoldable pub body_at : Dimensions → Reader Pack
 body_at d s at =
     bind (nodes_at d s at) (λ nodes n. mapped (λ theory. record { theory = theory; nodes = nodes }) (theory_at d s n))
 
--- what the head, the count of nodes and the rest say together
-abbrev pub contents_of : Head → (count : Number) → Counts → Contents
-contents_of h count c =
-    record {
-      answer = c.answer;
-      characters = h.characters;
-      fluents = h.fluents;
-      sizes = h.sizes;
-      nodes = value_of count;
-      first = behind count 0;
-      actions = c.actions;
-      triggers = c.triggers;
-    }
-
-pub record PartsRead (s places : List ℕ) (r : Contents) : Type 0 where
-  pub answer : mapped forget (pack_at s 0) ≡ shown r.answer
-  pub found : (p : Pack) (n : ℕ) → pack_at s 0 ≡ done p n → PackFound s places p r
-  pub few : r.fluents ≤ 24
-  pub long : length r.sizes ≡ 24
-
--- nothing but a refusal
-pub record Refusal (k p : ℕ) (r : Contents) : Type 0 where
-  pub answer : r.answer ≡ Refused k p
-  pub few : r.fluents ≤ 24
-  pub long : length r.sizes ≡ 24
-
--- accepted, or the refusal
-abbrev pub replied : Checked → Reply (Unit {0})
-replied (Passed n) = gives tt
-replied (Refused k p) = refuses k p
-
--- how many there are, or the refusal
-abbrev pub replied_count : Number → Reply ℕ
-replied_count (numbers.Is v n) = gives v
-replied_count (numbers.Refused k p) = refuses k p
+-- the parts of a pack, and the place after them
+pub record PartsRead (s places : List ℕ) (r : Result (Contents × ℕ) Flaw) : Type 0 where
+  pub answer : mapped forget (pack_at s 0) ≡ mapped forget (said r)
+  pub found : (p : Pack) (n : ℕ) → pack_at s 0 ≡ done p n → IfOk r (λ c. PackFound s places p c.0)
 
 -- The contract of the pack reader: the bytes are accepted or refused as `pack_of` says, and what is accepted is found
 -- where the answer says.
-pub record PackRead (s places : List ℕ) (r : Contents) : Type 0 where
-  pub answer : told forget (pack_of s) ≡ replied r.answer
-  pub found : (p : Pack) → pack_of s ≡ gives p → PackFound s places p r
-  pub few : r.fluents ≤ 24
-  pub long : length r.sizes ≡ 24
+pub record PackRead (s places : List ℕ) (r : Result Contents Refusal) : Type 0 where
+  pub answer : told forget (pack_of s) ≡ told forget (replied r)
+  pub found : (p : Pack) → pack_of s ≡ gives p → IfOk r (PackFound s places p)
 
 -- what a pack holds is read, and of its parts' places nothing is said
-pub record ContentsRead (s : List ℕ) (r : Contents) : Type 0 where
+pub record ContentsRead (s : List ℕ) (r : Result Contents Refusal) : Type 0 where
   pub places : List ℕ
   pub read : PackRead s places r

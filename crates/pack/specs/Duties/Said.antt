@@ -1,53 +1,35 @@
--- What the code's answers say, as readings.
-use Rattle.std.specs.Prelude.{ℕ, ◌≡◌}
-use Rattle.pack.specs.Reading.{Reading, done, refused}
-use Rattle.pack.specs.declared.number.Number.{Number}
-use Rattle.pack.specs.declared.number.Number.TheVariants.{Is, Refused}
-use Rattle.pack.specs.declared.number.Checked.{Checked}
-use Rattle.pack.specs.declared.number.Checked.TheVariants as checked
+-- What the code's answers say, as readings and replies.
+use Rattle.std.specs.Prelude.{ℕ, Result, Ok, Err}
+use Rattle.pack.specs.Reading.{Reading, done, refused, Reply, gives, refuses}
+use Rattle.pack.specs.Refusals.{number_of, refusal_number, place_of}
+use Rattle.pack.specs.declared.refusal.Flaw.{Flaw}
+use Rattle.pack.specs.declared.refusal.Refusal.{Refusal}
 
--- a number and the place after it, or a refusal
-abbrev pub said : Number → Reading ℕ
-said (Is v n) = done v n
-said (Refused k p) = refused k p
+-- a value and the place after it, or a refusal
+abbrev pub said : {A : Type 0} → Result (A × ℕ) Flaw → Reading A
+said (Ok (a , n)) = done a n
+said (Err flaw) = refused (number_of flaw.fault) flaw.at
 
--- the place behind a number that was read; a refusal moves nothing
-abbrev pub behind : Number → ℕ → ℕ
-behind (Is v n) at = n
-behind (Refused k p) at = at
+-- an answer, with the place where the reader then is
+abbrev pub placed : {A : Type 0} → Result A Flaw → ℕ → Result (A × ℕ) Flaw
+placed (Ok a) n = Ok (a , n)
+placed (Err flaw) n = Err flaw
 
--- the number that was read; 0 for a refusal
-abbrev pub value_of : Number → ℕ
-value_of (Is v n) = v
-value_of (Refused k p) = 0
+-- of a part that passed, the place where the reader then is
+abbrev pub passed_to : Result (Unit {0}) Flaw → ℕ → Result ℕ Flaw
+passed_to (Ok u) n = Ok n
+passed_to (Err flaw) n = Err flaw
 
--- the place after a part, or a refusal; a is what stands beside the answer
-abbrev pub answered : {A : Type 0} → Checked → A → Reading A
-answered (checked.Passed n) a = done a n
-answered (checked.Refused k p) a = refused k p
-
-abbrev pub shown : Checked → Reading (Unit {0})
-shown r = answered r tt
-
--- the place behind a part that passed; a refusal moves nothing
-abbrev pub place_of : Checked → ℕ → ℕ
-place_of (checked.Passed n) at = n
-place_of (checked.Refused k p) at = at
+-- the place after a part, or a refusal
+abbrev pub shown : Result ℕ Flaw → Reading (Unit {0})
+shown (Ok n) = done tt n
+shown (Err flaw) = refused (number_of flaw.fault) flaw.at
 
 -- a check says nothing of what it read
 abbrev pub forget : {A : Type 0} → A → Unit {0}
 forget a = tt
 
--- what holds where a check passed, and where a number was read
-abbrev pub when_passed : Checked → (ℕ → Type 0) → Type 0
-when_passed (checked.Passed n) P = P n
-when_passed (checked.Refused k p) P = Unit {0}
-
-abbrev pub when_is : Number → (ℕ → ℕ → Type 0) → Type 0
-when_is (Is v n) P = P v n
-when_is (Refused k p) P = Unit {0}
-
--- what a part's answer r tells, where the part before it was read; else r is the refusal of that one
-abbrev pub after : {A : Type 0} → Number → (refusal : ℕ → ℕ → A) → (r : A) → Type 0 → Type 0
-after (Is v n) refusal r P = P
-after (Refused k p) refusal r P = r ≡ refusal k p
+-- an answer, or the number and place of a refusal
+abbrev pub replied : {A : Type 0} → Result A Refusal → Reply A
+replied (Ok a) = gives a
+replied (Err why) = refuses (refusal_number why) (place_of why)

@@ -217,5 +217,5 @@ module _ (s : List ℕ) (at nodes : ℕ) (was now : List ℕ) (base F C : ℕ) (
 
 -- the nodes of an accepted pack are rows of so many values and beliefs
 pub pack_shaped : (s places : List ℕ) (p : Pack) (r : Contents) → pack_of s ≡ gives p → PackFound s places p r
-    → Shaped (dims p.theory.characters p.theory.domains) r.fluents r.characters
+    → Shaped (dims p.theory.characters p.theory.domains) r.domains.fluents r.characters
 pack_shaped s places p r e f = record { small = small_pack s p e; fluents = f.fluents; characters = f.characters }

@@ -1,16 +1,14 @@
 -- Marking where the things of a run begin, while they are checked. Assumes nothing.
-use Rattle.std.specs.Prelude.{ℕ, zero, suc, ◌+◌, ◌*◌, ◌-◌, ◌<◌, ◌≤◌, ◌≡◌, refl, List, length, get_or, set}
+use Rattle.std.specs.Prelude.{ℕ, zero, suc, ◌+◌, ◌*◌, ◌-◌, ◌<◌, ◌≤◌, ◌≡◌, refl, List, length, get_or, set, Result, Ok, Err, IfOk}
 use Rattle.std.proofs.Common.{sym, ap, ◌∙◌, subst, add-one, arith, length-set, get_or-set_same, get_or-set_other}
 use Rattle.std.proofs.Math.Logic.{by_cases}
 use Rattle.std.proofs.Math.Decide.{dec_lt}
 use Rattle.pack.specs.Reading.{Reading, done, refused, Reader, bind, mapped, runs, many}
 use Rattle.pack.specs.Grammar.{Dimensions, condition_at, effects_at, consenters_at}
-use Rattle.pack.specs.Duties.Said.{forget, when_passed}
+use Rattle.pack.specs.Duties.Said.{forget}
 use Rattle.pack.specs.Duties.Places.{Within, Ends, Marked, KeptBelow, ActionParts, TriggerParts}
-use Rattle.pack.specs.declared.number.Checked.{Checked}
-use Rattle.pack.specs.declared.number.Checked.TheVariants.{Passed, Refused}
 use Rattle.pack.specs.Laws.Reading.{mapped-mapped, mapped-bind, bind-mapped, both, same_place}
-use Rattle.pack.specs.Laws.Runs.{runs_none, many-forget}
+use Rattle.pack.specs.Laws.Runs.{many_start, many_step, many_end}
 use Rattle.pack.specs.Laws.Bounded.{Bounds, many_bounded, ends_within}
 
 pub many_suc : {A : Type 0} (p : Reader A) (k : ℕ) (s : List ℕ) (at : ℕ)
@@ -41,36 +39,33 @@ pub ends_more : {A : Type 0} (p : Reader A) (i : ℕ) (s : List ℕ) (at n m : �
     → Ends (many p (i + 1)) s at m
 ends_more p i s at n m e f = subst (λ (k : ℕ). Ends (many p k) s at m) (sym (add-one i)) (ends_suc p i s at n m e f)
 
--- i of k things are read and marked, and left are left, from n on
+-- i of k things are read and marked, and the others are left, from n on
 pub record Marking {A : Type 0} (p : Reader A) (s : List ℕ) (first : ℕ) (slot : ℕ → ℕ) (low : ℕ) (was now : List ℕ)
-    (k i n left : ℕ) : Type 0 where
-  pub counts : i + left ≡ k
-  pub whole : mapped forget (many p k s first) ≡ mapped forget (many p left s n)
+    (k i n : ℕ) : Type 0 where
+  pub whole : mapped forget (many p k s first) ≡ mapped forget (many p (k - i) s n)
   pub read : Ends (many p i) s first n
   pub marked : Marked p s first now slot i
   pub kept : KeptBelow low was now
 
 module _ {A : Type 0} (p : Reader A) (s : List ℕ) (first : ℕ) (slot : ℕ → ℕ) (low : ℕ) where
-  pub marking_start : (was : List ℕ) (k : ℕ) → Marking p s first slot low was was k 0 first k
+  pub marking_start : (was : List ℕ) (k : ℕ) → Marking p s first slot low was was k 0 first
   marking_start was k =
       record {
-        counts = omega arith;
-        whole = refl;
+        whole = many_start p k s first;
         read = many_zero p s first;
         marked = λ j h. absurd (omega arith);
         kept = λ j h. refl;
       }
 
   -- the next begins at n, and is marked there
-  pub marking_more : (was now : List ℕ) (k i n left : ℕ) → Marking p s first slot low was now k i n left → 0 < left
+  pub marking_more : (was now : List ℕ) (k i n : ℕ) → Marking p s first slot low was now k i n → i < k
       → (then : List ℕ) → get_or then (slot i) 0 ≡ n
       → ((j : ℕ) → j < i → get_or then (slot j) 0 ≡ get_or now (slot j) 0)
       → KeptBelow low now then
-      → (m : ℕ) → Ends p s n m → Marking p s first slot low was then k (i + 1) m (left - 1)
-  marking_more was now k i n left g h then here before below m e = record {
-    counts = omega (arith, g.counts);
-    whole = g.whole ∙ many-forget p left s n h
-        ∙ ap (λ (x : Reading (Unit {0})). bind x (λ u n. mapped forget (many p (left - 1) s n))) e;
+      → (m : ℕ) → Ends p s n m → Marking p s first slot low was then k (i + 1) m
+  marking_more was now k i n g h then here before below m e = record {
+    whole = g.whole ∙ many_step p k i s n h
+        ∙ ap (λ (x : Reading (Unit {0})). bind x (λ u n. mapped forget (many p (k - (i + 1)) s n))) e;
     read = ends_more p i s first n m g.read e;
     marked = λ j l. by_cases (dec_lt j i)
         (λ lt. subst (λ (x : ℕ). Ends (many p j) s first x) (sym (before j lt)) (g.marked j lt))
@@ -81,34 +76,33 @@ module _ {A : Type 0} (p : Reader A) (s : List ℕ) (first : ℕ) (slot : ℕ �
   }
 
   -- the mark is a store
-  pub marking_set : (was now : List ℕ) (k i n left : ℕ) → Marking p s first slot low was now k i n left → 0 < left
+  pub marking_set : (was now : List ℕ) (k i n : ℕ) → Marking p s first slot low was now k i n → i < k
       → slot i < length now → ((j : ℕ) → j < i → slot j < slot i) → low ≤ slot i
-      → (m : ℕ) → Ends p s n m → Marking p s first slot low was (set now (slot i) n) k (i + 1) m (left - 1)
-  marking_set was now k i n left g h inside rises from m e =
-      marking_more was now k i n left g h (set now (slot i) n) (get_or-set_same now (slot i) n 0 inside)
+      → (m : ℕ) → Ends p s n m → Marking p s first slot low was (set now (slot i) n) k (i + 1) m
+  marking_set was now k i n g h inside rises from m e =
+      marking_more was now k i n g h (set now (slot i) n) (get_or-set_same now (slot i) n 0 inside)
       (λ j l. get_or-set_other now (slot i) (slot j) n 0 (omega (arith, rises j l)))
       (λ j l. get_or-set_other now (slot i) j n 0 (omega arith)) m e
 
   -- the next begins within the bytes
-  pub marking_within : Bounds p → (was now : List ℕ) (k i n left : ℕ) → Marking p s first slot low was now k i n left
+  pub marking_within : Bounds p → (was now : List ℕ) (k i n : ℕ) → Marking p s first slot low was now k i n
       → Within s first → Within s n
-  marking_within h was now k i n left g w = ends_within s first w n (many p i) (many_bounded p h i) g.read
+  marking_within h was now k i n g w = ends_within s first w n (many p i) (many_bounded p h i) g.read
 
-  pub marking_refused : (was now : List ℕ) (k i n left : ℕ) → Marking p s first slot low was now k i n left → 0 < left
+  pub marking_refused : (was now : List ℕ) (k i n : ℕ) → Marking p s first slot low was now k i n → i < k
       → (number place : ℕ) → mapped forget (p s n) ≡ refused number place
       → mapped forget (many p k s first) ≡ refused number place
-  marking_refused was now k i n left g h number place e =
-      g.whole ∙ many-forget p left s n h
-      ∙ ap (λ (x : Reading (Unit {0})). bind x (λ u n. mapped forget (many p (left - 1) s n))) e
+  marking_refused was now k i n g h number place e =
+      g.whole ∙ many_step p k i s n h
+      ∙ ap (λ (x : Reading (Unit {0})). bind x (λ u n. mapped forget (many p (k - (i + 1)) s n))) e
 
-  pub marking_whole : (was now : List ℕ) (k i n left : ℕ) → Marking p s first slot low was now k i n left → left ≤ 0
+  pub marking_whole : (was now : List ℕ) (k i n : ℕ) → Marking p s first slot low was now k i n → k ≤ i
       → mapped forget (many p k s first) ≡ done tt n
-  marking_whole was now k i n left g h = g.whole ∙ runs_none _ _ _ forget left s n h
+  marking_whole was now k i n g h = g.whole ∙ many_end p k i s n h
 
-  pub marking_all : (was now : List ℕ) (k i n left : ℕ) → Marking p s first slot low was now k i n left → left ≤ 0
+  pub marking_all : (was now : List ℕ) (k i n : ℕ) → Marking p s first slot low was now k i n → k ≤ i
       → Marked p s first now slot k
-  marking_all was now k i n left g h =
-      let same : i ≡ k = omega (arith, g.counts) in subst (λ (k : ℕ). Marked p s first now slot k) same g.marked
+  marking_all was now k i n g h = λ j l. g.marked j (omega arith)
 
 -- a store at a place leaves those below it
 pub set_below : (l : List ℕ) (i v low : ℕ) → low ≤ i → KeptBelow low l (set l i v)
@@ -182,18 +176,19 @@ module _ (was : List ℕ) (b at e q : ℕ) (inside : b + 1 < length was) where
           observed = m;
         }
 
--- what holds where a check passed gives what follows from it
-pub when_passed_lem : (r : Checked) (P Q : ℕ → Type 0) → ((n : ℕ) → P n → Q n) → when_passed r P → when_passed r Q
-when_passed_lem (Passed n) P Q f h = f n h
-when_passed_lem (Refused k p) P Q f h = tt
+-- what holds of a value gives what follows from it, and what holds of every value holds of that one
+module _ {T E : Type 0} where
+  pub if_ok_map : (r : Result T E) (P Q : T → Type 0) → ((x : T) → P x → Q x) → IfOk r P → IfOk r Q
+  if_ok_map (Ok x) P Q f h = f x h
+  if_ok_map (Err e) P Q f h = tt
 
-pub when_always : (r : Checked) (Q : ℕ → Type 0) → ((n : ℕ) → Q n) → when_passed r Q
-when_always (Passed n) Q f = f n
-when_always (Refused k p) Q f = tt
+  pub if_ok_all : (r : Result T E) (Q : T → Type 0) → ((x : T) → Q x) → IfOk r Q
+  if_ok_all (Ok x) Q f = f x
+  if_ok_all (Err e) Q f = tt
 
--- what holds where a check passed, where it did
-pub when_given : (r : Checked) (n : ℕ) (P : ℕ → Type 0) → r ≡ Passed n → when_passed r P → P n
-when_given r n P e h = subst (λ (r : Checked). when_passed r P) e h
+  -- what holds of a value, where it is that one
+  pub if_ok_at : (r : Result T E) (x : T) (P : T → Type 0) → r ≡ Ok x → IfOk r P → P x
+  if_ok_at r x P e h = subst (λ (r : Result T E). IfOk r P) e h
 
 -- the parts that were marked stay where the places below a slot are kept
 pub action_stays : (d : Dimensions) (s was now : List ℕ) (b low : ℕ) → d.characters ≤ 6 → b + 9 ≤ low
@@ -233,7 +228,3 @@ pub triggers_more : (d : Dimensions) (s was now : List ℕ) (i : ℕ) → KeptBe
 triggers_more d s was now i kept before here j l = by_cases (dec_lt j i)
     (λ lt. trigger_stays d s was now (288 + 2 * j) (288 + 2 * i) (omega arith) kept (before j lt))
     (λ ge. let same : i ≡ j = omega arith in subst (λ (j : ℕ). TriggerParts d s now (288 + 2 * j)) same here)
-
--- all of k, where i are and none is left
-pub all_of : (P : ℕ → Type 0) (i left k : ℕ) → i + left ≡ k → left ≤ 0 → ((j : ℕ) → j < i → P j) → (j : ℕ) → j < k → P j
-all_of P i left k e h f j l = f j (omega arith)

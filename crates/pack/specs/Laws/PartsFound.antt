@@ -1,5 +1,5 @@
 -- What the marks say of an accepted pack: each part of it is read at its place. Assumes nothing.
-use Rattle.std.specs.Prelude.{ℕ, zero, suc, ◌+◌, ◌*◌, ◌<◌, ◌≤◌, ◌≡◌, refl, take, eqb, Bool, true, false}
+use Rattle.std.specs.Prelude.{ℕ, zero, suc, ◌+◌, ◌*◌, ◌<◌, ◌≤◌, ◌≡◌, refl, take, eqb, Bool, true, false, Ok}
 use Rattle.std.proofs.Common.{sym, ◌∙◌, arith, length-take-le, lt-ltb, le-ltb, eq-eqb, ne_eqb}
 use Rattle.std.proofs.Math.Path.{ap, subst}
 use mathlib.Core.List.{List, [], ◌∷◌}
@@ -10,17 +10,14 @@ use Rattle.pack.specs.Reading.{mapped, runs, many, gives, refuses, told, ended}
 use Rattle.pack.specs.Number.{between, counted}
 use Rattle.pack.specs.Grammar.{Dimensions, head_at, node_at, nodes_at, condition_at, effects_at, consenters_at}
 use Rattle.pack.specs.Grammar.{action_at, trigger_at, rules_at, theory_at, pack_at, pack_of, in_chart}
-use Rattle.pack.specs.Duties.Said.{said, shown, forget, when_is}
-use Rattle.pack.specs.Duties.Answer.{dims}
+use Rattle.pack.specs.Duties.Said.{forget}
+use Rattle.pack.specs.Duties.Answer.{dims, sizes_of}
 use Rattle.pack.specs.Duties.Places.{Ends, Marked, KeptBelow, ActionParts, Actions, ActionsRead}
 use Rattle.pack.specs.Duties.Places.{TriggerParts, Triggers, TriggersRead, UtilitiesRead}
-use Rattle.pack.specs.declared.number.Number.{Number}
-use Rattle.pack.specs.declared.number.Number.TheVariants.{Is}
-use Rattle.pack.specs.declared.number.Checked.{Checked}
-use Rattle.pack.specs.declared.number.Checked.TheVariants.{Passed, Refused}
 use Rattle.pack.specs.Duties.Contents.{Gives, ActionStands, TriggerStands, TheoryFound}
-use Rattle.pack.specs.Duties.Contents.{TheoryRead, PackFound, body_at, replied}
+use Rattle.pack.specs.Duties.Contents.{PackFound, body_at}
 use Rattle.pack.specs.declared.contents.Counts.{Counts}
+use Rattle.pack.specs.declared.dimensions.Domains.{Domains}
 use Rattle.pack.specs.Laws.Reading.{mapped-mapped, mapped-bind, bind-mapped, bind-bind, never}
 use Rattle.pack.specs.Laws.Reading.{never_gives, ended_gives, same_value, same_place, both, unmapped}
 use Rattle.pack.specs.Laws.Number.{between_within}
@@ -207,35 +204,21 @@ module _ (d : Dimensions) (s was now : List ℕ) (first k : ℕ) where
     parts = λ j l. trigger_stays d s was now (288 + 2 * j) 320 (omega arith) kept (a.parts j l);
   }
 
--- what holds where a number was read, where it was
-pub when_is_lem : (r : Number) (v n : ℕ) (P : ℕ → ℕ → Type 0) → r ≡ Is v n → when_is r P → P v n
-when_is_lem r v n P e h = subst (λ (r : Number). when_is r P) e h
-
-abbrev ActionsAt : Dimensions → (s : List ℕ) → ℕ → (places : List ℕ) → ℕ → ℕ → Type 0
-ActionsAt d s at places k n = (first : ℕ) × (between 0 33 3 s at ≡ done k first) × Actions d s places first k
-
-abbrev TriggersAt : Dimensions → (s : List ℕ) → ℕ → (places : List ℕ) → ℕ → ℕ → Type 0
-TriggersAt d s at places k n = (first : ℕ) × (between 0 17 3 s at ≡ done k first) × Triggers d s places first k
-
 -- the three walks of a theory, one after the other
-pub theory_marked : (d : Dimensions) (s : List ℕ) (at : ℕ) (p1 p2 p3 : List ℕ) (ka na kt nt : ℕ) (r1 r2 : Number)
-    (r : Checked)
+pub theory_marked : (d : Dimensions) (s : List ℕ) (at : ℕ) (p1 p2 p3 : List ℕ) (ka na kt nt m : ℕ)
     → d.characters ≤ 6
-    → ActionsRead d s at p1 r1 → r1 ≡ Is ka na → TriggersRead d s na p1 p2 r2 → r2 ≡ Is kt nt
-    → UtilitiesRead d s nt p2 p3 r
-    → mapped forget (theory_at d s at) ≡ shown r → (t : Theory) (n : ℕ) → theory_at d s at ≡ done t n
-    → TheoryFound d s p3 t ka kt
-theory_marked d s at p1 p2 p3 ka na kt nt r1 r2 (Passed m) few a ea b eb c whole t n e =
-    let (fa, ba, ma) = when_is_lem r1 ka na (ActionsAt d s at p1) ea a.found in
-    let (ft, bt, mt) = when_is_lem r2 kt nt (TriggersAt d s na p2) eb b.found in
+    → ActionsRead d s at p1 (Ok (ka , na)) → TriggersRead d s na p1 p2 (Ok (kt , nt))
+    → UtilitiesRead d s nt p2 p3 (Ok m)
+    → (t : Theory) (n : ℕ) → theory_at d s at ≡ done t n → TheoryFound d s p3 t ka kt
+theory_marked d s at p1 p2 p3 ka na kt nt m few a b c t n e =
+    let (fa, ba, ma) = a.found in
+    let (ft, bt, mt) = b.found in
     let ha = between_within 0 33 3 s at ka fa ba in
     let ht = between_within 0 17 3 s na kt ft bt in
     let all : KeptBelow 288 p1 p3 = λ k l. c.kept k (omega arith) ∙ b.kept k l in
-    theory_found d s p3 at ka fa na kt ft nt ba (a.answer ∙ ap said ea)
-    (actions_stay d s p1 p3 fa ka few ha.1 all ma) bt (b.answer ∙ ap said eb)
+    theory_found d s p3 at ka fa na kt ft nt ba a.answer
+    (actions_stay d s p1 p3 fa ka few ha.1 all ma) bt b.answer
     (triggers_stay d s p2 p3 ft kt ht.1 c.kept mt) c.marked t n e
-theory_marked d s at p1 p2 p3 ka na kt nt r1 r2 (Refused k p) few a ea b eb c whole t n e =
-    no_value (theory_at d s at) k p t n whole e
 
 -- what comes after a head, where its nodes and its theory were checked
 pub body_forget : (d : Dimensions) (s : List ℕ) (at : ℕ)
@@ -266,25 +249,24 @@ many-length p k s at xs n e =
     same_value (ap (mapped length) (sym e) ∙ runs-length _ _ _ k s at
     ∙ ap (λ (r : Reading _). mapped (λ (u : Unit {0}). k) (mapped forget r)) e)
 
-pub body_found : (characters fluents : ℕ) (sizes : List ℕ) (s : List ℕ) (at : ℕ) (places : List ℕ) (k first m : ℕ)
-    (c : Counts) (answer : Checked)
-    → fluents ≤ 24 → length sizes ≡ 24
-    → between 1 33 3 s at ≡ done k first → Ends (many (node_at (dims characters (take fluents sizes)) k) k) s first m
-    → TheoryRead (dims characters (take fluents sizes)) s m places c
-    → (p : Pack) (n : ℕ) → body_at (dims characters (take fluents sizes)) s at ≡ done p n
+pub body_found : (characters : ℕ) (domains : Domains) (s : List ℕ) (at : ℕ) (places : List ℕ) (k first m : ℕ)
+    (c : Counts)
+    → between 1 33 3 s at ≡ done k first
+    → Ends (many (node_at (dims characters (sizes_of domains)) k) k) s first m
+    → ((t : Theory) (n : ℕ) → theory_at (dims characters (sizes_of domains)) s m ≡ done t n
+    → TheoryFound (dims characters (sizes_of domains)) s places t c.actions c.triggers)
+    → (p : Pack) (n : ℕ) → body_at (dims characters (sizes_of domains)) s at ≡ done p n
     → PackFound s places p (record {
-      answer = answer;
       characters = characters;
-      fluents = fluents;
-      sizes = sizes;
+      domains = domains;
       nodes = k;
       first = first;
       actions = c.actions;
       triggers = c.triggers;
     })
 unfolding body_at nodes_at
-body_found characters fluents sizes s at places k first m c answer few long b rows theory p n e =
-    let d = dims characters (take fluents sizes) in
+body_found characters domains s at places k first m c b rows theory p n e =
+    let d = dims characters (sizes_of domains) in
     let b0 = both (nodes_at d s at)
     (λ nodes n. mapped (λ theory. record { theory = theory; nodes = nodes }) (theory_at d s n)) p n e in
     let r0 : many (node_at d k) k s first ≡ done b0.value b0.place = ap
@@ -294,13 +276,13 @@ body_found characters fluents sizes s at places k first m c answer few long b ro
     let u = unmapped (λ theory. record { theory = theory; nodes = b0.value }) (theory_at d s b0.place) p n
     b0.right in
     let t0 : theory_at d s m ≡ done u.value n = ap (theory_at d s) (sym e0) ∙ u.left in
-    let f = theory.found u.value n t0 in
+    let f = theory u.value n t0 in
     let same : d ≡ dims p.theory.characters p.theory.domains = sym (theory_dims d s m u.value n t0)
     ∙ ap (λ (x : Pack). dims x.theory.characters x.theory.domains) u.right in
     record {
       characters = ap (λ (x : Dimensions). x.characters) (sym same);
       domains = ap (λ (x : Dimensions). x.domains) (sym same);
-      fluents = ap (λ (x : Dimensions). length x.domains) (sym same) ∙ length-take-le fluents sizes (omega arith);
+      fluents = ap (λ (x : Dimensions). length x.domains) (sym same) ∙ length-take-le domains.fluents domains.sizes (omega (arith, domains.few, domains.long));
       nodes = ap (λ (x : Pack). length x.nodes) (sym u.right)
           ∙ many-length (node_at d k) k s first b0.value b0.place r0;
       some_nodes = (between_within 1 33 3 s at k first b).0;
@@ -340,21 +322,18 @@ unfolding pack_of
 pack-short s h = rw le-ltb
 
 -- a pack within the limit is told as its parts are, up to the bytes behind them
-pub pack-told : (s : List ℕ) (r : Checked) → length s ≤ 8192 → mapped forget (pack_at s 0) ≡ shown r
-    → told forget (pack_of s) ≡ ended (length s) (shown r)
-pack-told s r h e = ap (told forget) (pack-short s h) ∙ whole-forget (length s) (pack_at s 0) ∙ ap (ended (length s)) e
+pub pack-told : (s : List ℕ) (x : Reading (Unit {0})) → length s ≤ 8192 → mapped forget (pack_at s 0) ≡ x
+    → told forget (pack_of s) ≡ ended (length s) x
+pack-told s x h e = ap (told forget) (pack-short s h) ∙ whole-forget (length s) (pack_at s 0) ∙ ap (ended (length s)) e
 
 pub pack_all : (s : List ℕ) → length s ≤ 8192 → (p : Pack) → pack_of s ≡ gives p → pack_at s 0 ≡ done p (length s)
 pack_all s h p e = ended_gives (length s) (pack_at s 0) p (sym (pack-short s h) ∙ e)
 
-pub ended-refused : (end k p : ℕ) (r : Checked) → r ≡ Refused k p → ended end (shown r) ≡ replied r
-ended-refused end k p r e = subst (λ (r : Checked). ended end (shown r) ≡ replied r) (sym e) refl
+pub ended_passed : {A : Type 0} (end n : ℕ) (a : A) → n ≡ end → ended end (done a n) ≡ gives a
+ended_passed end n a f = rw (eq-eqb n end f)
 
-pub ended_passed : (end n : ℕ) (r : Checked) → r ≡ Passed n → n ≡ end → ended end (shown r) ≡ replied r
-ended_passed end n r e f = subst (λ (r : Checked). ended end (shown r) ≡ replied r) (sym e) (rw (eq-eqb n end f))
-
-pub ended_early : (end n : ℕ) (r : Checked) → r ≡ Passed n → (n ≡ end → ⊥) → ended end (shown r) ≡ refuses 7 n
-ended_early end n r e f = subst (λ (r : Checked). ended end (shown r) ≡ refuses 7 n) (sym e) (rw (ne_eqb n end f))
+pub ended_early : {A : Type 0} (end n : ℕ) (a : A) → (n ≡ end → ⊥) → ended end (done a n) ≡ refuses 7 n
+ended_early end n a f = rw (ne_eqb n end f)
 
 -- a pack that is refused is none
 pub no_pack : {B : Type 0} (s : List ℕ) (k n : ℕ) (p : Pack) → told forget (pack_of s) ≡ refuses k n

@@ -1,17 +1,15 @@
 -- What the functions' proofs cite: one of a run and the rest, and what a number that was read is below. Assumes
 -- nothing.
 use Rattle.std.specs.Prelude.{ℕ, zero, suc, ◌+◌, ◌-◌, ◌<◌, ◌≤◌, ◌≡◌, refl, List, [], ◌∷◌, ◌++◌, take, set, ltb}
-use Rattle.std.proofs.Common.{sym, ap, ◌∙◌, append_assoc, append-nil, sub-one, arith, take-suc-set}
+use Rattle.std.proofs.Common.{sym, ap, ◌∙◌, append_assoc, append-nil, sub-one, arith, subst, take-suc-set, get_or}
 use Rattle.std.proofs.Math.Numerals.{add-one}
 use Rattle.std.proofs.Math.ListN.{length}
 use Rattle.pack.specs.Reading.{Reading, done, refused, Reader, pick, bind, mapped, runs, many}
 use Rattle.pack.specs.Number.{number_at, between, item, counted, belief_at, rising_at}
 use Rattle.pack.specs.Grammar.{Dimensions, test_at, condition_at, effect_at, effects_at, consenters_at}
 use Rattle.pack.specs.Grammar.{action_at, trigger_at, rule_at, rules_at, theory_at, node_at, nodes_at}
-use Rattle.pack.specs.Duties.Said.{forget, answered}
+use Rattle.pack.specs.Duties.Said.{forget}
 use Rattle.pack.specs.Duties.Answer.{claim_at, values_at}
-use Rattle.pack.specs.declared.number.Checked.{Checked}
-use Rattle.pack.specs.declared.number.Checked.TheVariants.{Passed, Refused}
 use Rattle.pack.specs.Laws.Number.{between_within}
 use Rattle.pack.specs.Laws.Reading.{mapped-mapped, mapped-bind, bind-mapped, bind-bind, both, failed, same_value}
 
@@ -40,6 +38,85 @@ unfolding runs
 many-forget p zero s at h = absurd (omega arith)
 many-forget p (suc k) s at h = simp (sub-one, mapped-bind, bind-mapped, mapped-mapped)
 
+-- one and the rest, where i of k are read
+pub runs_step : {S A B : Type 0} (p : S → Reader A) (next : S → A → S) (z : S) (g : List A → B) (k i : ℕ) (s : List ℕ)
+    (at : ℕ)
+    → i < k
+    → mapped g (runs p next z (k - i) s at)
+    ≡ bind (p z s at) (λ a n. mapped (λ rest. g (a ∷ rest)) (runs p next (next z a) (k - (i + 1)) s n))
+runs_step p next z g k i s at h =
+    let e : (k - i) - 1 ≡ k - (i + 1) = omega arith in
+    subst (λ (left : ℕ). mapped g (runs p next z (k - i) s at)
+    ≡ bind (p z s at) (λ a n. mapped (λ rest. g (a ∷ rest)) (runs p next (next z a) left s n))) e
+    (runs-one p next z g (k - i) s at (omega arith))
+
+-- the same where nothing is told of the values
+pub many_step : {A : Type 0} (p : Reader A) (k i : ℕ) (s : List ℕ) (at : ℕ) → i < k
+    → mapped forget (many p (k - i) s at)
+    ≡ bind (mapped forget (p s at)) (λ u n. mapped forget (many p (k - (i + 1)) s n))
+many_step p k i s at h =
+    let e : (k - i) - 1 ≡ k - (i + 1) = omega arith in
+    subst (λ (left : ℕ). mapped forget (many p (k - i) s at)
+    ≡ bind (mapped forget (p s at)) (λ u n. mapped forget (many p left s n))) e
+    (many-forget p (k - i) s at (omega arith))
+
+-- none is read yet, and k are left
+pub runs_start : {S A B : Type 0} (p : S → Reader A) (next : S → A → S) (z : S) (g : List A → B) (k : ℕ) (s : List ℕ)
+    (at : ℕ)
+    → mapped g (runs p next z k s at) ≡ mapped g (runs p next z (k - 0) s at)
+runs_start p next z g k s at =
+    let e : k ≡ k - 0 = omega arith in ap (λ (left : ℕ). mapped g (runs p next z left s at)) e
+
+-- k of them are read, and none is left
+pub runs_end : {S A B : Type 0} (p : S → Reader A) (next : S → A → S) (z : S) (g : List A → B) (k i : ℕ) (s : List ℕ)
+    (at : ℕ)
+    → k ≤ i → mapped g (runs p next z (k - i) s at) ≡ done (g []) at
+runs_end p next z g k i s at h = runs_none p next z g (k - i) s at (omega arith)
+
+-- the value of one more fluent
+pub item_step : (domains : List ℕ) (i : ℕ) (s : List ℕ) (at : ℕ) → i < length domains
+    → mapped forget (runs (λ fluent. item (get_or domains fluent 0)) (λ fluent v. fluent + 1) i (length domains - i) s at)
+    ≡ bind (mapped forget (item (get_or domains i 0) s at))
+    (λ u n. mapped forget (runs (λ fluent. item (get_or domains fluent 0)) (λ fluent v. fluent + 1) (i + 1)
+    (length domains - (i + 1)) s n))
+item_step domains i s at h =
+    runs_step (λ fluent. item (get_or domains fluent 0)) (λ fluent v. fluent + 1) i forget (length domains) i s at h
+    ∙ sym (bind-mapped forget (item (get_or domains i 0) s at) _)
+
+pub many_start : {A : Type 0} (p : Reader A) (k : ℕ) (s : List ℕ) (at : ℕ)
+    → mapped forget (many p k s at) ≡ mapped forget (many p (k - 0) s at)
+many_start p k s at = runs_start (λ (z : Unit {0}). p) (λ z a. z) tt forget k s at
+
+pub many_end : {A : Type 0} (p : Reader A) (k i : ℕ) (s : List ℕ) (at : ℕ) → k ≤ i
+    → mapped forget (many p (k - i) s at) ≡ done tt at
+many_end p k i s at h = runs_end (λ (z : Unit {0}). p) (λ z a. z) tt forget k i s at h
+
+-- things of which nothing is told, each told of as nothing
+pub many_told : {A : Type 0} (p : Reader A) (k : ℕ) (s : List ℕ) (at : ℕ)
+    → mapped forget (many (λ s n. mapped forget (p s n)) k s at) ≡ mapped forget (many p k s at)
+unfolding runs
+many_told p zero s at = refl
+many_told {A = A} p (suc k) s at = go (p s at) (λ n. many_told p k s n)
+  where
+    go : (x : Reading A)
+        → ((n : ℕ)
+        → mapped forget (many (λ s n. mapped forget (p s n)) k s n) ≡ mapped forget (many p k s n))
+        → mapped forget (bind (mapped forget x)
+        (λ a n. mapped (λ rest. a ∷ rest) (many (λ s n. mapped forget (p s n)) k s n)))
+        ≡ mapped forget (bind x (λ a n. mapped (λ rest. a ∷ rest) (many p k s n)))
+    go (done a n) e = simp mapped-mapped (e n)
+    go (refused j q) e = refl
+
+pub counted_told : {A : Type 0} (low limit : ℕ) (p : Reader A) (s : List ℕ) (at : ℕ)
+    → mapped forget (counted low limit (λ s n. mapped forget (p s n)) s at) ≡ mapped forget (counted low limit p s at)
+counted_told low limit p s at = go (between low limit 3 s at)
+  where
+    go : (x : Reading ℕ)
+        → mapped forget (bind x (λ k n. many (λ s n. mapped forget (p s n)) k s n))
+        ≡ mapped forget (bind x (λ k n. many p k s n))
+    go (done k n) = many_told p k s n
+    go (refused j q) = refl
+
 -- three things one after the other, of two of which something is told
 pub three_forget : {A B C D X Y : Type 0} (g : A → X) (h : B → Y) (mk : A → B → C → D) (x : Reading A)
     (y : ℕ → Reading B) (z : ℕ → Reading C)
@@ -61,11 +138,6 @@ pub mapped_id : {A : Type 0} (x : Reading A) → mapped (λ a. a) x ≡ x
 mapped_id (done a n) = refl
 mapped_id (refused k p) = refl
 
--- what is done to what stands beside an answer
-pub mapped-answered : {A B : Type 0} (f : A → B) (r : Checked) (a : A) → mapped f (answered r a) ≡ answered r (f a)
-mapped-answered f (Passed n) a = refl
-mapped-answered f (Refused k p) a = refl
-
 pub mapped_same : {A B : Type 0} (f g : A → B) → ((a : A) → f a ≡ g a) → (x : Reading A) → mapped f x ≡ mapped g x
 mapped_same f g h (done a n) = ap (λ b. done b n) (h a)
 mapped_same f g h (refused k p) = refl
@@ -80,19 +152,20 @@ stored : (l : List ℕ) (i v : ℕ) (rest : List ℕ) → i < length l
     → take i l ++ (v ∷ rest) ≡ take (i + 1) (set l i v) ++ rest
 stored l i v rest h = rw (add-one, take-suc-set) (sym (append_assoc (take i l) (v ∷ []) rest))
 
-pub stored_one : (p : Reader ℕ) (l : List ℕ) (i k : ℕ) (s : List ℕ) (at : ℕ) → 0 < k → i < length l
-    → mapped (λ rest. take i l ++ rest) (many p k s at)
-    ≡ bind (p s at) (λ v n. mapped (λ rest. take (i + 1) (set l i v) ++ rest) (many p (k - 1) s n))
+pub stored_one : (p : Reader ℕ) (l : List ℕ) (i k : ℕ) (s : List ℕ) (at : ℕ) → i < k → i < length l
+    → mapped (λ rest. take i l ++ rest) (many p (k - i) s at)
+    ≡ bind (p s at) (λ v n. mapped (λ rest. take (i + 1) (set l i v) ++ rest) (many p (k - (i + 1)) s n))
 stored_one p l i k s at h g =
-    runs-one _ _ _ (λ rest. take i l ++ rest) k s at h
+    runs_step _ _ _ (λ rest. take i l ++ rest) k i s at h
     ∙ bind_same (p s at) _ _ (λ v n.
     mapped_same (λ rest. take i l ++ (v ∷ rest)) (λ rest. take (i + 1) (set l i v) ++ rest)
-    (λ rest. stored l i v rest g) (many p (k - 1) s n))
+    (λ rest. stored l i v rest g) (many p (k - (i + 1)) s n))
 
-pub stored_all : (p : Reader ℕ) (l : List ℕ) (i k f : ℕ) (s : List ℕ) (at : ℕ) → k ≤ 0 → i ≡ f
-    → mapped (λ rest. take i l ++ rest) (many p k s at) ≡ done (take f l) at
-stored_all p l i k f s at h e =
-    runs_none _ _ _ (λ rest. take i l ++ rest) k s at h
+pub stored_all : (p : Reader ℕ) (l : List ℕ) (k i : ℕ) (s : List ℕ) (at : ℕ) → k ≤ i → i ≤ k
+    → mapped (λ rest. take i l ++ rest) (many p (k - i) s at) ≡ done (take k l) at
+stored_all p l k i s at h g =
+    let e : i ≡ k = omega arith in
+    runs_end _ _ _ (λ rest. take i l ++ rest) k i s at h
     ∙ ap (λ (r : List ℕ). done r at) (append-nil (take i l) ∙ ap (λ (j : ℕ). take j l) e)
 
 -- one more, where k are told

@@ -1,24 +1,14 @@
--- What is left, from n on, tells what the whole tells. Assumes nothing.
-use Rattle.pack.specs.Laws.Runs.{runs_none, many-forget}
+-- Each test is checked as it is read. Assumes nothing.
+use Rattle.std.proofs.Common.{rules, sym, ◌∙◌}
+use Rattle.pack.specs.Reading.{mapped}
+use Rattle.pack.specs.Grammar.{test_at}
+use Rattle.pack.specs.Duties.Said.{forget}
+use Rattle.pack.specs.Duties.Answer.{dims}
+use Rattle.pack.specs.Laws.Runs.{counted_told}
 use Rattle.pack.proofs.condition.check_alternative.Goals as goal
 
-pub loop-left-init : goal.loop-left-init
-loop-left-init c = rw (c.read_between.ensures, c.in-Is.is)
-
-pub loop-left-preserved-then-after-gt0 : goal.loop-left-preserved-then-after-gt0
-loop-left-preserved-then-after-gt0 c =
-    rw (c.loop-left.invariant, many-forget _ _ _ _ c.loop-left-test.true, c.plain_test-after.ensures c.if-after-gt0.true)
-
-pub returns-in-Refused-check_test : goal.returns-in-Refused-check_test
-returns-in-Refused-check_test c =
-    rw (c.loop-left.invariant, many-forget _ _ _ _ c.loop-left-test.true, c.check_test.ensures, c.in-Refused-check_test.is)
-
-pub loop-left-preserved : goal.loop-left-preserved
-loop-left-preserved c =
-    rw (c.loop-left.invariant, many-forget _ _ _ _ c.loop-left-test.true, c.check_test.ensures, c.in-Passed.is)
-
-pub returns-in-Refused : goal.returns-in-Refused
-returns-in-Refused c = rw (c.read_between.ensures, c.in-Refused.is)
-
-pub returns-after-loop-left : goal.returns-after-loop-left
-returns-after-loop-left c = rw (c.loop-left.invariant, runs_none _ _ _ _ _ _ _ c.loop-left-test.false)
+pub returns : goal.returns
+returns c =
+    let p = test_at (dims c.args.d.characters c.args.d.domains.now) in
+    sym (counted_told 0 9 p c.args.s.now c.args.at)
+    ∙ c.check_counted.ensures (λ s n. mapped forget (p s n)) (λ n r post. search rules)

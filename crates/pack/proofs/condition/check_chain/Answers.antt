@@ -1,14 +1,13 @@
--- What is left, from n on, tells what the whole tells. Assumes nothing.
-use Rattle.pack.specs.Laws.Runs.{runs_none, many-forget}
+-- Each character is checked as it is read. Assumes nothing.
+use Rattle.std.proofs.Common.{rules, sym, ◌∙◌}
+use Rattle.pack.specs.Reading.{mapped}
+use Rattle.pack.specs.Number.{item}
+use Rattle.pack.specs.Duties.Said.{forget}
+use Rattle.pack.specs.Laws.Runs.{many_told}
 use Rattle.pack.proofs.condition.check_chain.Goals as goal
 
-pub returns-in-Refused : goal.returns-in-Refused
-returns-in-Refused c =
-    rw (c.loop-left.invariant, many-forget _ _ _ _ c.loop-left-test.true, c.read_between.ensures, c.in-Refused.is)
-
-pub loop-left-preserved : goal.loop-left-preserved
-loop-left-preserved c =
-    rw (c.loop-left.invariant, many-forget _ _ _ _ c.loop-left-test.true, c.read_between.ensures, c.in-Is.is)
-
 pub returns : goal.returns
-returns c = rw (c.loop-left.invariant, runs_none _ _ _ _ _ _ _ c.loop-left-test.false)
+returns c =
+    let p = item c.args.characters in
+    sym (many_told p c.args.count c.args.s.now c.args.at)
+    ∙ c.check_many.ensures (λ s n. mapped forget (p s n)) c.args.s.now (λ n r post. search rules)

@@ -1,57 +1,75 @@
--- The head, the count of nodes, the nodes and the rest are read each behind what came before: what is moved is the same
--- reader further on, which begins at the first byte. Assumes nothing.
-use native.Mathlib.Omega.{arith}
-use mathlib.Core.Path.{◌≡◌}
+-- The head, the count of nodes, the nodes and the rest are read each behind what came before it, by one reader, which
+-- begins at the first byte. Assumes nothing.
+use Rattle.std.proofs.Common.{rules, arith, ap, sym, ◌≡◌, ◌≤◌, ◌∙◌, length}
+use Rattle.std.proofs.lemmas.Result.{IfOk-from_err}
+use Rattle.pack.specs.Reading.{done, refused, bind, mapped, many}
 use Rattle.pack.specs.Number.{between}
-use Rattle.pack.specs.Duties.Said.{said, behind}
-use Rattle.pack.specs.Duties.Answer.{behind_head, rows_after, HeadRead}
-use Rattle.pack.proofs.Turns.{behind_head_lem, behind_number, behind_rows, parts_turns}
+use Rattle.pack.specs.Grammar.{head_at, node_at, theory_at}
+use Rattle.pack.specs.Duties.Said.{said, placed, forget}
+use Rattle.pack.specs.Duties.Answer.{dims_of}
+use Rattle.pack.specs.Duties.Places.{Within}
+use Rattle.pack.specs.Duties.Contents.{body_at, TheoryRead}
+use Rattle.pack.specs.Laws.Bounded.{head_within, count_within, rows_within}
+use Rattle.pack.specs.Laws.PartsFound.{body_forget, body_found, parts_forget, parts_body}
 use Rattle.pack.proofs.contents.read_parts.Goals as goal
-use Rattle.pack.proofs.contents.read_parts.Goals.{After-moved-r-2}
 
--- what the first three parts are, of the bytes themselves
-head : (c : After-moved-r-2) → HeadRead c.args.s.now 0 c.read_head-h.result
-head c = rw (c.new-r.ensures.0, c.new-r.ensures.1) at c.read_head-h.ensures
+pub returns-in_err-head : goal.returns-in_err-head
+returns-in_err-head c = record {
+  answer = search (rules, parts_forget, c.new-r.ensures.0, c.new-r.ensures.1, c.read_head.ensures.reads, c.in_err-head.was);
+  found = λ p n e. IfOk-from_err _ _ c.from_residual.ensures.0;
+}
 
-count : (c : After-moved-r-2) → between 1 33 3 c.args.s.now (behind_head c.read_head-h.result 0) ≡ said c.next-count.result
-count c =
-    let new = c.new-r.ensures in
-    let after = c.after_head-r.ensures in
-    rw (after.0, after.1, new.0, new.1) at c.next-count.ensures
+pub returns-in_err-nodes : goal.returns-in_err-nodes
+returns-in_err-nodes c =
+    let eh : head_at c.args.s.now 0 ≡ done (dims_of c.in_ok-head.head) c.read_head.new.r.at = rw (c.new-r.ensures.0, c.new-r.ensures.1) at c.in_ok-head.ensures.reads in
+    let ec = rw (c.read_head.ensures.same, c.new-r.ensures.0) at c.in_err-nodes.ensures.reads in
+    record {
+      answer = search (rules, parts_forget, eh, body_forget, ec);
+      found = λ p n e. IfOk-from_err _ _ c.from_residual-in_err-nodes.ensures.0;
+    }
 
-nodes : (c : After-moved-r-2) →
-    rows_after c.read_head-h.result (said c.next-count.result) c.args.s.now (behind c.next-count.result (behind_head c.read_head-h.result 0))
-    ≡ said c.rows-nodes.result
-nodes c =
-    let new = c.new-r.ensures in
-    let after = c.after_head-r.ensures in
-    let first = c.moved-r.ensures in
-    rw (first.0, first.1, after.0, after.1, new.0, new.1) at c.rows-nodes.ensures
+pub returns-in_err-nodes-2 : goal.returns-in_err-nodes-2
+returns-in_err-nodes-2 c =
+    let eh : head_at c.args.s.now 0 ≡ done (dims_of c.in_ok-head.head) c.read_head.new.r.at = rw (c.new-r.ensures.0, c.new-r.ensures.1) at c.in_ok-head.ensures.reads in
+    let ec : between 1 33 3 c.args.s.now c.read_head.new.r.at ≡ done c.in_ok-nodes.nodes c.number.new.self.at = rw (c.read_head.ensures.same, c.new-r.ensures.0) at c.in_ok-nodes.ensures.reads in
+    let er = rw (c.dimensions-d.ensures.0, c.dimensions-d.ensures.1, c.number.ensures.same, c.read_head.ensures.same, c.new-r.ensures.0) at c.in_err-nodes-2.ensures.reads in
+    record {
+      answer = search (rules, parts_forget, eh, body_forget, ec, er);
+      found = λ p n e. IfOk-from_err _ _ c.from_residual-in_err-nodes-2.ensures.0;
+    }
 
-pub read_theory-c-requires : goal.read_theory-c-requires
-read_theory-c-requires c =
-    let at = (goal.at.read_theory-c-requires c).After-moved-r-2 in
+pub read_theory-requires : goal.read_theory-requires
+read_theory-requires c =
+    let eh : head_at c.args.s.now 0 ≡ done (dims_of c.in_ok-head.head) c.read_head.new.r.at = rw (c.new-r.ensures.0, c.new-r.ensures.1) at c.in_ok-head.ensures.reads in
+    let ec : between 1 33 3 c.args.s.now c.read_head.new.r.at ≡ done c.in_ok-nodes.nodes c.number.new.self.at = rw (c.read_head.ensures.same, c.new-r.ensures.0) at c.in_ok-nodes.ensures.reads in
+    let er : mapped forget (many (node_at (dims_of c.in_ok-head.head) c.in_ok-nodes.nodes) c.in_ok-nodes.nodes c.args.s.now c.number.new.self.at) ≡ done tt c.nodes.new.self.at = rw (c.dimensions-d.ensures.0, c.dimensions-d.ensures.1, c.number.ensures.same, c.read_head.ensures.same, c.new-r.ensures.0) at c.in_ok-nodes-2.ensures.reads in
     let s = c.args.s.now in
-    let h = c.read_head-h.result in
-    let k = c.next-count.result in
-    let read = head at in
-    let new = c.new-r.ensures in
-    let after = c.after_head-r.ensures in
-    let first = c.moved-r.ensures in
-    let second = c.moved-r-2.ensures in
-    let at_head = behind_head_lem s 0 (omega arith, c.requires.1) h read in
-    let at_count = behind_number s (behind_head h 0) at_head 1 33 k (count at) in
-    rw (second.0, second.1, first.0, first.1, after.0, after.1, new.0, new.1)
-    (read.small, read.few, read.long, c.requires.0, behind_rows s (behind k (behind_head h 0)) at_count h k c.rows-nodes.result (nodes at))
+    let at_head = head_within s 0 (omega arith, c.requires.1) c.read_head.new.r.at (dims_of c.in_ok-head.head) eh in
+    let at_count = count_within s c.read_head.new.r.at at_head c.number.new.self.at 1 33 c.in_ok-nodes.nodes ec in
+    let at_nodes = rows_within s c.number.new.self.at at_count c.nodes.new.self.at (dims_of c.in_ok-head.head) c.in_ok-nodes.nodes er in
+    (rw c.dimensions-d.ensures.0 c.in_ok-head.head.small, c.requires.0, rw (c.nodes.ensures.same, c.number.ensures.same, c.read_head.ensures.same, c.new-r.ensures.0) at_nodes)
+
+pub returns-in_err-counts : goal.returns-in_err-counts
+returns-in_err-counts c =
+    let eh : head_at c.args.s.now 0 ≡ done (dims_of c.in_ok-head.head) c.read_head.new.r.at = rw (c.new-r.ensures.0, c.new-r.ensures.1) at c.in_ok-head.ensures.reads in
+    let ec : between 1 33 3 c.args.s.now c.read_head.new.r.at ≡ done c.in_ok-nodes.nodes c.number.new.self.at = rw (c.read_head.ensures.same, c.new-r.ensures.0) at c.in_ok-nodes.ensures.reads in
+    let er : mapped forget (many (node_at (dims_of c.in_ok-head.head) c.in_ok-nodes.nodes) c.in_ok-nodes.nodes c.args.s.now c.number.new.self.at) ≡ done tt c.nodes.new.self.at = rw (c.dimensions-d.ensures.0, c.dimensions-d.ensures.1, c.number.ensures.same, c.read_head.ensures.same, c.new-r.ensures.0) at c.in_ok-nodes-2.ensures.reads in
+    let et = rw (c.dimensions-d.ensures.0, c.dimensions-d.ensures.1, c.nodes.ensures.same, c.number.ensures.same, c.read_head.ensures.same, c.new-r.ensures.0) at c.in_err-counts.ensures.reads.answer in
+    record {
+      answer = search (rules, parts_forget, eh, body_forget, ec, er, et);
+      found = λ p n e. IfOk-from_err _ _ c.from_residual-in_err-counts.ensures.0;
+    }
 
 pub returns : goal.returns
 returns c =
-    let at = (goal.at.returns c).After-moved-r-2 in
-    let new = c.new-r.ensures in
-    let after = c.after_head-r.ensures in
-    let first = c.moved-r.ensures in
-    let second = c.moved-r-2.ensures in
-    rw c.together.ensures
-    (parts_turns c.args.s.now c.read_theory-c.new.places c.read_head-h.result c.next-count.result c.rows-nodes.result c.read_theory-c.result
-    (head at) (count at) (nodes at)
-    (rw (second.0, second.1, first.0, first.1, after.0, after.1, new.0, new.1) at c.read_theory-c.ensures))
+    let eh : head_at c.args.s.now 0 ≡ done (dims_of c.in_ok-head.head) c.read_head.new.r.at = rw (c.new-r.ensures.0, c.new-r.ensures.1) at c.in_ok-head.ensures.reads in
+    let ec : between 1 33 3 c.args.s.now c.read_head.new.r.at ≡ done c.in_ok-nodes.nodes c.number.new.self.at = rw (c.read_head.ensures.same, c.new-r.ensures.0) at c.in_ok-nodes.ensures.reads in
+    let er : mapped forget (many (node_at (dims_of c.in_ok-head.head) c.in_ok-nodes.nodes) c.in_ok-nodes.nodes c.args.s.now c.number.new.self.at) ≡ done tt c.nodes.new.self.at = rw (c.dimensions-d.ensures.0, c.dimensions-d.ensures.1, c.number.ensures.same, c.read_head.ensures.same, c.new-r.ensures.0) at c.in_ok-nodes-2.ensures.reads in
+    let et = rw (c.dimensions-d.ensures.0, c.dimensions-d.ensures.1, c.nodes.ensures.same, c.number.ensures.same, c.read_head.ensures.same, c.new-r.ensures.0) at c.in_ok-counts.ensures.reads in
+    let h = c.in_ok-head.head in
+    record {
+      answer = search (rules, parts_forget, eh, body_forget, ec, er, et.answer);
+      found = λ p end e.
+          body_found h.characters h.domains c.args.s.now c.read_head.new.r.at c.read_theory.new.places c.in_ok-nodes.nodes c.number.new.self.at c.nodes.new.self.at c.in_ok-counts.counts ec er et.found p end
+          (ap (λ r. bind r (λ d n. body_at d c.args.s.now n)) (sym eh) ∙ sym (parts_body c.args.s.now 0) ∙ e);
+    }

@@ -1,9 +1,10 @@
--- An effect is read in the order of its definition. Assumes nothing.
+-- Whom it is for, and then what is claimed. Assumes nothing.
+use Rattle.std.proofs.Common.{rules}
 use Rattle.pack.specs.Laws.Runs.{effect_forget}
 use Rattle.pack.proofs.effect.check_effect.Goals as goal
 
-pub returns-in-Refused : goal.returns-in-Refused
-returns-in-Refused c = rw (effect_forget, c.read_between.ensures, c.in-Refused.is)
+pub returns-in_err-claim : goal.returns-in_err-claim
+returns-in_err-claim c = search (rules, effect_forget, c.check_item.ensures, c.in_err-claim.was)
 
-pub returns-in-Is : goal.returns-in-Is
-returns-in-Is c = rw (effect_forget, c.read_between.ensures, c.in-Is.is, c.check_claim.ensures)
+pub returns : goal.returns
+returns c = search (rules, effect_forget, c.check_item.ensures, c.in_ok-claim.was, c.check_claim.ensures)

@@ -1,76 +1,15 @@
--- What is left, from n on, tells what the whole tells. Assumes nothing.
-use borrow.Author.Rules.{rules}
-use Rattle.pack.specs.Grammar.{effects_at}
-use Rattle.pack.specs.Laws.Runs.{runs_none, many-forget}
+-- Each effect is checked as it is read. Assumes nothing.
+use Rattle.std.proofs.Common.{rules, sym, ◌∙◌}
+use Rattle.pack.specs.Reading.{mapped}
+use Rattle.pack.specs.Grammar.{effect_at, effects_at}
+use Rattle.pack.specs.Duties.Said.{forget}
+use Rattle.pack.specs.Duties.Answer.{dims}
+use Rattle.pack.specs.Laws.Runs.{counted_told}
 use Rattle.pack.proofs.effect.check_effects.Goals as goal
 
-pub read_between-requires : goal.read_between-requires
+pub returns : goal.returns
 unfolding effects_at
-read_between-requires c = search rules
-
-pub enum_known-k : goal.enum_known-k
-unfolding effects_at
-enum_known-k c = search rules
-
-pub enum_known-count : goal.enum_known-count
-unfolding effects_at
-enum_known-count c = search rules
-
-pub loop-left-init : goal.loop-left-init
-unfolding effects_at
-loop-left-init c = rw (c.read_between.ensures, c.in-Is.is)
-
-pub plain_effect-after-requires : goal.plain_effect-after-requires
-unfolding effects_at
-plain_effect-after-requires c = search rules
-
-pub overflow_sub-left : goal.overflow_sub-left
-unfolding effects_at
-overflow_sub-left c = search rules
-
-pub loop-left-smaller-then-after-gt0 : goal.loop-left-smaller-then-after-gt0
-unfolding effects_at
-loop-left-smaller-then-after-gt0 c = search rules
-
-pub loop-left-preserved-then-after-gt0 : goal.loop-left-preserved-then-after-gt0
-unfolding effects_at
-loop-left-preserved-then-after-gt0 c =
-    rw (c.loop-left.invariant, many-forget _ _ _ _ c.loop-left-test.true, c.plain_effect-after.ensures c.if-after-gt0.true)
-
-pub check_effect-requires : goal.check_effect-requires
-unfolding effects_at
-check_effect-requires c = search rules
-
-pub enum_known-k-in-Refused-check_effect : goal.enum_known-k-in-Refused-check_effect
-unfolding effects_at
-enum_known-k-in-Refused-check_effect c = search rules
-
-pub returns-in-Refused-check_effect : goal.returns-in-Refused-check_effect
-unfolding effects_at
-returns-in-Refused-check_effect c =
-    rw (c.loop-left.invariant, many-forget _ _ _ _ c.loop-left-test.true, c.check_effect.ensures, c.in-Refused-check_effect.is)
-
-pub enum_known-next : goal.enum_known-next
-unfolding effects_at
-enum_known-next c = search rules
-
-pub overflow_sub-left-in-Passed : goal.overflow_sub-left-in-Passed
-unfolding effects_at
-overflow_sub-left-in-Passed c = search rules
-
-pub loop-left-smaller : goal.loop-left-smaller
-unfolding effects_at
-loop-left-smaller c = search rules
-
-pub loop-left-preserved : goal.loop-left-preserved
-unfolding effects_at
-loop-left-preserved c =
-    rw (c.loop-left.invariant, many-forget _ _ _ _ c.loop-left-test.true, c.check_effect.ensures, c.in-Passed.is)
-
-pub returns-in-Refused : goal.returns-in-Refused
-unfolding effects_at
-returns-in-Refused c = rw (c.read_between.ensures, c.in-Refused.is)
-
-pub returns-after-loop-left : goal.returns-after-loop-left
-unfolding effects_at
-returns-after-loop-left c = rw (c.loop-left.invariant, runs_none _ _ _ _ _ _ _ c.loop-left-test.false)
+returns c =
+    let p = effect_at (dims c.args.d.characters c.args.d.domains.now) in
+    sym (counted_told 0 17 p c.args.s.now c.args.at)
+    ∙ c.check_counted.ensures (λ s n. mapped forget (p s n)) (λ n r post. search rules)

@@ -55,27 +55,19 @@ pub read_number-requires : goal.read_number-requires
 unfolding rules_at
 read_number-requires c = search rules
 
-pub enum_told-1 : goal.enum_told-1
+pub returns-in-Err : goal.returns-in-Err
 unfolding rules_at
-enum_told-1 c = search rules
-
-pub returns-in-Refused : goal.returns-in-Refused
-unfolding rules_at
-returns-in-Refused c =
+returns-in-Err c =
     λ d over xs end e. let x = left_one _ _ _ _ _ _ _ (c.loop-left.invariant d over xs end e) c.loop-left-test.true in
     let q = rule_parts d c.args.s.now c.loop-left.n x.item x.place x.here in
-    never (sym (c.read_number.ensures ∙ ap said c.in-Refused.is) ∙ ap (number_at c.args.s.now) (c.after_condition.ensures d over.small x.item.condition q.middle q.condition) ∙ q.number)
-
-pub enum_known-value : goal.enum_known-value
-unfolding rules_at
-enum_known-value c = search rules
+    never (sym (c.read_number.ensures ∙ ap said c.in-Err.is) ∙ ap (number_at c.args.s.now) (c.after_condition.ensures d over.small x.item.condition q.middle q.condition) ∙ q.number)
 
 pub returns-then-holding : goal.returns-then-holding
 unfolding rules_at
 returns-then-holding c =
     λ d over xs end e. let x = left_one _ _ _ _ _ _ _ (c.loop-left.invariant d over xs end e) c.loop-left-test.true in
     let q = rule_parts d c.args.s.now c.loop-left.n x.item x.place x.here in
-    same_value (sym (c.read_number.ensures ∙ ap said c.in-Is.is) ∙ ap (number_at c.args.s.now) (c.after_condition.ensures d over.small x.item.condition q.middle q.condition) ∙ q.number) ∙ sym (x.same ∙ rule_holds (state_of c.args.t c.args.buffer.now c.args.node) x.item x.rest (sym (c.holds-holding.ensures d over x.item.condition q.middle q.condition) ∙ c.if-holding.true))
+    same_value (sym (c.read_number.ensures ∙ ap said c.in-Ok.is) ∙ ap (number_at c.args.s.now) (c.after_condition.ensures d over.small x.item.condition q.middle q.condition) ∙ q.number) ∙ sym (x.same ∙ rule_holds (state_of c.args.t c.args.buffer.now c.args.node) x.item x.rest (sym (c.holds-holding.ensures d over x.item.condition q.middle q.condition) ∙ c.if-holding.true))
 
 pub overflow_sub-left : goal.overflow_sub-left
 unfolding rules_at
@@ -90,7 +82,7 @@ unfolding rules_at
 loop-left-preserved c =
     λ d over xs end e. let x = left_one _ _ _ _ _ _ _ (c.loop-left.invariant d over xs end e) c.loop-left-test.true in
     let q = rule_parts d c.args.s.now c.loop-left.n x.item x.place x.here in
-    left_next _ _ _ _ _ _ _ x _ (sym (same_place (sym (c.read_number.ensures ∙ ap said c.in-Is.is) ∙ ap (number_at c.args.s.now) (c.after_condition.ensures d over.small x.item.condition q.middle q.condition) ∙ q.number))) (rule_next (state_of c.args.t c.args.buffer.now c.args.node) x.item x.rest (sym (c.holds-holding.ensures d over x.item.condition q.middle q.condition) ∙ c.if-holding.false))
+    left_next _ _ _ _ _ _ _ x _ (sym (same_place (sym (c.read_number.ensures ∙ ap said c.in-Ok.is) ∙ ap (number_at c.args.s.now) (c.after_condition.ensures d over.small x.item.condition q.middle q.condition) ∙ q.number))) (rule_next (state_of c.args.t c.args.buffer.now c.args.node) x.item x.rest (sym (c.holds-holding.ensures d over x.item.condition q.middle q.condition) ∙ c.if-holding.false))
 
 pub returns : goal.returns
 unfolding rules_at

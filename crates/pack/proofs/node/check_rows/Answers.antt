@@ -1,14 +1,14 @@
--- What is left, from n on, tells what the whole tells. Assumes nothing.
-use Rattle.pack.specs.Laws.Runs.{runs_none, many-forget}
+-- Each node is checked as it is read. Assumes nothing.
+use Rattle.std.proofs.Common.{rules, sym, ◌∙◌}
+use Rattle.pack.specs.Reading.{mapped}
+use Rattle.pack.specs.Grammar.{node_at}
+use Rattle.pack.specs.Duties.Said.{forget}
+use Rattle.pack.specs.Duties.Answer.{dims}
+use Rattle.pack.specs.Laws.Runs.{many_told}
 use Rattle.pack.proofs.node.check_rows.Goals as goal
 
-pub returns-in-Refused : goal.returns-in-Refused
-returns-in-Refused c =
-    rw (c.loop-left.invariant, many-forget _ _ _ _ c.loop-left-test.true, c.check_node.ensures, c.in-Refused.is)
-
-pub loop-left-preserved : goal.loop-left-preserved
-loop-left-preserved c =
-    rw (c.loop-left.invariant, many-forget _ _ _ _ c.loop-left-test.true, c.check_node.ensures, c.in-Passed.is)
-
 pub returns : goal.returns
-returns c = rw (c.loop-left.invariant, runs_none _ _ _ _ _ _ _ c.loop-left-test.false)
+returns c =
+    let p = node_at (dims c.args.d.characters c.args.d.domains.now) c.args.nodes in
+    sym (many_told p c.args.nodes c.args.s.now c.args.at)
+    ∙ c.check_many.ensures (λ s n. mapped forget (p s n)) c.args.s.now (λ n r post. search rules)

@@ -3,31 +3,19 @@ use borrow.Author.Rules.{rules}
 use Rattle.pack.specs.Number.{between}
 use Rattle.pack.proofs.Tests.{tests}
 use Rattle.pack.proofs.number.read_between.Goals as goal
+use Rattle.pack.proofs.number.read_between.Goals.{else-low-v-via-then-low-v+else-v-limit, else-low-v-via-else-low-v}
 
-pub read_number-requires : goal.read_number-requires
+pub returns-in_err-v : goal.returns-in_err-v
 unfolding between
-read_number-requires c = search rules
-
-pub enum_known-k : goal.enum_known-k
-unfolding between
-enum_known-k c = search rules
-
-pub enum_known-v : goal.enum_known-v
-unfolding between
-enum_known-v c = search rules
-
-pub returns-then-v-low : goal.returns-then-v-low
-unfolding between
-returns-then-v-low c = search (rules, tests, c.read_number.ensures, c.in-Is.is)
-
-pub returns-in-Refused : goal.returns-in-Refused
-unfolding between
-returns-in-Refused c = rw (c.read_number.ensures, c.in-Refused.is)
+returns-in_err-v c = search (rules, c.read_number.ensures, c.in_err-v.was)
 
 pub returns-then-v-limit : goal.returns-then-v-limit
 unfolding between
-returns-then-v-limit c = search (rules, tests, c.read_number.ensures, c.in-Is.is)
+returns-then-v-limit c = search (rules, tests, c.read_number.ensures, c.in_ok-v.was)
 
-pub returns-else-v-limit : goal.returns-else-v-limit
+pub returns-else-low-v : goal.returns-else-low-v
 unfolding between
-returns-else-v-limit c = search (rules, tests, c.read_number.ensures, c.in-Is.is)
+returns-else-low-v c = elim c.else-low-v.branch [
+  else-low-v-via-then-low-v+else-v-limit w ↦ search (rules, tests, c.read_number.ensures, c.in_ok-v.was, c.at.ensures, w.if-low-v.true, w.if-v-limit.false)
+  | else-low-v-via-else-low-v w ↦ search (rules, tests, c.read_number.ensures, c.in_ok-v.was, c.at.ensures, w.if-low-v.false)
+  ]

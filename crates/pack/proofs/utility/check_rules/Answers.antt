@@ -1,59 +1,15 @@
--- What is left, from n on, tells what the whole tells. Assumes nothing.
-use borrow.Author.Rules.{rules}
-use Rattle.pack.specs.Grammar.{rules_at}
-use Rattle.pack.specs.Laws.Runs.{runs_none, many-forget}
+-- Each rule is checked as it is read. Assumes nothing.
+use Rattle.std.proofs.Common.{rules, sym, ◌∙◌}
+use Rattle.pack.specs.Reading.{mapped}
+use Rattle.pack.specs.Grammar.{rule_at, rules_at}
+use Rattle.pack.specs.Duties.Said.{forget}
+use Rattle.pack.specs.Duties.Answer.{dims}
+use Rattle.pack.specs.Laws.Runs.{counted_told}
 use Rattle.pack.proofs.utility.check_rules.Goals as goal
 
-pub read_between-requires : goal.read_between-requires
+pub returns : goal.returns
 unfolding rules_at
-read_between-requires c = search rules
-
-pub enum_known-k : goal.enum_known-k
-unfolding rules_at
-enum_known-k c = search rules
-
-pub enum_known-count : goal.enum_known-count
-unfolding rules_at
-enum_known-count c = search rules
-
-pub loop-left-init : goal.loop-left-init
-unfolding rules_at
-loop-left-init c = rw (c.read_between.ensures, c.in-Is.is)
-
-pub check_rule-requires : goal.check_rule-requires
-unfolding rules_at
-check_rule-requires c = search rules
-
-pub enum_known-k-in-Refused-check_rule : goal.enum_known-k-in-Refused-check_rule
-unfolding rules_at
-enum_known-k-in-Refused-check_rule c = search rules
-
-pub returns-in-Refused-check_rule : goal.returns-in-Refused-check_rule
-unfolding rules_at
-returns-in-Refused-check_rule c =
-    rw (c.loop-left.invariant, many-forget _ _ _ _ c.loop-left-test.true, c.check_rule.ensures, c.in-Refused-check_rule.is)
-
-pub enum_known-next : goal.enum_known-next
-unfolding rules_at
-enum_known-next c = search rules
-
-pub overflow_sub-left : goal.overflow_sub-left
-unfolding rules_at
-overflow_sub-left c = search rules
-
-pub loop-left-smaller : goal.loop-left-smaller
-unfolding rules_at
-loop-left-smaller c = search rules
-
-pub loop-left-preserved : goal.loop-left-preserved
-unfolding rules_at
-loop-left-preserved c =
-    rw (c.loop-left.invariant, many-forget _ _ _ _ c.loop-left-test.true, c.check_rule.ensures, c.in-Passed.is)
-
-pub returns-in-Refused : goal.returns-in-Refused
-unfolding rules_at
-returns-in-Refused c = rw (c.read_between.ensures, c.in-Refused.is)
-
-pub returns-after-loop-left : goal.returns-after-loop-left
-unfolding rules_at
-returns-after-loop-left c = rw (c.loop-left.invariant, runs_none _ _ _ _ _ _ _ c.loop-left-test.false)
+returns c =
+    let p = rule_at (dims c.args.d.characters c.args.d.domains.now) in
+    sym (counted_told 0 9 p c.args.s.now c.args.at)
+    ∙ c.check_counted.ensures (λ s n. mapped forget (p s n)) (λ n r post. search rules)
