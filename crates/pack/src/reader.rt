@@ -38,8 +38,8 @@ impl<'a> Reader<'a> {
         ensures reads { between low limit 3 self.old.src.now self.old.at ≡ said (placed result self.new.at) }
         ensures same { self.new.src ≡ self.old.src }
     {
-        let (number, after) = read_between(self.src, self.at, low, limit, Fault::Limit)?;
-        self.at = after;
+        let (number, next) = read_between(self.src, self.at, low, limit, Fault::Limit)?;
+        self.at = next;
         Ok(number)
     }
 
