@@ -14,8 +14,8 @@ use Rattle.pack.specs.Duties.Table.{cells, rows_at, Above}
 use Rattle.pack.specs.Reading.{gives}
 use Rattle.pack.specs.Laws.Table.{finds_walk}
 use Rattle.pack.specs.Laws.Rows.{cells_at, rows_length}
-use Rattle.chart.specs.declared.Matched.{Matched}
-use Rattle.chart.specs.declared.Matched.TheVariants as matched
+use Rattle.std.specs.Prelude.{Option, Some, None}
+use Rattle.chart.specs.declared.Difference as found
 use Rattle.chart.specs.Compare.{Verdict, same, differ, Compared, Differ}
 use Rattle.chart.specs.Call.{chain_room, work_room}
 use Rattle.chart.specs.Promises.{after}
@@ -70,7 +70,7 @@ module _ {work : List ℕ} {n m f c : ℕ} {chain : List ℕ} (p : Matchable wor
       high : Above work now 26624
       high q h = x.high q (omega arith) ∙ b.high q (omega arith)
 
-      pub matched_same : 4096 ≤ k → RowsMatched work now n m f c chain chain matched.Same
+      pub matched_same : 4096 ≤ k → RowsMatched work now n m f c chain chain None
       matched_same h = record {
         verdict = same;
         true = ap₂ (λ (t : List Node) (i : ℕ). meaning c t i) (sym kept) (sym b.left) ∙ x.none h ∙ ap₂ (λ (t : List Node) (i : ℕ). meaning c t i) kept b.right;
@@ -159,7 +159,7 @@ module _ {work : List ℕ} {n m f c : ℕ} {chain : List ℕ} (p : Matchable wor
             lowest = λ q l. ap (λ (l : List ℕ). get_or l q 0) left ∙ alike q l ∙ ap (λ (l : List ℕ). get_or l q 0) (sym right);
           }
 
-          pub matched_differ : length chain' ≡ length chain → RowsMatched work now n m f c chain chain' (matched.Differ size fluent)
+          pub matched_differ : length chain' ≡ length chain → RowsMatched work now n m f c chain chain' (Some (record { length = size; fluent = fluent }))
           unfolding ways
           matched_differ same-long =
               let e : length way ≡ size = l ways in
@@ -190,7 +190,7 @@ module _ {first second work : List ℕ} {n m f c : ℕ} (p : Joinable first n se
     has_chain_room = room;
   }
 
-  pub charts_matched : {chain chain' mid' now : List ℕ} {r : Matched} → RowsMatched mid mid' n m f c chain chain' r → Cleared mid' now 0 work_room → length now ≡ length work → ChartsMatched first n second m f c chain chain' work now r
+  pub charts_matched : {chain chain' mid' now : List ℕ} {r : Option found.Difference} → RowsMatched mid mid' n m f c chain chain' r → Cleared mid' now 0 work_room → length now ≡ length work → ChartsMatched first n second m f c chain chain' work now r
   charts_matched {chain} {chain'} {r = r} y z same-long = record {
     said = λ t u a b.
         subst (λ (v : Verdict). Said v chain chain' r)

@@ -6,14 +6,14 @@ ghost use Rattle.chart.specs.Call.{chain_room};
 ghost use Rattle.chart.specs.Promises.{Comparison};
 ghost use Rattle.chart.specs.Inner.Match.{Joinable, Joined, Matchable, RowsMatched, ChartsMatched};
 
-use crate::Matched;
+use crate::Difference;
 use crate::bytes::clear;
-use crate::call::{WORK_ROOM, both_at_most, check_lent, check_under};
+use crate::call::{CHAIN_ROOM, WORK_ROOM, both_at_most, check_lent};
 use crate::out::{Shift, put_rows};
 use crate::pairs::{MET, meet_first, other_value, seek, write_chain};
 use pack::contents::read_contents;
 use pack::node::check_chart;
-use pack::number::Number;
+use pack::refusal::Refusal;
 use pack::table::Table;
 
 // How many nodes the first and the second of two charts have, of how many fluents and characters.
@@ -53,7 +53,7 @@ pub fn join(first: &[u8], second: &[u8], n: TwoCharts, work: &mut [u8])
 }
 
 // Compares the first rows of two charts, which stand as one table from 1 on; the chain to where they differ is written.
-pub fn match_rows(work: &mut [u8], n: TwoCharts, chain: &mut [u8]) -> Matched
+pub fn match_rows(work: &mut [u8], n: TwoCharts, chain: &mut [u8]) -> Option<Difference>
     requires { Matchable work.old n.first n.second n.fluents n.characters chain.old }
     ensures { RowsMatched work.old work.new n.first n.second n.fluents
         n.characters chain.old chain.new result }
@@ -70,11 +70,11 @@ pub fn match_rows(work: &mut [u8], n: TwoCharts, chain: &mut [u8]) -> Matched
     meet_first(work, 0, n.first);
     let k = seek(work, t);
     if 4096 <= k {
-        return Matched::Same;
+        return None;
     }
     let length = write_chain(work, k, chain);
     let fluent = other_value(work, t, MET + k * 5);
-    Matched::Differ(length, fluent)
+    Some(Difference { length, fluent })
 }
 
 // Compares two charts. The work buffer is cleared.
@@ -84,7 +84,7 @@ pub fn match_charts(
     n: TwoCharts,
     chain: &mut [u8],
     work: &mut [u8],
-) -> Matched
+) -> Option<Difference>
     requires { Joinable first.now n.first second.now n.second n.fluents n.characters work.old
         × (chain_room ≤ length chain.old) }
     ensures { ChartsMatched first.now n.first second.now n.second n.fluents
@@ -96,38 +96,29 @@ pub fn match_charts(
     found
 }
 
-// Compare(pack, first, second, chain out, work): that both mean the same, or the chain's length and the fluent, the
-// chain written; or a refusal's number and place.
+// Compare(pack, first, second, chain out, work): that both mean the same, or where they differ, the chain written; or a
+// refusal's number and place.
 pub fn compare(
     pack: &[u8],
     first: &[u8],
     second: &[u8],
     chain: &mut [u8],
     work: &mut [u8],
-) -> Matched
+) -> Result<Option<Difference>, Refusal>
     ensures { Comparison pack.now first.now second.now chain.old
         work.old chain.new work.new result }
 {
-    let p = read_contents(pack);
-    let sizes = p.sizes;
-    let answer = p.answer;
-    match check_under(answer, p.characters, &sizes[..p.fluents], first) {
-        Number::Refused(k, at) => Matched::Refused(k, at),
-        Number::Is(n, _) => {
-            let nodes = check_chart(second, p.characters, &sizes[..p.fluents]);
-            let enough = both_at_most(62, chain.len(), WORK_ROOM, work.len());
-            match check_lent(nodes, enough, true) {
-                Number::Refused(k, at) => Matched::Refused(k, at),
-                Number::Is(m, _) => {
-                    let both = TwoCharts {
-                        first: n,
-                        second: m,
-                        fluents: p.fluents,
-                        characters: p.characters,
-                    };
-                    match_charts(first, second, both, chain, work)
-                }
-            }
-        }
-    }
+    let p = read_contents(pack)?;
+    let one = check_chart(first, p.dimensions())?;
+    let other = check_chart(second, p.dimensions())?;
+    let enough = both_at_most(CHAIN_ROOM, chain.len(), WORK_ROOM, work.len());
+    check_lent(enough, true)?;
+    let both = TwoCharts {
+        first: one,
+        second: other,
+        fluents: p.domains.fluents,
+        characters: p.characters,
+    };
+    let found = match_charts(first, second, both, chain, work);
+    Ok(found)
 }

@@ -3,12 +3,12 @@ ghost use Rattle.std.specs.Prelude.{◌<◌};
 ghost use Rattle.chart.specs.Duties.Look.{Lookable, Looked};
 ghost use Rattle.chart.specs.Promises.{Asked};
 
-use crate::Queried;
 use crate::bytes::clear;
-use crate::call::{WORK_ROOM, chain_there, check_lent, check_under};
+use crate::call::{WORK_ROOM, chain_there, check_lent};
 use pack::contents::read_contents;
 use pack::copy::copy_table;
-use pack::number::Number;
+use pack::node::check_chart;
+use pack::refusal::Refusal;
 use pack::table::{Table, follow};
 
 // The value in a chart of so many nodes. The chart is loaded into the work buffer, which is cleared.
@@ -40,20 +40,21 @@ pub fn look(
 }
 
 // Query(pack, chart, chain, fluent, work): the fluent's value where the chain leads, or a refusal's number and place.
-pub fn query(pack: &[u8], chart: &[u8], chain: &[u8], fluent: usize, work: &mut [u8]) -> Queried
+pub fn query(
+    pack: &[u8],
+    chart: &[u8],
+    chain: &[u8],
+    fluent: usize,
+    work: &mut [u8],
+) -> Result<u8, Refusal>
     ensures { Asked pack.now chart.now chain.now fluent work.old
         work.new result }
 {
-    let p = read_contents(pack);
-    let sizes = p.sizes;
-    let answer = p.answer;
-    let nodes = check_under(answer, p.characters, &sizes[..p.fluents], chart);
-    let there = chain_there(chain, p.characters, fluent, p.fluents);
-    match check_lent(nodes, WORK_ROOM <= work.len(), there) {
-        Number::Refused(k, at) => Queried::Refused(k, at),
-        Number::Is(n, _) => {
-            let value = look(chart, n, p.fluents, p.characters, chain, fluent, work);
-            Queried::Value(value)
-        }
-    }
+    let p = read_contents(pack)?;
+    let nodes = check_chart(chart, p.dimensions())?;
+    let fluents = p.domains.fluents;
+    let there = chain_there(chain, p.characters, fluent, fluents);
+    check_lent(WORK_ROOM <= work.len(), there)?;
+    let value = look(chart, nodes, fluents, p.characters, chain, fluent, work);
+    Ok(value)
 }

@@ -5,16 +5,15 @@
 ghost use Rattle.chart.specs.Promises.{Started};
 ghost use Rattle.chart.specs.Duties.Start.{Mergeable, Merged, Startable, StartPut};
 
-use crate::Charted;
 use crate::bytes::{clear, copy_part};
-use crate::call::{CHART_ROOM, WORK_ROOM, both_at_most, check_lent, unless_refused};
+use crate::call::{CHART_ROOM, WORK_ROOM, both_at_most, check_lent};
 use crate::merge::write_merged;
 use crate::out::write_chart;
 use crate::partition::partition;
 use crate::values::Regions;
 use pack::contents::read_contents;
 use pack::copy::copy_table;
-use pack::number::Number;
+use pack::refusal::Refusal;
 use pack::table::Table;
 
 // The numbers and keys of the pass, and the rows that it reaches.
@@ -99,19 +98,14 @@ pub fn put_start(
 }
 
 // Start(pack, chart out, work): the length of the chart of node 0, which is written, or a refusal's number and place.
-pub fn start(pack: &[u8], chart: &mut [u8], work: &mut [u8]) -> Charted
+pub fn start(pack: &[u8], chart: &mut [u8], work: &mut [u8]) -> Result<usize, Refusal>
     ensures { Started pack.now chart.old work.old chart.new
         work.new result }
 {
-    let p = read_contents(pack);
-    let answer = p.answer;
-    let nodes = unless_refused(answer, p.nodes, 0);
+    let p = read_contents(pack)?;
     let enough = both_at_most(CHART_ROOM, chart.len(), WORK_ROOM, work.len());
-    match check_lent(nodes, enough, true) {
-        Number::Refused(k, at) => Charted::Refused(k, at),
-        Number::Is(_, _) => {
-            let length = put_start(pack, p.first, p.nodes, p.fluents, p.characters, chart, work);
-            Charted::Chart(length)
-        }
-    }
+    check_lent(enough, true)?;
+    let fluents = p.domains.fluents;
+    let length = put_start(pack, p.first, p.nodes, fluents, p.characters, chart, work);
+    Ok(length)
 }

@@ -1,10 +1,10 @@
 -- What loading two charts as one table asks and promises, and comparing them there. Assumes nothing.
-use Rattle.std.specs.Prelude.{◌≡◌, List, ◌++◌, ℕ, ◌+◌, ◌<◌, ◌≤◌, length, drop}
+use Rattle.std.specs.Prelude.{◌≡◌, List, ◌++◌, ℕ, ◌+◌, ◌<◌, ◌≤◌, length, drop, Option, Ok}
 use Rattle.pack.specs.Syntax.{Node}
 use Rattle.pack.specs.State.{meaning}
 use Rattle.pack.specs.Reading.{gives}
 use Rattle.pack.specs.Duties.Table.{rows_at, Above}
-use Rattle.chart.specs.declared.Matched.{Matched}
+use Rattle.chart.specs.declared.Difference as found
 use Rattle.chart.specs.Compare.{Verdict, Compared}
 use Rattle.chart.specs.Answers.{compare_table}
 use Rattle.chart.specs.Call.{chain_room, work_room, cleared}
@@ -39,12 +39,12 @@ pub record Matchable (work : List ℕ) (n m f c : ℕ) (chain : List ℕ) : Type
   pub has_chain_room : chain_room ≤ length chain
 
 -- the verdict is handed back, and its chain written
-pub record Said (v : Verdict) (was now : List ℕ) (r : Matched) : Type 0 where
-  pub answer : compare_said r ≡ gives (difference v)
+pub record Said (v : Verdict) (was now : List ℕ) (r : Option found.Difference) : Type 0 where
+  pub answer : compare_said (Ok r) ≡ gives (difference v)
   pub result : now ≡ chain_of v ++ drop (length (chain_of v)) was
 
 -- of rows 0 and n
-pub record RowsMatched (was now : List ℕ) (n m f c : ℕ) (chain chain' : List ℕ) (r : Matched) : Type 0 where
+pub record RowsMatched (was now : List ℕ) (n m f c : ℕ) (chain chain' : List ℕ) (r : Option found.Difference) : Type 0 where
   pub verdict : Verdict
   pub true : let T = rows_at was (f + c) f c 1 (n + m) in Compared c (meaning c T 0) (meaning c T n) verdict
   pub said : Said verdict chain chain' r
@@ -52,7 +52,7 @@ pub record RowsMatched (was now : List ℕ) (n m f c : ℕ) (chain chain' : List
 
 -- of two charts
 pub record ChartsMatched (first : List ℕ) (n : ℕ) (second : List ℕ) (m f c : ℕ) (chain chain' work work' : List ℕ)
-    (r : Matched) : Type 0 where
+    (r : Option found.Difference) : Type 0 where
   pub said : (t u : List Node) → NodesRead first n f c t → NodesRead second m f c u
       → Said (compare_table c f t u) chain chain' r
   pub scratch : work' ≡ cleared work

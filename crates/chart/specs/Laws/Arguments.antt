@@ -8,30 +8,8 @@ use Rattle.std.proofs.Math.Bool.{true, false, ◌&&◌}
 use mathlib.Core.List.{List, [], ◌∷◌}
 use Rattle.std.proofs.Math.Dec.{ltb}
 use Rattle.pack.specs.State.{Valid}
-use Rattle.pack.specs.Reading.{Reply, gives, refuses, with, pick}
-use Rattle.pack.specs.Duties.Contents.{replied, replied_count}
-use Rattle.pack.specs.declared.number.Checked.{Checked}
-use Rattle.pack.specs.declared.number.Checked.TheVariants as checked
-use Rattle.pack.specs.declared.number.Number.{Number}
-use Rattle.pack.specs.declared.number.Number.TheVariants as numbers
+use Rattle.pack.specs.Reading.{pick}
 use Rattle.chart.specs.Replies.{all_below}
-
--- a refusal is passed on
-pub under_refused : (x : Reply ℕ) (k p : ℕ) {said : Checked} → said ≡ checked.Refused k p
-    → refuses k p ≡ with (replied said) (λ u. x)
-under_refused x k p e = ap (λ (b : Checked). with (replied b) (λ u. x)) (sym e)
-
-pub under_passed : (x : Reply ℕ) (n : ℕ) {said : Checked} → said ≡ checked.Passed n → x ≡ with (replied said) (λ u. x)
-under_passed x n e = ap (λ (b : Checked). with (replied b) (λ u. x)) (sym e)
-
-pub lent-refused : (f : ℕ → Reply ℕ) (k p : ℕ) {said : Number} → said ≡ numbers.Refused k p
-    → refuses k p ≡ with (replied_count said) f
-lent-refused f k p e = ap (λ (b : Number). with (replied_count b) f) (sym e)
-
-pub lent_passed : (enough in_range : Bool) (v n : ℕ) {said : Number} → said ≡ numbers.Is v n → enough ≡ true
-    → in_range ≡ true
-    → gives v ≡ with (replied_count said) (λ v. pick enough (pick in_range (gives v) (refuses 9 0)) (refuses 8 0))
-lent_passed enough in_range v n e a b = rw (e, a, b) refl
 
 pub and_true : (a b : Bool) → (a && b) ≡ true → (a ≡ true) × (b ≡ true)
 and_true true b e = (refl, e)

@@ -1,6 +1,6 @@
 -- The checks of a call, made one after the other, are `call`'s, whatever the number of charts: the first refusal, or
 -- the pack and the tables that were read. Assumes nothing.
-use Rattle.std.specs.Prelude.{ℕ, ◌<◌, ◌≤◌, ◌≡◌, Bool, ◌||◌, take, ltb, leb}
+use Rattle.std.specs.Prelude.{ℕ, ◌<◌, ◌≤◌, ◌≡◌, Bool, ◌||◌, ltb, leb, Result, Ok, Err}
 use Rattle.std.proofs.Math.Path.{refl, ap, ap₂, subst}
 use Rattle.std.proofs.Common.{sym, ◌∙◌, arith, lt-ltb, le-leb}
 use Rattle.std.proofs.Math.Bool.{true, false}
@@ -10,9 +10,10 @@ use Rattle.pack.specs.Syntax.{Theory, Node, Pack}
 use Rattle.pack.specs.Reading.{done, many, Reply, gives, refuses, with, told, pick, whole}
 use Rattle.pack.specs.Number.{between}
 use Rattle.pack.specs.Grammar.{Dimensions, node_at, nodes_at, in_chart, pack_of, chart_of, dimensions}
-use Rattle.pack.specs.Duties.Said.{forget}
-use Rattle.pack.specs.Duties.Answer.{dims}
-use Rattle.pack.specs.Duties.Contents.{PackRead, PackFound, replied}
+use Rattle.pack.specs.Duties.Said.{forget, replied}
+use Rattle.pack.specs.Duties.Answer.{dims, sizes_of}
+use Rattle.pack.specs.Duties.Contents.{PackRead, PackFound}
+use Rattle.pack.specs.declared.refusal.Refusal.{Refusal}
 use Rattle.pack.specs.Laws.Reading.{never_gives, same_gift, both}
 use Rattle.pack.specs.declared.contents.Contents.{Contents}
 use Rattle.pack.specs.Laws.Exact.{Bytes}
@@ -49,7 +50,7 @@ charts_refusal t (chart ∷ rest) k q e =
 
 -- how many nodes a chart has, as it is counted with a pack's contents
 abbrev pub counted : Contents → List ℕ → Reply ℕ
-counted p chart = told length (in_chart (whole (nodes_at (dims p.characters (take p.fluents p.sizes))) chart))
+counted p chart = told length (in_chart (whole (nodes_at (dims p.characters (sizes_of p.domains))) chart))
 
 -- of each chart
 unfoldable pub counts : Contents → List (List ℕ) → Reply (List ℕ)
@@ -60,10 +61,44 @@ counts p (chart ∷ rest) = with (counted p chart) (λ n. with (counts p rest) (
 abbrev pub lent : {A : Type 0} → Bool → Bool → Reply A → Reply A
 lent enough in_range then = pick enough (pick in_range then (refuses 9 0)) (refuses 8 0)
 
--- the checks in their order
+-- the checks behind that of the pack, in their order
 unfoldable pub checks : Contents → List (List ℕ) → Bool → Bool → Reply (List ℕ)
-checks p charts enough in_range =
-    with (replied p.answer) (λ u. with (counts p charts) (λ ns. lent enough in_range (gives ns)))
+checks p charts enough in_range = with (counts p charts) (λ ns. lent enough in_range (gives ns))
+
+-- what is told of nothing is told of what comes then
+pub lent_then : {A : Type 0} (enough in_range : Bool) (a : A)
+    → lent enough in_range (gives a) ≡ told (λ (u : Unit {0}). a) (lent enough in_range (gives tt))
+lent_then true true a = refl
+lent_then true false a = refl
+lent_then false in_range a = refl
+
+-- what the code's answer to both tests tells of what comes then
+pub lent_told : {A : Type 0} (enough in_range : Bool) (a : A) (r : Result (Unit {0}) Refusal)
+    → replied r ≡ lent enough in_range (gives tt)
+    → lent enough in_range (gives a) ≡ told (λ (u : Unit {0}). a) (replied r)
+lent_told enough in_range a r e =
+    lent_then enough in_range a ∙ ap (told (λ (u : Unit {0}). a)) (sym e)
+
+-- a pack that is refused
+pub pack_refused : {A : Type 0} (pack : List ℕ) (charts : List (List ℕ)) (enough : Bool) (wanted : Theory → Bool)
+    (rest : Pack → List (List Node) → Reply A) (k q : ℕ) → told forget (pack_of pack) ≡ refuses k q
+    → (call pack charts enough wanted rest ≡ refuses k q) × (by_checks k ≡ true)
+unfolding call
+pack_refused pack charts enough wanted rest k q e = go (pack_of pack) refl e
+  where
+    go : (y : Reply Pack) → pack_of pack ≡ y → told forget y ≡ refuses k q
+        → (with (pack_of pack) (λ p.
+        with (charts_of p.theory charts) (λ tables. lent enough (wanted p.theory) (rest p tables))) ≡ refuses k q)
+        × (by_checks k ≡ true)
+    go (gives x) f g = never_gives (sym g)
+    go (refuses j o) f g =
+        let a : j ≡ k = cc in let b : o ≡ q = cc in (
+          ap (λ (y : Reply Pack).
+              with y (λ p.
+              with (charts_of p.theory charts) (λ tables. lent enough (wanted p.theory) (rest p tables)))) f
+          ∙ ap₂ refuses a b,
+          low_checks k (omega (arith, pack-refusal pack j o f)),
+        )
 
 -- what is there when nothing is refused
 pub record Accepted (pack places : List ℕ) (charts : List (List ℕ)) (p : Contents) (ns : List ℕ)
@@ -77,7 +112,7 @@ pub record Accepted (pack places : List ℕ) (charts : List (List ℕ)) (p : Con
   pub enough_there : enough ≡ true
   pub is_in_range : in_range ≡ true
 
-module _ {A : Type 0} {pack places : List ℕ} (charts : List (List ℕ)) {p : Contents} (got : PackRead pack places p)
+module _ {A : Type 0} {pack places : List ℕ} (charts : List (List ℕ)) {p : Contents} (got : PackRead pack places (Ok p))
     (enough in_range : Bool)
     (wanted : Theory → Bool) (same : (x : Pack) → pack_of pack ≡ gives x → in_range ≡ wanted x.theory)
     (rest : Pack → List (List Node) → Reply A) where
@@ -92,18 +127,6 @@ module _ {A : Type 0} {pack places : List ℕ} (charts : List (List ℕ)) {p : C
 
   abbrev Done : Type 0
   Done = Settled (checks p charts enough in_range)
-
-  no_pack : (k q : ℕ) → pack_of pack ≡ refuses k q → Done
-  unfolding call checks
-  no_pack k q e =
-      subst Settled (sym (ap (λ (y : Reply (Unit {0})).
-      with y (λ u. with (counts p charts) (λ ns. lent enough in_range (gives ns))))
-      (sym got.answer ∙ ap (told forget) e))) (
-        ap (λ (y : Reply Pack).
-            with y
-            (λ p. with (charts_of p.theory charts) (λ tables. lent enough (wanted p.theory) (rest p tables)))) e,
-        low_checks k (omega (arith, pack-refusal pack k q e)),
-      )
 
   module _ (x : Pack) (e : pack_of pack ≡ gives x) where
     counts_are : (charts : List (List ℕ)) → counts p charts ≡ told (map length) (charts_of x.theory charts)
@@ -126,10 +149,7 @@ module _ {A : Type 0} {pack places : List ℕ} (charts : List (List ℕ)) {p : C
     says : checks p charts enough in_range
         ≡ with (told (map length) (charts_of x.theory charts)) (λ ns. lent enough in_range (gives ns))
     unfolding checks
-    says =
-        ap (λ (y : Reply (Unit {0})). with y (λ u. with (counts p charts) (λ ns. lent enough in_range (gives ns))))
-        (sym got.answer ∙ ap (told forget) e)
-        ∙ ap (λ (y : Reply (List ℕ)). with y (λ ns. lent enough in_range (gives ns))) (counts_are charts)
+    says = ap (λ (y : Reply (List ℕ)). with y (λ ns. lent enough in_range (gives ns))) (counts_are charts)
 
     replies : the_reply ≡ with (charts_of x.theory charts) (λ tables. lent enough in_range (rest x tables))
     unfolding call
@@ -183,7 +203,7 @@ module _ {A : Type 0} {pack places : List ℕ} (charts : List (List ℕ)) {p : C
 
       at-pack : (y : Reply Pack) → pack_of pack ≡ y → Done
       at-pack (gives x) e = at_charts x e (charts_of x.theory charts) refl
-      at-pack (refuses k q) e = no_pack k q e
+      at-pack (refuses k q) e = never_gives (sym (sym got.answer ∙ ap (told forget) e))
 
   -- the code's answer r tells g of what the checks say
   module _ {B : Type 0} (g : List ℕ → B) (r : Reply B) (agrees : r ≡ told g (checks p charts enough in_range)) where
@@ -245,7 +265,7 @@ some_nodes_lem d s at t n e =
 -- a chart that was read, by its nodes
 pub nodes_read : {pack places chart : List ℕ} {x : Pack} {p : Contents} {t : List Node} {n : ℕ} → pack_of pack ≡ gives x
     → PackFound pack places x p → chart_of x.theory chart ≡ gives t → length t ≡ n
-    → NodesRead chart n p.fluents p.characters t
+    → NodesRead chart n p.domains.fluents p.characters t
 nodes_read {pack} {places} {chart} {x} {p} {t} {n} e f read long =
     let theory = x.theory in
     let reads = chart_nodes theory chart t read in
@@ -261,7 +281,7 @@ nodes_read {pack} {places} {chart} {x} {p} {t} {n} e f read long =
 -- a pack that was read, by its nodes
 abbrev pub nodes_packed : {pack places : List ℕ} {x : Pack} {p : Contents} → Bytes pack → pack_of pack ≡ gives x
     → (f : PackFound pack places x p)
-    → NodesFrom pack p.first f.rows.end p.nodes p.fluents p.characters x.nodes
+    → NodesFrom pack p.first f.rows.end p.nodes p.domains.fluents p.characters x.nodes
 nodes_packed {pack} {places} {x} {p} bytes e f =
     let fit = ((pack_exactly pack bytes x).0 e).0.nodes in
     record {
@@ -275,61 +295,41 @@ nodes_packed {pack} {places} {x} {p} bytes e f =
 -- what the checks say where there are no charts, one, or two
 module _ (p : Contents) (enough in_range : Bool) where
   pub check_none : {B : Type 0} (b : B)
-      → with (with (replied p.answer) (λ u. gives b)) (λ v. lent enough in_range (gives v))
-      ≡ told (λ ns. b) (checks p [] enough in_range)
+      → lent enough in_range (gives b) ≡ told (λ ns. b) (checks p [] enough in_range)
   unfolding checks counts
-  check_none {B = B} b = go (replied p.answer) enough in_range
+  check_none {B = B} b = go enough in_range
     where
-      go : (a : Reply (Unit {0})) (enough in_range : Bool)
-          → with (with a (λ u. gives b)) (λ v. lent enough in_range (gives v))
-          ≡ told (λ (ns : List ℕ). b) (with a (λ u. lent enough in_range (gives [])))
-      go (refuses k q) enough in_range = refl
-      go (gives u) true true = refl
-      go (gives u) true false = refl
-      go (gives u) false in_range = refl
+      go : (enough in_range : Bool)
+          → lent enough in_range (gives b) ≡ told (λ (ns : List ℕ). b) (lent enough in_range (gives []))
+      go true true = refl
+      go true false = refl
+      go false in_range = refl
 
   pub check_one : (chart : List ℕ)
-      → with (with (replied p.answer) (λ u. counted p chart)) (λ v. lent enough in_range (gives v))
+      → with (counted p chart) (λ v. lent enough in_range (gives v))
       ≡ told (λ ns. get_or ns 0 0) (checks p (chart ∷ []) enough in_range)
   unfolding checks counts
-  check_one chart = go (replied p.answer) (counted p chart) enough in_range
+  check_one chart = go (counted p chart) enough in_range
     where
-      go : (a : Reply (Unit {0})) (y : Reply ℕ) (enough in_range : Bool)
-          → with (with a (λ u. y)) (λ v. lent enough in_range (gives v))
-          ≡ told (λ ns.
-          get_or ns 0 0) (with a
-          (λ u. with (with y (λ n. with (gives []) (λ ns. gives (n ∷ ns)))) (λ ns. lent enough in_range (gives ns))))
-      go (refuses k q) y enough in_range = refl
-      go (gives u) (refuses k q) enough in_range = refl
-      go (gives u) (gives n) true true = refl
-      go (gives u) (gives n) true false = refl
-      go (gives u) (gives n) false in_range = refl
+      go : (y : Reply ℕ) (enough in_range : Bool)
+          → with y (λ v. lent enough in_range (gives v))
+          ≡ told (λ ns. get_or ns 0 0)
+          (with (with y (λ n. with (gives []) (λ ns. gives (n ∷ ns)))) (λ ns. lent enough in_range (gives ns)))
+      go (refuses k q) enough in_range = refl
+      go (gives n) true true = refl
+      go (gives n) true false = refl
+      go (gives n) false in_range = refl
 
-  -- the first of two is refused, or the second decides
-  pub check_first : (first second : List ℕ) (k q : ℕ) → with (replied p.answer) (λ u. counted p first) ≡ refuses k q
-      → checks p (first ∷ second ∷ []) enough in_range ≡ refuses k q
-  unfolding checks counts
-  check_first first second k q = go (replied p.answer) (counted p first) (counts p (second ∷ []))
-    where
-      go : (a : Reply (Unit {0})) (y : Reply ℕ) (z : Reply (List ℕ)) → with a (λ u. y) ≡ refuses k q
-          → with a (λ u. with (with y (λ n. with z (λ ns. gives (n ∷ ns)))) (λ ns. lent enough in_range (gives ns)))
-          ≡ refuses k q
-      go (refuses j o) y z e = let a : j ≡ k = cc in let b : o ≡ q = cc in ap₂ refuses a b
-      go (gives u) (refuses j o) z e = let a : j ≡ k = cc in let b : o ≡ q = cc in ap₂ refuses a b
-      go (gives u) (gives n) z e = never_gives (sym e)
-
-  pub check_second : (first second : List ℕ) (n : ℕ) → with (replied p.answer) (λ u. counted p first) ≡ gives n
-      → with (counted p second) (λ v. lent enough in_range (gives (n ∷ v ∷ [])))
+  pub check_two : (first second : List ℕ)
+      → with (counted p first) (λ n. with (counted p second) (λ m. lent enough in_range (gives (n ∷ m ∷ []))))
       ≡ checks p (first ∷ second ∷ []) enough in_range
   unfolding checks counts
-  check_second first second n = go (replied p.answer) (counted p first) (counted p second)
+  check_two first second = go (counted p first) (counted p second)
     where
-      go : (a : Reply (Unit {0})) (y z : Reply ℕ) → with a (λ u. y) ≡ gives n
-          → with z (λ v. lent enough in_range (gives (n ∷ v ∷ [])))
-          ≡ with a (λ u.
-          with (with y (λ n. with (with z (λ m. with (gives []) (λ ns. gives (m ∷ ns)))) (λ ns. gives (n ∷ ns))))
-          (λ ns. lent enough in_range (gives ns)))
-      go (refuses j o) y z e = never_gives e
-      go (gives u) (refuses j o) z e = never_gives e
-      go (gives u) (gives m) (refuses j o) e = refl
-      go (gives u) (gives m) (gives v) e = ap (λ (k : ℕ). lent enough in_range (gives (k ∷ v ∷ []))) (sym (same_gift e))
+      go : (y z : Reply ℕ)
+          → with y (λ n. with z (λ m. lent enough in_range (gives (n ∷ m ∷ []))))
+          ≡ with (with y (λ n. with (with z (λ m. with (gives []) (λ ns. gives (m ∷ ns)))) (λ ns. gives (n ∷ ns))))
+          (λ ns. lent enough in_range (gives ns))
+      go (refuses j o) z = refl
+      go (gives n) (refuses j o) = refl
+      go (gives n) (gives m) = refl

@@ -1,41 +1,48 @@
 -- The checks, and then the verdict. Assumes nothing.
-use mathlib.Core.Path.{sym}
-use native.Mathlib.Omega.{arith}
-use lib.Seq.{length-take-le}
-use Rattle.chart.proofs.CompareCall.{compare_first, compare_refused, compare_ready, compare_done}
+use Rattle.std.proofs.Common.{rules, sym, ap, subst, ◌≡◌, ◌∙◌, Err}
+use Rattle.pack.specs.Duties.Said.{replied}
+use Rattle.chart.specs.Promises.{Comparison}
+use Rattle.chart.specs.Laws.Checks.{counted}
+use Rattle.chart.proofs.CompareCall.{compare_unread, compare_first, compare_second, compare_lent, compare_ready, compare_done}
 use Rattle.chart.proofs.compare.compare.Goals as goal
 
-pub slice_bounds-sizes-end : goal.slice_bounds-sizes-end
-slice_bounds-sizes-end c =
-    omega (arith, c.read_contents-p.ensures.read.few, c.read_contents-p.ensures.read.long)
+pub returns-in_err-p : goal.returns-in_err-p
+returns-in_err-p c =
+    let handed : c.from_residual.result ≡ Err c.in_err-p.field-0.0 = search rules in
+    subst (Comparison c.args.pack.now c.args.first.now c.args.second.now c.args.chain.now c.args.work.now c.args.chain.now c.args.work.now) (sym handed)
+    (compare_unread c.args.pack.now c.args.first.now c.args.second.now c.args.chain.now c.args.work.now c.in_err-p.field-0.0 c.in_err-p.ensures.read)
 
-pub slice_bounds-check_under-end : goal.slice_bounds-check_under-end
-slice_bounds-check_under-end c =
-    sym (length-take-le c.read_contents-p.result.fluents c.read_contents-p.result.sizes (omega (arith, c.read_contents-p.ensures.read.few, c.read_contents-p.ensures.read.long)))
+pub returns-in_err-one : goal.returns-in_err-one
+returns-in_err-one c =
+    let one : counted c.in_ok-p.p c.args.first.now ≡ replied c.check_chart.result = rw (c.dimensions.ensures.0, c.dimensions.ensures.1) at c.check_chart.ensures in
+    let handed : c.from_residual-in_err-one.result ≡ Err c.in_err-one.field-0.0 = search rules in
+    subst (Comparison c.args.pack.now c.args.first.now c.args.second.now c.args.chain.now c.args.work.now c.args.chain.now c.args.work.now) (sym handed)
+    (compare_first c.args.pack.now c.args.first.now c.args.second.now c.args.chain.now c.args.work.now c.in_ok-p.ensures.read c.in_err-one.field-0.0 (one ∙ ap replied c.in_err-one.was))
 
-pub slice_bounds-sizes-end-in-Is : goal.slice_bounds-sizes-end-in-Is
-slice_bounds-sizes-end-in-Is c =
-    omega (arith, c.read_contents-p.ensures.read.few, c.read_contents-p.ensures.read.long)
+pub returns-in_err-other : goal.returns-in_err-other
+returns-in_err-other c =
+    let one : counted c.in_ok-p.p c.args.first.now ≡ replied c.check_chart.result = rw (c.dimensions.ensures.0, c.dimensions.ensures.1) at c.check_chart.ensures in
+    let other : counted c.in_ok-p.p c.args.second.now ≡ replied c.check_chart-2.result = rw (c.dimensions-2.ensures.0, c.dimensions-2.ensures.1) at c.check_chart-2.ensures in
+    let handed : c.from_residual-in_err-other.result ≡ Err c.in_err-other.field-0.0 = search rules in
+    subst (Comparison c.args.pack.now c.args.first.now c.args.second.now c.args.chain.now c.args.work.now c.args.chain.now c.args.work.now) (sym handed)
+    (compare_second c.args.pack.now c.args.first.now c.args.second.now c.args.chain.now c.args.work.now c.in_ok-p.ensures.read c.in_ok-one.one (one ∙ ap replied c.in_ok-one.was) c.in_err-other.field-0.0 (other ∙ ap replied c.in_err-other.was))
 
-pub slice_bounds-check_chart-end : goal.slice_bounds-check_chart-end
-slice_bounds-check_chart-end c =
-    sym (length-take-le c.read_contents-p.result.fluents c.read_contents-p.result.sizes (omega (arith, c.read_contents-p.ensures.read.few, c.read_contents-p.ensures.read.long)))
+pub returns-in_err-check_lent : goal.returns-in_err-check_lent
+returns-in_err-check_lent c =
+    let one : counted c.in_ok-p.p c.args.first.now ≡ replied c.check_chart.result = rw (c.dimensions.ensures.0, c.dimensions.ensures.1) at c.check_chart.ensures in
+    let other : counted c.in_ok-p.p c.args.second.now ≡ replied c.check_chart-2.result = rw (c.dimensions-2.ensures.0, c.dimensions-2.ensures.1) at c.check_chart-2.ensures in
+    let handed : c.from_residual-in_err-check_lent.result ≡ Err c.in_err-check_lent.field-0.0 = search rules in
+    subst (Comparison c.args.pack.now c.args.first.now c.args.second.now c.args.chain.now c.args.work.now c.args.chain.now c.args.work.now) (sym handed)
+    (compare_lent c.args.pack.now c.args.first.now c.args.second.now c.args.chain.now c.args.work.now c.in_ok-p.ensures.read c.in_ok-one.one (one ∙ ap replied c.in_ok-one.was) c.in_ok-other.other (other ∙ ap replied c.in_ok-other.was) c.both_at_most-enough.result c.both_at_most-enough.ensures c.check_lent.result c.check_lent.ensures c.in_err-check_lent.field-0.0 c.in_err-check_lent.was)
 
-pub match_charts-requires : goal.match_charts-requires
-match_charts-requires c =
-    compare_ready c.args.first.now c.args.second.now c.args.chain.now c.args.work.now c.read_contents-p.ensures.read c.check_under.result c.check_under.ensures _ _ c.in-Is.is
-    c.check_chart-nodes.result c.check_chart-nodes.ensures c.both_at_most-enough.result c.both_at_most-enough.ensures c.check_lent.result c.check_lent.ensures _ _ c.in-Is-check_lent.is
+pub match_charts-found-requires : goal.match_charts-found-requires
+match_charts-found-requires c =
+    let one : counted c.in_ok-p.p c.args.first.now ≡ replied c.check_chart.result = rw (c.dimensions.ensures.0, c.dimensions.ensures.1) at c.check_chart.ensures in
+    let other : counted c.in_ok-p.p c.args.second.now ≡ replied c.check_chart-2.result = rw (c.dimensions-2.ensures.0, c.dimensions-2.ensures.1) at c.check_chart-2.ensures in
+    compare_ready c.args.pack.now c.args.first.now c.args.second.now c.args.chain.now c.args.work.now c.in_ok-p.ensures.read c.in_ok-one.one (one ∙ ap replied c.in_ok-one.was) c.in_ok-other.other (other ∙ ap replied c.in_ok-other.was) c.both_at_most-enough.result c.both_at_most-enough.ensures c.check_lent.result c.check_lent.ensures c.in_ok-check_lent.was
 
-pub returns-in-Refused : goal.returns-in-Refused
-returns-in-Refused c =
-    compare_first c.args.first.now c.args.second.now c.args.chain.now c.args.work.now c.read_contents-p.ensures.read c.check_under.result c.check_under.ensures _ _ c.in-Refused.is
-
-pub returns-in-Refused-check_lent : goal.returns-in-Refused-check_lent
-returns-in-Refused-check_lent c =
-    compare_refused c.args.first.now c.args.second.now c.args.chain.now c.args.work.now c.read_contents-p.ensures.read c.check_under.result c.check_under.ensures _ _ c.in-Is.is
-    c.check_chart-nodes.result c.check_chart-nodes.ensures c.both_at_most-enough.result c.both_at_most-enough.ensures c.check_lent.result c.check_lent.ensures _ _ c.in-Refused-check_lent.is
-
-pub returns-in-Is-check_lent : goal.returns-in-Is-check_lent
-returns-in-Is-check_lent c =
-    compare_done c.args.first.now c.args.second.now c.args.chain.now c.args.work.now c.read_contents-p.ensures.read c.check_under.result c.check_under.ensures _ _ c.in-Is.is
-    c.check_chart-nodes.result c.check_chart-nodes.ensures c.both_at_most-enough.result c.both_at_most-enough.ensures c.check_lent.result c.check_lent.ensures _ _ c.in-Is-check_lent.is _ _ _ c.match_charts.ensures
+pub returns : goal.returns
+returns c =
+    let one : counted c.in_ok-p.p c.args.first.now ≡ replied c.check_chart.result = rw (c.dimensions.ensures.0, c.dimensions.ensures.1) at c.check_chart.ensures in
+    let other : counted c.in_ok-p.p c.args.second.now ≡ replied c.check_chart-2.result = rw (c.dimensions-2.ensures.0, c.dimensions-2.ensures.1) at c.check_chart-2.ensures in
+    compare_done c.args.pack.now c.args.first.now c.args.second.now c.args.chain.now c.args.work.now c.in_ok-p.ensures.read c.in_ok-one.one (one ∙ ap replied c.in_ok-one.was) c.in_ok-other.other (other ∙ ap replied c.in_ok-other.was) c.both_at_most-enough.result c.both_at_most-enough.ensures c.check_lent.result c.check_lent.ensures c.in_ok-check_lent.was _ _ _ c.match_charts-found.ensures
