@@ -70,8 +70,7 @@ pub fn check_alternative(s: &[u8], at: usize, characters: usize, domains: &[u8])
             let mut n = first;
             let mut left = count;
             while 0 < left {
-                let after = plain_test(s, n, characters, domains);
-                if 0 < after {
+                if let Some(after) = plain_test(s, n, characters, domains) {
                     n = after;
                     left = left - 1;
                 } else {

@@ -64,13 +64,11 @@ pub fn some_effect(s: &[u8], at: usize, w: Wanted) -> bool
     ensures { Tells effects_at (some_of (asks w)) s.now at result }
 {
     let mut n = at + 1;
-    let mut left = wide(s[at]);
-    while 0 < left {
+    for _ in 0..s[at] {
         if is_wanted(s, n, w) {
             return true;
         }
         n = after_effect(s, n);
-        left = left - 1;
     }
     false
 }

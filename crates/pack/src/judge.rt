@@ -46,15 +46,11 @@ pub fn all_pass(s: &[u8], at: usize, buffer: &[u8], t: Table, node: usize) -> bo
         → alternative_at d s.now at ≡ done ts n → result ≡ all_pass (state_of t buffer.now node) ts }
 {
     let mut n = at + 1;
-    let mut left = wide(s[at]);
-    while 0 < left {
-        let passed = passes(s, n, buffer, t, node);
-        if passed {
-            n = after_test(s, n);
-            left = left - 1;
-        } else {
+    for _ in 0..s[at] {
+        if !passes(s, n, buffer, t, node) {
             return false;
         }
+        n = after_test(s, n);
     }
     true
 }
@@ -66,10 +62,8 @@ pub fn after_alternative(s: &[u8], at: usize) -> usize
         → alternative_at d s.now at ≡ done ts n → result ≡ n }
 {
     let mut n = at + 1;
-    let mut left = wide(s[at]);
-    while 0 < left {
+    for _ in 0..s[at] {
         n = after_test(s, n);
-        left = left - 1;
     }
     n
 }
@@ -81,18 +75,16 @@ pub fn holds(s: &[u8], at: usize, buffer: &[u8], t: Table, node: usize) -> bool
         → condition_at d s.now at ≡ done c n
         → result ≡ Rattle.pack.specs.Condition.holds (state_of t buffer.now node) c }
 {
+    let count = s[at];
     let mut n = at + 1;
-    let mut left = wide(s[at]);
-    while 0 < left {
-        let met = all_pass(s, n, buffer, t, node);
-        if met {
+    for i in 0..count {
+        if all_pass(s, n, buffer, t, node) {
             return true;
         }
-        if left == 1 {
+        if i + 1 == count {
             return false;
         }
         n = after_alternative(s, n);
-        left = left - 1;
     }
     false
 }
@@ -104,10 +96,8 @@ pub fn after_condition(s: &[u8], at: usize) -> usize
         → condition_at d s.now at ≡ done c n → result ≡ n }
 {
     let mut n = at + 1;
-    let mut left = wide(s[at]);
-    while 0 < left {
+    for _ in 0..s[at] {
         n = after_alternative(s, n);
-        left = left - 1;
     }
     n
 }
@@ -119,14 +109,12 @@ pub fn utility(s: &[u8], at: usize, buffer: &[u8], t: Table, node: usize) -> usi
         → rules_at d s.now at ≡ done rules n
         → result ≡ Rattle.pack.specs.Condition.utility (state_of t buffer.now node) rules }
 {
+    let count = s[at];
     let mut n = at + 1;
-    let mut left = wide(s[at]);
-    while 0 < left {
+    for i in 0..count {
         let holding = holds(s, n, buffer, t, node);
-        if !holding {
-            if left < 2 {
-                return 0;
-            }
+        if !holding && i + 1 == count {
+            return 0;
         }
         match read_number(s, after_condition(s, n)) {
             Number::Refused(_, _) => {
@@ -137,7 +125,6 @@ pub fn utility(s: &[u8], at: usize, buffer: &[u8], t: Table, node: usize) -> usi
                     return value;
                 }
                 n = next;
-                left = left - 1;
             }
         }
     }

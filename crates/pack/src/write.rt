@@ -32,11 +32,9 @@ pub fn write_effects(
     ensures { EffectsWritten s.now at whom buffer.old buffer.new row fluents }
 {
     let mut n = at + 1;
-    let mut left = wide(s[at]);
-    while 0 < left {
+    for _ in 0..s[at] {
         write_effect(s, n, whom, buffer, row, fluents);
         n = after_effect(s, n);
-        left = left - 1;
     }
 }
 

@@ -5,9 +5,9 @@ use Rattle.pack.proofs.condition.check_alternative.Goals as goal
 pub loop-left-init : goal.loop-left-init
 loop-left-init c = rw (c.read_between.ensures, c.in-Is.is)
 
-pub loop-left-preserved-then-after-gt0 : goal.loop-left-preserved-then-after-gt0
-loop-left-preserved-then-after-gt0 c =
-    rw (c.loop-left.invariant, many-forget _ _ _ _ c.loop-left-test.true, c.plain_test-after.ensures c.if-after-gt0.true)
+pub loop-left-preserved-in-Some : goal.loop-left-preserved-in-Some
+loop-left-preserved-in-Some c =
+    rw (c.loop-left.invariant, many-forget _ _ _ _ c.loop-left-test.true, c.in-Some.ensures)
 
 pub returns-in-Refused-check_test : goal.returns-in-Refused-check_test
 returns-in-Refused-check_test c =

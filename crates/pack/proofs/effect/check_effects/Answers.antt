@@ -20,22 +20,22 @@ pub loop-left-init : goal.loop-left-init
 unfolding effects_at
 loop-left-init c = rw (c.read_between.ensures, c.in-Is.is)
 
-pub plain_effect-after-requires : goal.plain_effect-after-requires
+pub plain_effect-requires : goal.plain_effect-requires
 unfolding effects_at
-plain_effect-after-requires c = search rules
+plain_effect-requires c = search rules
 
 pub overflow_sub-left : goal.overflow_sub-left
 unfolding effects_at
 overflow_sub-left c = search rules
 
-pub loop-left-smaller-then-after-gt0 : goal.loop-left-smaller-then-after-gt0
+pub loop-left-smaller-in-Some : goal.loop-left-smaller-in-Some
 unfolding effects_at
-loop-left-smaller-then-after-gt0 c = search rules
+loop-left-smaller-in-Some c = search rules
 
-pub loop-left-preserved-then-after-gt0 : goal.loop-left-preserved-then-after-gt0
+pub loop-left-preserved-in-Some : goal.loop-left-preserved-in-Some
 unfolding effects_at
-loop-left-preserved-then-after-gt0 c =
-    rw (c.loop-left.invariant, many-forget _ _ _ _ c.loop-left-test.true, c.plain_effect-after.ensures c.if-after-gt0.true)
+loop-left-preserved-in-Some c =
+    rw (c.loop-left.invariant, many-forget _ _ _ _ c.loop-left-test.true, c.in-Some.ensures)
 
 pub check_effect-requires : goal.check_effect-requires
 unfolding effects_at
