@@ -4,8 +4,7 @@ use mathlib.Core.Path.{◌≡◌, refl, ap, ◌∙◌}
 use mathlib.Core.Bool.{Bool, true, false}
 use mathlib.Core.List.{List}
 use native.Mathlib.Omega.{arith}
-use Rattle.std.proofs.Common.{sub-one, take, drop, length-drop}
-use Rattle.std.proofs.lemmas.List.{get_or-take, get_or-drop, length-take}
+use Rattle.std.proofs.Common.{sub-one}
 use Rattle.std.specs.Bool.{MatchBool}
 use Rattle.std.specs.List.{AllWithin}
 use lib.ListN.{length, get_or}
@@ -16,6 +15,7 @@ use Rattle.pack.specs.Grammar.{test_at, effect_at}
 use Rattle.pack.specs.Duties.Said.{forget}
 use Rattle.pack.specs.Duties.Answer.{dims, claim_at}
 use Rattle.pack.specs.Laws.Accepts.{one}
+use Rattle.pack.proofs.Slices.{part, part_long, part_at}
 use Rattle.pack.specs.Laws.Runs.{runs_none, many-forget, test_forget, effect_forget}
 
 -- a "no" promises nothing
@@ -48,14 +48,11 @@ chain_reads C s (suc left) n l f =
 
 -- what is asked of each byte of a slice holds at each place from its start on
 pub each_below : (Q : Type 0) (s : List ℕ) (at n m : ℕ) (r : Bool) → at + n ≤ length s
-    → MatchBool r (AllWithin (λ x. x < m) (take ((at + n) - at) (drop at s)) 0 (length (take ((at + n) - at) (drop at s)))) Q
+    → MatchBool r (AllWithin (λ x. x < m) (part s at n) 0 (length (part s at n))) Q
     → r ≡ true → (k : ℕ) → k < n → get_or s (at + k) 0 < m
 each_below Q s at n m true l w e k h =
-    let size : n ≤ (at + n) - at = omega arith in
-    let inside : k < length (take ((at + n) - at) (drop at s)) = omega (arith, length-take {A = ℕ}, length-drop {A = ℕ}) in
-    let near : k < (at + n) - at = omega arith in
-    let found = w k 0 (omega arith) inside in
-    rw (get_or-take ((at + n) - at) (drop at s) k 0 near, get_or-drop at s k 0) at found
+    let found = w k 0 (omega arith) (omega (arith, part_long s at n l)) in
+    rw (part_at s at n k h) at found
 each_below Q s at n m false l w e k h = unsaid e
 
 -- a fluent and one of its values

@@ -10,7 +10,7 @@ ghost use Rattle.pack.specs.Condition.{compares, all_pass};
 ghost use Rattle.pack.specs.Duties.Table.{state_of};
 ghost use Rattle.pack.specs.Duties.Judge.{alternative_at, Small, Over, Readable, Judged};
 
-use crate::number::{Number, read_number, wide};
+use crate::number::{Number, read_number};
 use crate::table::{Table, follow};
 use crate::test::after_test;
 
@@ -32,11 +32,10 @@ pub fn passes(s: &[u8], at: usize, buffer: &[u8], t: Table, node: usize) -> bool
     ensures { (d : Dimensions) → Over d t → (x : Test) (n : ℕ) → test_at d s.now at ≡ done x n
         → result ≡ Rattle.pack.specs.Condition.passes (state_of t buffer.now node) x }
 {
-    let count = wide(s[at]);
+    let count = usize::from(s[at]);
     let there = follow(s, at + 1, count, buffer, t, node);
     let n = at + 1 + count;
-    let row = t.rows + there * t.width;
-    relates(s[n], buffer[row + wide(s[n + 1])], s[n + 2])
+    relates(s[n], t.value(buffer, there, usize::from(s[n + 1])), s[n + 2])
 }
 
 // Whether all tests of an alternative hold.

@@ -8,4 +8,4 @@ pub bounds-s-at : goal.bounds-s-at
 bounds-s-at c = omega (arith, test_read c.requires)
 
 pub returns : goal.returns
-returns c = λ d small x n e. sym c.wide.ensures ∙ chain_length d small _ _ x n e
+returns c = λ d small x n e. c.from.ensures ∙ chain_length d small _ _ x n e
