@@ -4,12 +4,11 @@ ghost use Rattle.transition.specs.Duties.Play.{Settleable, SettlesIn};
 use crate::change::Change;
 use crate::fire::{NOWHERE, fire_all};
 use crate::round::round;
+use crate::stop::Stop;
 use pack::places::PLACES;
-use pack::refusal::{ROUNDS, STATES};
 use pack::table::Table;
 
-// Settles the state in a slot, of which t is the table: 0 where it does, 12 where there are more than 32 states, 11
-// where a trigger holds after round 16.
+// Settles the state in a slot, of which t is the table, in at most 16 rounds.
 pub fn settle(
     pack: &[u8],
     places: &[u16],
@@ -17,13 +16,13 @@ pub fn settle(
     work: &mut [u8],
     t: Table,
     slot: usize,
-) -> u8
+) -> Result<(), Stop>
     requires { Settleable pack.now places.now triggers work.old t slot }
     ensures { SettlesIn pack.now places.now triggers t work.old
         work.new slot result }
 {
     if triggers == 0 {
-        return 0;
+        return Ok(());
     }
     let mut effects = [NOWHERE; 32];
     let mut nodes = t.nodes;
@@ -38,10 +37,10 @@ pub fn settle(
         };
         let any = fire_all(pack, places, triggers, work, now, &mut effects);
         if !any {
-            return 0;
+            return Ok(());
         }
         if rounds == 16 {
-            return ROUNDS;
+            return Err(Stop::Rounds);
         }
         let everyone = Change {
             table: now,
@@ -52,7 +51,7 @@ pub fn settle(
         };
         nodes = round(pack, places, &effects, everyone, work, slot);
         if 32 < nodes {
-            return STATES;
+            return Err(Stop::States);
         }
         rounds += 1;
     }

@@ -24,13 +24,13 @@ bounds-places-m c =
 pub overflow_cast-places : goal.overflow_cast-places
 overflow_cast-places c = omega (arith, c.type_inv.places (9 * c.args.m.action))
 
-pub holds-may-requires : goal.holds-may-requires
-holds-may-requires c =
+pub holds-requires : goal.holds-requires
+holds-requires c =
     let (p, (T, (n, (x, l, i)))) = c.requires in
     play_judged x l _ i
 
-pub returns-then-not-may : goal.returns-then-not-may
-returns-then-not-may c = λ p T n x l i. play_forbidden x l _ i c.holds-may.ensures (c.if-not-may.true)
+pub returns-then-not-holds : goal.returns-then-not-holds
+returns-then-not-holds c = λ p T n x l i. play_forbidden x l _ i c.holds.ensures (c.if-not-holds.true)
 
 pub act-nodes-requires : goal.act-nodes-requires
 act-nodes-requires c =
@@ -39,7 +39,7 @@ act-nodes-requires c =
 
 pub returns-then-nodes-gt32 : goal.returns-then-nodes-gt32
 returns-then-nodes-gt32 c =
-    λ p T n x l i. play_many x l _ i c.holds-may.ensures (c.if-not-may.false) (c.act-nodes.ensures p T n _ x l i) c.act-nodes.auto.work c.if-nodes-gt32.true
+    λ p T n x l i. play_many x l _ i c.holds.ensures (c.if-not-holds.false) (c.act-nodes.ensures p T n _ x l i) c.act-nodes.auto.work c.if-nodes-gt32.true
 
 pub overflow_add-left : goal.overflow_add-left
 overflow_add-left c =
@@ -50,15 +50,15 @@ pub settle-requires : goal.settle-requires
 settle-requires c =
     let (p, (T, (n, (x, l, i)))) = c.requires in
     let y = c.act-nodes.ensures p T n _ x l i in
-    let e = c.if-not-may.false in
-    (p, (play_table x l _ i c.holds-may.ensures e y c.act-nodes.auto.work (omega (arith, c.if-nodes-gt32.false)), (n, (play_setting x l _ i c.holds-may.ensures e y c.act-nodes.auto.work (omega (arith, c.if-nodes-gt32.false)), play_slotted x l _ i c.holds-may.ensures e y c.act-nodes.auto.work (omega (arith, c.if-nodes-gt32.false))))))
+    let e = c.if-not-holds.false in
+    (p, (play_table x l _ i c.holds.ensures e y c.act-nodes.auto.work (omega (arith, c.if-nodes-gt32.false)), (n, (play_setting x l _ i c.holds.ensures e y c.act-nodes.auto.work (omega (arith, c.if-nodes-gt32.false)), play_slotted x l _ i c.holds.ensures e y c.act-nodes.auto.work (omega (arith, c.if-nodes-gt32.false))))))
 
 pub shape_of-work : goal.shape_of-work
 shape_of-work c = c.settle.auto.work ∙ c.act-nodes.auto.work
 
 pub returns : goal.returns
 returns c =
-    let e = c.if-not-may.false in
+    let e = c.if-not-holds.false in
     λ p T n x l i.
     let y = c.act-nodes.ensures p T n _ x l i in
-    play_settled x l _ i c.holds-may.ensures e y c.act-nodes.auto.work (omega (arith, c.if-nodes-gt32.false)) (c.settle.ensures p (play_table x l _ i c.holds-may.ensures e y c.act-nodes.auto.work (omega (arith, c.if-nodes-gt32.false))) n (play_setting x l _ i c.holds-may.ensures e y c.act-nodes.auto.work (omega (arith, c.if-nodes-gt32.false))) (play_slotted x l _ i c.holds-may.ensures e y c.act-nodes.auto.work (omega (arith, c.if-nodes-gt32.false))))
+    play_settled x l _ i c.holds.ensures e y c.act-nodes.auto.work (omega (arith, c.if-nodes-gt32.false)) (c.settle.ensures p (play_table x l _ i c.holds.ensures e y c.act-nodes.auto.work (omega (arith, c.if-nodes-gt32.false))) n (play_setting x l _ i c.holds.ensures e y c.act-nodes.auto.work (omega (arith, c.if-nodes-gt32.false))) (play_slotted x l _ i c.holds.ensures e y c.act-nodes.auto.work (omega (arith, c.if-nodes-gt32.false))))
