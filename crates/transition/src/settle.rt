@@ -8,7 +8,10 @@ use crate::stop::Stop;
 use pack::places::PLACES;
 use pack::table::Table;
 
-// Settles the state in a slot, of which t is the table, in at most 16 rounds.
+// So many rounds follow an action at most.
+pub const MOST_ROUNDS: usize = 16;
+
+// Settles the state in a slot, of which t is the table.
 pub fn settle(
     pack: &[u8],
     places: &[u16],
@@ -25,22 +28,13 @@ pub fn settle(
         return Ok(());
     }
     let mut effects = [NOWHERE; 32];
-    let mut nodes = t.nodes;
-    let mut rounds: usize = 0;
-    loop {
-        let now = Table {
-            rows: slot + 1,
-            nodes,
-            fluents: t.fluents,
-            characters: t.characters,
-            width: t.width,
-        };
-        let any = fire_all(pack, places, triggers, work, now, &mut effects);
-        if !any {
+    let mut now = Table {
+        rows: slot + 1,
+        ..t
+    };
+    for _ in 0..MOST_ROUNDS {
+        if !fire_all(pack, places, triggers, work, now, &mut effects) {
             return Ok(());
-        }
-        if rounds == 16 {
-            return Err(Stop::Rounds);
         }
         let everyone = Change {
             table: now,
@@ -49,10 +43,10 @@ pub fn settle(
             observed: PLACES,
             root: 0,
         };
-        nodes = round(pack, places, &effects, everyone, work, slot);
-        if 32 < nodes {
-            return Err(Stop::States);
-        }
-        rounds += 1;
+        now.nodes = round(pack, places, &effects, everyone, work, slot)?;
     }
+    if fire_all(pack, places, triggers, work, now, &mut effects) {
+        return Err(Stop::Rounds);
+    }
+    Ok(())
 }

@@ -35,16 +35,11 @@ pub fn step_slot(
     if !holds(pack, places[ACTION * m.action] as usize, work, t, root) {
         return Err(Stop::Condition);
     }
-    let nodes = act(pack, places, m.action, work, t, root, slot);
-    if 32 < nodes {
-        return Err(Stop::States);
-    }
+    let nodes = act(pack, places, m.action, work, t, root, slot)?;
     let left = Table {
         rows: slot + 1,
         nodes,
-        fluents: t.fluents,
-        characters: t.characters,
-        width: t.width,
+        ..t
     };
     settle(pack, places, m.triggers, work, left, slot)
 }

@@ -58,11 +58,12 @@ Settleable pack places triggers work t slot =
     × ((actions : ℕ) × (Setting p T pack places actions triggers work t slot × Slotted T work t slot)))
 
 -- part 1 is in the slot, or leaves more than 32 states
-pub record Acted (z : State) (t : Table) (was now : List ℕ) (slot r : ℕ) : Type 0 where
+pub record Acted (z : State) (t : Table) (was now : List ℕ) (slot : ℕ) (r : Result ℕ Stop) : Type 0 where
   pub holds : InSlot t z now slot r
   pub only : SlotOnly t.width was now slot
 
-abbrev pub ActsIn : (pack places : List ℕ) (action root : ℕ) (t : Table) (was now : List ℕ) (slot r : ℕ) → Type 0
+abbrev pub ActsIn : (pack places : List ℕ) (action root : ℕ) (t : Table) (was now : List ℕ) (slot : ℕ)
+    → Result ℕ Stop → Type 0
 ActsIn pack places action root t was now slot r =
     (p : Theory) (T : List Node) (actions triggers : ℕ) → Setting p T pack places actions triggers was t slot
     → action < actions → root < t.nodes
