@@ -1,9 +1,12 @@
 -- Bytes in range, one for each number, are what is read of a test and of an effect. Assumes nothing.
-use Prim.Native.Nat.{ℕ, ◌+◌, ◌-◌, ◌<◌, ◌≤◌}
-use mathlib.Core.Path.{◌≡◌, refl}
-use mathlib.Core.Bool.{true, false}
+use Prim.Native.Nat.{ℕ, zero, suc, ◌+◌, ◌-◌, ◌<◌, ◌≤◌}
+use mathlib.Core.Path.{◌≡◌, refl, ap, ◌∙◌}
+use mathlib.Core.Bool.{Bool, true, false}
 use mathlib.Core.List.{List}
 use native.Mathlib.Omega.{arith}
+use Rattle.std.proofs.Common.{sub-one}
+use Rattle.std.specs.Bool.{MatchBool}
+use Rattle.std.specs.List.{AllWithin}
 use lib.ListN.{length, get_or}
 use borrow.Author.Tests.{lt-ltb, le-ltb}
 use Rattle.pack.specs.Reading.{done, mapped, many}
@@ -12,7 +15,8 @@ use Rattle.pack.specs.Grammar.{test_at, effect_at}
 use Rattle.pack.specs.Duties.Said.{forget}
 use Rattle.pack.specs.Duties.Answer.{dims, claim_at}
 use Rattle.pack.specs.Laws.Accepts.{one}
-use Rattle.pack.specs.Laws.Runs.{many-forget, test_forget, effect_forget}
+use Rattle.pack.proofs.Slices.{part, part_long, part_at}
+use Rattle.pack.specs.Laws.Runs.{runs_none, many-forget, test_forget, effect_forget}
 
 -- a "no" promises nothing
 pub unsaid : {A : Type 0} → false ≡ true → A
@@ -29,6 +33,27 @@ byte_reads limit number s at v l e h k =
 pub chain_more : (C : ℕ) (s : List ℕ) (n left v : ℕ) → 0 < left → n < length s → get_or s n 0 ≡ v → v < C → v < 128
     → mapped forget (many (item C) left s n) ≡ mapped forget (many (item C) (left - 1) s (n + 1))
 chain_more C s n left v h l e i j = rw (many-forget (item C) left s n h, byte_reads C 4 s n v l e i j)
+
+-- a chain whose characters are in range
+pub chain_reads : (C : ℕ) (s : List ℕ) (left n : ℕ) → n + left ≤ length s
+    → ((k : ℕ) → k < left → (get_or s (n + k) 0 < C) × (get_or s (n + k) 0 < 128))
+    → mapped forget (many (item C) left s n) ≡ done tt (n + left)
+chain_reads C s zero n l f = runs_none _ _ _ _ _ _ _ (omega arith) ∙ ap (done tt) (omega arith)
+chain_reads C s (suc left) n l f =
+    let here = f 0 (omega arith) in
+    let same : n + 0 ≡ n = omega arith in
+    let rest = chain_reads C s left (n + 1) (omega arith) (λ k h. let e : (n + 1) + k ≡ n + (k + 1) = omega arith in let g = f (k + 1) (omega arith) in (rw e g.0, rw e g.1)) in
+    chain_more C s n (suc left) (get_or s n 0) (omega arith) (omega arith) refl (rw same at here.0) (rw same at here.1)
+    ∙ ap (λ (k : ℕ). mapped forget (many (item C) k s (n + 1))) (sub-one (suc left)) ∙ rest ∙ ap (done tt) (omega arith)
+
+-- what is asked of each byte of a slice holds at each place from its start on
+pub each_below : (Q : Type 0) (s : List ℕ) (at n m : ℕ) (r : Bool) → at + n ≤ length s
+    → MatchBool r (AllWithin (λ x. x < m) (part s at n) 0 (length (part s at n))) Q
+    → r ≡ true → (k : ℕ) → k < n → get_or s (at + k) 0 < m
+each_below Q s at n m true l w e k h =
+    let found = w k 0 (omega arith) (omega (arith, part_long s at n l)) in
+    rw (part_at s at n k h) at found
+each_below Q s at n m false l w e k h = unsaid e
 
 -- a fluent and one of its values
 pub claim_reads : (domains s : List ℕ) (at f v : ℕ) → at + 1 < length s → get_or s at 0 ≡ f → f < length domains → f < 128 → get_or s (at + 1) 0 ≡ v → v < get_or domains f 0 → v < 128

@@ -1,3 +1,4 @@
 pub mod InRange
+pub mod Slices
 pub mod Tests
 pub mod Turns

@@ -2,7 +2,7 @@
 use Rattle.std.proofs.Common.{ℕ, ◌≡◌, ap, ◌∙◌, Result, Ok, Err, IfOk, IsErr}
 use Rattle.std.proofs.lemmas.Result.{IfOk-from_err}
 use Rattle.pack.specs.Reading.{Reading, done, mapped}
-use Rattle.pack.specs.Duties.Said.{said, placed, passed_to}
+use Rattle.pack.specs.Duties.Said.{said, placed}
 use Rattle.pack.specs.declared.refusal.Flaw.{Flaw}
 
 -- a value that was handed out was read

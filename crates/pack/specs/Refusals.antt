@@ -2,7 +2,6 @@
 use Rattle.std.specs.Prelude.{ℕ, ◌+◌}
 use Rattle.pack.specs.declared.refusal.Fault.{Fault}
 use Rattle.pack.specs.declared.refusal.Fault.TheVariants.{Ends, Form, Limit, Absent, Blank, Order, After}
-use Rattle.pack.specs.declared.refusal.Flaw.{Flaw}
 use Rattle.pack.specs.declared.refusal.Refusal.{Refusal}
 use Rattle.pack.specs.declared.refusal.Refusal.TheVariants as why
 

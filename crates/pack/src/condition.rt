@@ -51,8 +51,8 @@ pub fn check_alternative<'a>(s: &[u8], at: usize, d: Dimensions<'a>) -> Result<u
         ≡ shown result }
 {
     check_counted(s, at, 9, |n| match plain_test(s, n, d.characters, d.domains) {
-        0 => check_test(s, n, d),
-        after => Ok(after),
+        Some(after) => Ok(after),
+        None => check_test(s, n, d),
     })
 }
 

@@ -8,10 +8,8 @@ pub fn copy_bytes(s: &[u8], from: usize, buffer: &mut [u8], to: usize, count: us
     requires { Copyable s.now from buffer.old to count less }
     ensures { Copied s.now from buffer.old buffer.new to count less }
 {
-    let mut i: usize = 0;
-    while i < count {
+    for i in 0..count {
         buffer[to + i] = s[from + i] - less;
-        i = i + 1;
     }
 }
 
@@ -48,13 +46,9 @@ pub fn copy_table(
 {
     buffer[base] = nodes as u8;
     let width = fluents + characters;
-    let mut i: usize = 0;
     let mut from = at;
-    let mut left = nodes;
-    while 0 < left {
+    for i in 0..nodes {
         copy_row(s, from, buffer, base + 1 + i * width, fluents, characters);
-        i = i + 1;
-        from = from + width;
-        left = left - 1;
+        from += width;
     }
 }

@@ -28,8 +28,8 @@ pub fn check_effects<'a>(s: &[u8], at: usize, d: Dimensions<'a>) -> Result<usize
         ≡ shown result }
 {
     check_counted(s, at, 17, |n| match plain_effect(s, n, d.characters, d.domains) {
-        0 => check_effect(s, n, d),
-        after => Ok(after),
+        Some(after) => Ok(after),
+        None => check_effect(s, n, d),
     })
 }
 

@@ -5,14 +5,12 @@ ghost use Rattle.pack.specs.Grammar.{effect_at, effects_at};
 ghost use Rattle.pack.specs.Duties.Judge.{Readable, Tells, Ends};
 ghost use Rattle.pack.specs.Duties.Effects.{asks, some_of};
 
-use crate::number::wide;
-
 // For whom an effect is meant: 0 for the state itself, c + 1 for what character c believes.
 pub fn whom_of(s: &[u8], at: usize) -> usize
     requires { Readable effect_at s.now at }
     ensures { Tells effect_at (λ (x : Effect). x.whom) s.now at result }
 {
-    wide(s[at])
+    usize::from(s[at])
 }
 
 // The fluent that an effect writes.
@@ -20,7 +18,7 @@ pub fn written_fluent(s: &[u8], at: usize) -> usize
     requires { Readable effect_at s.now at }
     ensures { Tells effect_at (λ (x : Effect). x.fluent) s.now at result }
 {
-    wide(s[at + 1])
+    usize::from(s[at + 1])
 }
 
 // The value that it writes.
@@ -64,13 +62,11 @@ pub fn some_effect(s: &[u8], at: usize, w: Wanted) -> bool
     ensures { Tells effects_at (some_of (asks w)) s.now at result }
 {
     let mut n = at + 1;
-    let mut left = wide(s[at]);
-    while 0 < left {
+    for _ in 0..s[at] {
         if is_wanted(s, n, w) {
             return true;
         }
         n = after_effect(s, n);
-        left = left - 1;
     }
     false
 }

@@ -10,7 +10,7 @@ ghost use Rattle.pack.specs.Condition.{compares, all_pass};
 ghost use Rattle.pack.specs.Duties.Table.{state_of};
 ghost use Rattle.pack.specs.Duties.Judge.{alternative_at, Small, Over, Readable, Judged};
 
-use crate::number::{read_number, wide};
+use crate::number::read_number;
 use crate::table::{Table, follow};
 use crate::test::after_test;
 
@@ -32,11 +32,10 @@ pub fn passes(s: &[u8], at: usize, buffer: &[u8], t: Table, node: usize) -> bool
     ensures { (d : Dimensions) → Over d t → (x : Test) (n : ℕ) → test_at d s.now at ≡ done x n
         → result ≡ Rattle.pack.specs.Condition.passes (state_of t buffer.now node) x }
 {
-    let count = wide(s[at]);
+    let count = usize::from(s[at]);
     let there = follow(s, at + 1, count, buffer, t, node);
     let n = at + 1 + count;
-    let row = t.rows + there * t.width;
-    relates(s[n], buffer[row + wide(s[n + 1])], s[n + 2])
+    relates(s[n], t.value(buffer, there, usize::from(s[n + 1])), s[n + 2])
 }
 
 // Whether all tests of an alternative hold.
@@ -46,15 +45,11 @@ pub fn all_pass(s: &[u8], at: usize, buffer: &[u8], t: Table, node: usize) -> bo
         → alternative_at d s.now at ≡ done ts n → result ≡ all_pass (state_of t buffer.now node) ts }
 {
     let mut n = at + 1;
-    let mut left = wide(s[at]);
-    while 0 < left {
-        let passed = passes(s, n, buffer, t, node);
-        if passed {
-            n = after_test(s, n);
-            left = left - 1;
-        } else {
+    for _ in 0..s[at] {
+        if !passes(s, n, buffer, t, node) {
             return false;
         }
+        n = after_test(s, n);
     }
     true
 }
@@ -66,10 +61,8 @@ pub fn after_alternative(s: &[u8], at: usize) -> usize
         → alternative_at d s.now at ≡ done ts n → result ≡ n }
 {
     let mut n = at + 1;
-    let mut left = wide(s[at]);
-    while 0 < left {
+    for _ in 0..s[at] {
         n = after_test(s, n);
-        left = left - 1;
     }
     n
 }
@@ -81,18 +74,16 @@ pub fn holds(s: &[u8], at: usize, buffer: &[u8], t: Table, node: usize) -> bool
         → condition_at d s.now at ≡ done c n
         → result ≡ Rattle.pack.specs.Condition.holds (state_of t buffer.now node) c }
 {
+    let count = s[at];
     let mut n = at + 1;
-    let mut left = wide(s[at]);
-    while 0 < left {
-        let met = all_pass(s, n, buffer, t, node);
-        if met {
+    for i in 0..count {
+        if all_pass(s, n, buffer, t, node) {
             return true;
         }
-        if left == 1 {
+        if i + 1 == count {
             return false;
         }
         n = after_alternative(s, n);
-        left = left - 1;
     }
     false
 }
@@ -104,10 +95,8 @@ pub fn after_condition(s: &[u8], at: usize) -> usize
         → condition_at d s.now at ≡ done c n → result ≡ n }
 {
     let mut n = at + 1;
-    let mut left = wide(s[at]);
-    while 0 < left {
+    for _ in 0..s[at] {
         n = after_alternative(s, n);
-        left = left - 1;
     }
     n
 }
@@ -119,27 +108,20 @@ pub fn utility(s: &[u8], at: usize, buffer: &[u8], t: Table, node: usize) -> usi
         → rules_at d s.now at ≡ done rules n
         → result ≡ Rattle.pack.specs.Condition.utility (state_of t buffer.now node) rules }
 {
+    let count = s[at];
     let mut n = at + 1;
-    let mut left = wide(s[at]);
-    while 0 < left {
+    for i in 0..count {
         let holding = holds(s, n, buffer, t, node);
-        if !holding {
-            if left < 2 {
-                return 0;
-            }
+        if !holding && i + 1 == count {
+            return 0;
         }
-        match read_number(s, after_condition(s, n)) {
-            Err(_) => {
-                return 0;
-            }
-            Ok((value, next)) => {
-                if holding {
-                    return value;
-                }
-                n = next;
-                left = left - 1;
-            }
+        let Ok((value, next)) = read_number(s, after_condition(s, n)) else {
+            return 0;
+        };
+        if holding {
+            return value;
         }
+        n = next;
     }
     0
 }

@@ -1,9 +1,7 @@
 // A table of states in a lent buffer, and where chains lead in it.
-ghost use Rattle.std.specs.Prelude.{◌<◌, ◌+◌, ◌≤◌, length, ◌≡◌};
-ghost use Rattle.pack.specs.State.{walk, Valid};
+ghost use Rattle.std.specs.Prelude.{◌<◌, ◌+◌, ◌≤◌, length, ◌≡◌, get_or};
+ghost use Rattle.pack.specs.State.{node, target, walk, Valid};
 ghost use Rattle.pack.specs.Duties.Table.{table_of, TableFits, bytes_at};
-
-use crate::number::wide;
 
 // Where the rows of a table begin, how many there are, and what each has: values, then beliefs.
 #[derive(Clone, Copy)]
@@ -15,6 +13,26 @@ pub struct Table {
     pub width: usize,
 }
 
+impl Table {
+    // The value of fluent f in node n.
+    #[inline]
+    pub fn value(self, buffer: &[u8], n: usize, f: usize) -> u8
+        requires { TableFits self buffer.now × (n < self.nodes) × (f < self.fluents) }
+        ensures { result ≡ get_or (node (table_of self buffer.now) n).values f 0 }
+    {
+        buffer[self.rows + n * self.width + f]
+    }
+
+    // The node that node n's belief for character c names.
+    #[inline]
+    pub fn belief(self, buffer: &[u8], n: usize, c: usize) -> usize
+        requires { TableFits self buffer.now × (n < self.nodes) × (c < self.characters) }
+        ensures { (result ≡ target (table_of self buffer.now) n c) × (result < self.nodes) }
+    {
+        usize::from(buffer[self.rows + n * self.width + self.fluents + c])
+    }
+}
+
 // The node where a chain leads: count characters, from a place on.
 pub fn follow(s: &[u8], at: usize, count: usize, buffer: &[u8], t: Table, node: usize) -> usize
     requires { TableFits t buffer.now × (node < t.nodes) × (at + count ≤ length s.now)
@@ -23,13 +41,8 @@ pub fn follow(s: &[u8], at: usize, count: usize, buffer: &[u8], t: Table, node: 
         × (result < t.nodes) }
 {
     let mut there = node;
-    let mut n = at;
-    let mut left = count;
-    while 0 < left {
-        let row = t.rows + there * t.width;
-        there = wide(buffer[row + t.fluents + wide(s[n])]);
-        n = n + 1;
-        left = left - 1;
+    for c in &s[at..at + count] {
+        there = t.belief(buffer, there, usize::from(*c));
     }
     there
 }

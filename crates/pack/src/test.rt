@@ -5,14 +5,12 @@ ghost use Rattle.pack.specs.Syntax.{Test};
 ghost use Rattle.pack.specs.Grammar.{kind_of, test_at};
 ghost use Rattle.pack.specs.Duties.Judge.{Readable, Tells, Ends};
 
-use crate::number::wide;
-
 // How many characters the chain of a test has.
 pub fn chain_of(s: &[u8], at: usize) -> usize
     requires { Readable test_at s.now at }
     ensures { Tells test_at (λ (x : Test). length x.chain) s.now at result }
 {
-    wide(s[at])
+    usize::from(s[at])
 }
 
 // The fluent that a test names.
@@ -20,8 +18,8 @@ pub fn fluent_of(s: &[u8], at: usize) -> usize
     requires { Readable test_at s.now at }
     ensures { Tells test_at (λ (x : Test). x.fluent) s.now at result }
 {
-    let n = wide(s[at]);
-    wide(s[at + 2 + n])
+    let n = usize::from(s[at]);
+    usize::from(s[at + 2 + n])
 }
 
 // The kind of a test, as a byte.
@@ -29,7 +27,7 @@ pub fn kind_of(s: &[u8], at: usize) -> u8
     requires { Readable test_at s.now at }
     ensures { (result < 3) × Tells test_at (λ (x : Test). x.kind) s.now at (kind_of result) }
 {
-    let n = wide(s[at]);
+    let n = usize::from(s[at]);
     s[at + 1 + n]
 }
 
@@ -38,7 +36,7 @@ pub fn tested_value(s: &[u8], at: usize) -> u8
     requires { Readable test_at s.now at }
     ensures { Tells test_at (λ (x : Test). x.value) s.now at result }
 {
-    let n = wide(s[at]);
+    let n = usize::from(s[at]);
     s[at + 3 + n]
 }
 
@@ -47,5 +45,5 @@ pub fn after_test(s: &[u8], at: usize) -> usize
     requires { Readable test_at s.now at }
     ensures { Ends test_at s.now at result }
 {
-    at + 4 + wide(s[at])
+    at + 4 + usize::from(s[at])
 }

@@ -6,15 +6,14 @@ ghost use Rattle.pack.specs.Duties.Judge.{Small, Readable};
 ghost use Rattle.pack.specs.Duties.Write.{Writable, EffectWritten, EffectsWritten};
 
 use crate::effects::after_effect;
-use crate::number::wide;
 
 // One effect: written where it is meant for whom.
 pub fn write_effect(s: &[u8], at: usize, whom: usize, buffer: &mut [u8], row: usize, fluents: usize)
     requires { Writable effect_at s.now at buffer.old row fluents }
     ensures { EffectWritten s.now at whom buffer.old buffer.new row fluents }
 {
-    if wide(s[at]) == whom {
-        let f = row + wide(s[at + 1]);
+    if usize::from(s[at]) == whom {
+        let f = row + usize::from(s[at + 1]);
         buffer[f] = s[at + 2];
     }
 }
@@ -32,11 +31,9 @@ pub fn write_effects(
     ensures { EffectsWritten s.now at whom buffer.old buffer.new row fluents }
 {
     let mut n = at + 1;
-    let mut left = wide(s[at]);
-    while 0 < left {
+    for _ in 0..s[at] {
         write_effect(s, n, whom, buffer, row, fluents);
         n = after_effect(s, n);
-        left = left - 1;
     }
 }
 
@@ -46,7 +43,7 @@ pub fn consenters(s: &[u8], at: usize) -> usize
     ensures { (d : Dimensions) → Small d → (cs : List ℕ) (n : ℕ)
         → consenters_at d s.now at ≡ done cs n → result ≡ length cs }
 {
-    wide(s[at])
+    usize::from(s[at])
 }
 
 // One of the consenters.
@@ -55,5 +52,5 @@ pub fn consenter(s: &[u8], at: usize, i: usize) -> usize
     ensures { (d : Dimensions) → Small d → (cs : List ℕ) (n : ℕ)
         → consenters_at d s.now at ≡ done cs n → result ≡ get_or cs i 0 }
 {
-    wide(s[at + 1 + i])
+    usize::from(s[at + 1 + i])
 }

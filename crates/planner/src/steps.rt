@@ -6,6 +6,7 @@ ghost use Rattle.planner.specs.Inner.Lists.{slot_table};
 ghost use Rattle.planner.specs.Inner.Memory.{Laid, steps_at, step_at, Before, Kept, Place, StepRead, StepPut};
 ghost use Rattle.planner.specs.Inner.Memory.{Noted, Slot, Again, LeftNoted, StepOnce, Unasked, Roomy};
 ghost use Rattle.planner.specs.Inner.Explain.{Steppable, Advances};
+ghost use Rattle.transition.specs.Duties.Play.{stop_of};
 ghost use Rattle.transition.specs.Duties.Stage.{scratch_at};
 
 use crate::intern::{has_overflowed, id_of, intern_slot, table_in};
@@ -16,6 +17,7 @@ use pack::number::wide;
 use pack::refusal::CONDITION;
 use pack::table::Table;
 use transition::step::{Move, step_slot};
+use transition::stop::Stop;
 
 // The place of the entry for an action in a row of the table of an id.
 pub fn step_at(p: Context, id: usize, root: usize, action: usize) -> usize
@@ -94,6 +96,16 @@ pub fn note_left(work: &mut [u8], p: Context, t: Table, root: usize, action: usi
     }
 }
 
+// The number of what a step hands back: 0 where nothing stops it.
+fn number_of(step: Result<(), Stop>) -> u8
+    ensures { stop_of step ≡ result }
+{
+    match step {
+        Ok(()) => 0,
+        Err(stop) => stop.number(),
+    }
+}
+
 // As `step_slot`, of what a row of the table in a slot means, into the next slot; it is copied where it is known.
 pub fn kept_step(
     pack: &[u8],
@@ -122,7 +134,7 @@ pub fn kept_step(
         action,
         triggers: p.triggers,
     };
-    let number = step_slot(pack, places, m, work, t, root, slot + p.stride);
+    let number = number_of(step_slot(pack, places, m, work, t, root, slot + p.stride));
     if number == 0 {
         note_left(work, p, t, root, action, slot + p.stride);
     } else {
@@ -175,7 +187,7 @@ pub fn plain_step(
         action,
         triggers: p.triggers,
     };
-    let number = step_slot(pack, places, m, work, t, root, next);
+    let number = number_of(step_slot(pack, places, m, work, t, root, next));
     work[p.memory + (next + 1) % SLOTS] = 0;
     number
 }

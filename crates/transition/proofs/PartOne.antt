@@ -11,6 +11,8 @@ use Rattle.pack.specs.State.{meaning}
 use Rattle.pack.specs.Duties.Answer.{dims}
 use Rattle.pack.specs.Duties.Contents.{ActionStands}
 use Rattle.pack.specs.declared.table.Table.{Table}
+use Rattle.transition.specs.declared.stop.Stop.{Stop}
+use Rattle.std.specs.Prelude.{Result}
 use Rattle.transition.specs.declared.change.Change.{Change}
 use Rattle.transition.specs.Happening.{nothing, action_of, observes, act}
 use Rattle.transition.specs.Duties.Cause.{told, EffectsAt, Telling}
@@ -87,6 +89,6 @@ module _ {p : Theory} {T : List Node} {pack places : List ℕ} {actions triggers
       root = inside;
     }
 
-    pub acted_in : {now : List ℕ} {r : ℕ} → Staged scene root t work now slot r → Acted (act A (meaning C T root)) t work now slot r
+    pub acted_in : {now : List ℕ} {r : Result ℕ Stop} → Staged scene root t work now slot r → Acted (act A (meaning C T root)) t work now slot r
     unfolding act
     acted_in s = record { holds = s.holds; only = s.only }

@@ -19,14 +19,16 @@ use Rattle.chart.specs.States.{AtMost}
 use Rattle.chart.specs.Laws.Counted.{counted}
 use Rattle.chart.specs.Laws.Unique.{ordered_reached, some}
 use Rattle.transition.specs.declared.change.Change.{Change}
+use Rattle.transition.specs.declared.stop.Stop.{Stop}
+use Rattle.std.specs.Prelude.{Result, Ok, Err}
 use Rattle.transition.specs.Happening.{Quiet, Settles, Stops, firing, fires, round}
 use Rattle.transition.specs.Laws.Quiet.{quiet}
 use Rattle.transition.specs.Laws.Settled.{Going, going_start, going_on}
 use Rattle.transition.specs.Duties.Cause.{Tabled}
 use Rattle.transition.specs.Inner.Change.{Scene, Stands}
 use Rattle.transition.specs.Inner.Fire.{Triggered, Firable, FiredBelow}
-use Rattle.transition.specs.Duties.Stage.{scratch_at, StageRoom, SlotOnly, InSlot, Staged}
-use Rattle.transition.specs.Duties.Play.{Theorized, Setting, Slotted, Left, SettledIn}
+use Rattle.transition.specs.Duties.Stage.{scratch_at, StageRoom, SlotOnly, RowsIn, InSlot, Staged}
+use Rattle.transition.specs.Duties.Play.{Theorized, Setting, Slotted, Left, SettledIn, number_of}
 use Rattle.transition.specs.Laws.ChangedRows.{small}
 use Rattle.transition.proofs.PartOne.{clash}
 use Rattle.transition.proofs.FiringTriggers.{fires_none}
@@ -61,8 +63,7 @@ pub record InRound (p : Theory) (s : State) (t : Table) (was now : List ℕ) (sl
   pub sum : left + rounds ≡ 16
   pub state : State
   pub going : Going p s left state
-  pub holds : InSlot t state now slot nodes
-  pub few : nodes ≤ 32
+  pub holds : RowsIn t state now slot nodes
   pub only : SlotOnly t.width was now slot
 
 -- the table in the slot
@@ -84,11 +85,10 @@ module _ {p : Theory} {T : List Node} {pack places : List ℕ} {actions triggers
     going = going_start p s₀;
     holds = record {
       some = x.tabled.some;
-      count = λ l. y.count;
-      starts = λ l. subst (λ (U : List Node). Starts t.characters s₀ U) (sym x.tabled.same ∙ ap (λ (a : ℕ). rows_at was t.width t.fluents t.characters a t.nodes) y.rows) (y.written, refl);
-      many = λ l. absurd (omega (arith, x.tabled.few));
+      few = x.tabled.few;
+      count = y.count;
+      starts = subst (λ (U : List Node). Starts t.characters s₀ U) (sym x.tabled.same ∙ ap (λ (a : ℕ). rows_at was t.width t.fluents t.characters a t.nodes) y.rows) (y.written, refl);
     };
-    few = x.tabled.few;
     only = only_none was slot;
   }
 
@@ -103,9 +103,9 @@ module _ {p : Theory} {T : List Node} {pack places : List ℕ} {actions triggers
     pub round_table : Tabled (dims p.characters p.domains) U now (table_in t slot nodes)
     round_table = record {
       over = record { small = x.tabled.over.small; characters = x.tabled.over.characters; fluents = x.tabled.over.fluents };
-      fits = record { wide = x.tabled.fits.wide; inside = omega (arith, slot_small nodes g.few, long, x.room.room); closed = (g.holds.starts g.few).0.ordered.closed };
+      fits = record { wide = x.tabled.fits.wide; inside = omega (arith, slot_small nodes g.holds.few, long, x.room.room); closed = g.holds.starts.0.ordered.closed };
       same = refl;
-      few = g.few;
+      few = g.holds.few;
       some = g.holds.some;
     }
 
@@ -113,29 +113,29 @@ module _ {p : Theory} {T : List Node} {pack places : List ℕ} {actions triggers
     round_firable = record { dimensions = dims p.characters p.domains; table = U; tabled = round_table; ts = p.triggers; triggered = theory_triggers x.theorized }
 
     pub round_slotted : Slotted U now (table_in t slot nodes) slot
-    round_slotted = record { count = g.holds.count g.few; rows = refl; written = (g.holds.starts g.few).0 }
+    round_slotted = record { count = g.holds.count; rows = refl; written = g.holds.starts.0 }
 
     starts_p : Starts p.characters g.state U
-    starts_p = subst (λ (c : ℕ). Starts c g.state U) same_characters (g.holds.starts g.few)
+    starts_p = subst (λ (c : ℕ). Starts c g.state U) same_characters g.holds.starts
 
     size : length U ≡ nodes
     size = rows_length now t.width t.fluents t.characters (slot + 1) nodes
 
     most : AtMost 32 p.characters g.state
-    most = at_most p g.state U starts_p (omega (arith, size, g.few))
+    most = at_most p g.state U starts_p (omega (arith, size, g.holds.few))
 
     -- nothing fires in any row
     pub round_still : ((m : ℕ) → m < nodes → firing p.triggers (meaning t.characters U m) ≡ Option.none) → SettledIn p s₀ t was now slot 0
     round_still idle = record {
-      settles = λ z. (g.state, g.going.settles g.state (Settles.still most (is_quiet p g.state U starts_p (omega (arith, size, g.few)) (λ i l. ap (λ (c : ℕ). firing p.triggers (meaning c U i)) (sym same_characters) ∙ idle i (omega (arith, size))))), left_now);
+      settles = λ z. (g.state, g.going.settles g.state (Settles.still most (is_quiet p g.state U starts_p (omega (arith, size, g.holds.few)) (λ i l. ap (λ (c : ℕ). firing p.triggers (meaning c U i)) (sym same_characters) ∙ idle i (omega (arith, size))))), left_now);
       stops = λ z. absurd (z refl);
       only = g.only;
     }
       where
         left_now : Left g.state t now slot
         left_now = record {
-          few = omega (arith, g.holds.count g.few, g.few);
-          starts = subst (λ (n : ℕ). Starts t.characters g.state (rows_at now t.width t.fluents t.characters (slot + 1) n)) (sym (g.holds.count g.few)) (g.holds.starts g.few);
+          few = omega (arith, g.holds.count, g.holds.few);
+          starts = subst (λ (n : ℕ). Starts t.characters g.state (rows_at now t.width t.fluents t.characters (slot + 1) n)) (sym g.holds.count) g.holds.starts;
         }
 
     -- since there are no triggers
@@ -149,7 +149,7 @@ module _ {p : Theory} {T : List Node} {pack places : List ℕ} {actions triggers
 
       module _ (e : any ≡ true) where
         loud : ¬ Quiet p g.state
-        loud = is_loud p g.state U starts_p (omega (arith, size, g.few)) (λ q. f.some e (λ i l. ap (λ (c : ℕ). firing p.triggers (meaning c U i)) same_characters ∙ q i (omega (arith, size))))
+        loud = is_loud p g.state U starts_p (omega (arith, size, g.holds.few)) (λ q. f.some e (λ i l. ap (λ (c : ℕ). firing p.triggers (meaning c U i)) same_characters ∙ q i (omega (arith, size))))
 
         pub round_last : rounds ≡ 16 → SettledIn p s₀ t was now slot 11
         round_last h = record {
@@ -171,32 +171,32 @@ module _ {p : Theory} {T : List Node} {pack places : List ℕ} {actions triggers
         round_stands l = record {
           tabled = round_table;
           effects_stand = λ m hm. (f.each m hm).effects;
-          long = omega (arith, l, g.few);
+          long = omega (arith, l, g.holds.few);
           observes = record { everyone = λ q z c. refl; few = omega arith; inside = λ h. absurd (h refl); condition = λ h c lc. absurd (h refl); stands = λ h c lc. absurd (h refl); judged = λ h c lc z. absurd (h refl) };
           kinds = record { edges = λ m d hm hd q. (omega (arith, small round_table), omega (arith, small round_table)); acts = λ m d hm hd q k. omega arith; apart = λ l. omega arith; keeps = λ m d hm hd q. clash refl q };
           root = g.holds.some;
         }
 
         pub round_room : StageRoom now (table_in t slot nodes) slot
-        round_room = record { source = slot_small nodes g.few; has_slot_room = x.room.has_slot_room; room = omega (arith, long, x.room.room) }
+        round_room = record { source = slot_small nodes g.holds.few; has_slot_room = x.room.has_slot_room; room = omega (arith, long, x.room.room) }
 
-        module _ {then : List ℕ} {r : ℕ} (st : Staged round_scene 0 (table_in t slot nodes) now then slot r) (h : rounds ≢ 16) (few : rounds ≤ 16) where
+        module _ {then : List ℕ} {r : Result ℕ Stop} (st : Staged round_scene 0 (table_in t slot nodes) now then slot r) (more : rounds < 16) where
           going : Going p s₀ (15 - rounds) (round p.triggers g.state)
           going = let e : g.left ≡ suc (15 - rounds) = omega (arith, g.sum) in going_on (subst (λ (k : ℕ). Going p s₀ k g.state) e g.going) most loud
 
           means : meaning t.characters U 0 ≡ g.state
-          means = (g.holds.starts g.few).1
+          means = g.holds.starts.1
 
           next : InSlot t (round p.triggers g.state) then slot r
           unfolding round
-          next = subst (λ (z : State). InSlot t (round p.triggers z) then slot r) means (record { some = st.holds.some; count = st.holds.count; starts = st.holds.starts; many = st.holds.many })
+          next = subst (λ (z : State). InSlot t (round p.triggers z) then slot r) means (record { rows = λ n e. let g = st.holds.rows n e in record { some = g.some; few = g.few; count = g.count; starts = g.starts }; many = st.holds.many })
 
-          pub round-many : 32 < r → SettledIn p s₀ t was then slot 12
-          round-many l = record {
+          pub round-many : {why : Stop} → r ≡ Err why → SettledIn p s₀ t was then slot (number_of why)
+          round-many {why} e = subst (λ (s : Stop). SettledIn p s₀ t was then slot (number_of s)) (sym (next.many why e).0) (record {
             settles = λ z. absurd (omega arith);
-            stops = λ z. going.stops 12 (Stops.many (λ a. next.many l (subst (λ (c : ℕ). AtMost 32 c (round p.triggers g.state)) (sym same_characters) a)));
+            stops = λ z. going.stops 12 (Stops.many (λ a. (next.many why e).1 (subst (λ (c : ℕ). AtMost 32 c (round p.triggers g.state)) (sym same_characters) a)));
             only = only_then g.only st.only;
-          }
+          })
 
-          pub round_next : r ≤ 32 → InRound p s₀ t was then slot r (rounds + 1)
-          round_next l = record { left = 15 - rounds; sum = omega arith; state = round p.triggers g.state; going = going; holds = next; few = l; only = only_then g.only st.only }
+          pub round_next : {n : ℕ} → r ≡ Ok n → InRound p s₀ t was then slot n (rounds + 1)
+          round_next {n} e = record { left = 15 - rounds; sum = omega arith; state = round p.triggers g.state; going = going; holds = next.rows n e; only = only_then g.only st.only }

@@ -25,6 +25,8 @@ use Rattle.chart.specs.Laws.Counted.{at_most}
 use Rattle.chart.specs.Laws.Unique.{ordered_reached, some}
 use Rattle.chart.specs.Laws.Cells.{cells_same, row_in, rows_node, rows_same, rows_most}
 use Rattle.chart.specs.Laws.MergedRows.{classed_apart}
+use Rattle.transition.specs.declared.stop.Stop.{Stop}
+use Rattle.std.specs.Prelude.{Result, Ok}
 use Rattle.transition.specs.declared.change.Change.{Change}
 use Rattle.transition.specs.Happening.{change}
 use Rattle.transition.specs.Laws.Changed as changed
@@ -36,7 +38,7 @@ use Rattle.transition.specs.Duties.Play.{Slotted, Acted}
 use Rattle.transition.specs.Inner.Round.{Silent, Caused, Rewritten, SlotTable, Everyone}
 use Rattle.transition.proofs.Effects.{untold_write}
 use Rattle.transition.specs.Laws.ChangedRows.{small}
-use Rattle.transition.proofs.Stages.{put_down}
+use Rattle.transition.proofs.Stages.{put_down, rows_in}
 use Rattle.transition.proofs.Rounds.{only_then}
 
 -- Tables with the same beliefs are ordered alike
@@ -190,14 +192,14 @@ module _ {was : List ℕ} {t : Table} {slot : ℕ} (p : SlotTable was t slot) wh
     slot_classed = (z.few few_classes).0
 
     -- each row is a class of its own: the table is written as it stands
-    pub slot_apart : n ≤ count → Acted (state_of t was 0) t was mid slot n
+    pub slot_apart : n ≤ count → Acted (state_of t was 0) t was mid slot (Ok n)
     slot_apart h = record {
-      holds = record {
+      holds = rows_in (record {
         some = p.some;
-        count = λ l. z.low slot (omega (arith, p.has_slot_room)) ∙ p.count;
-        starts = λ l. subst (λ (a : ℕ). Starts C (state_of t was 0) (rows_at mid w f C a n)) p.rows (classed_apart slot_classed (omega (arith, (z.few few_classes).1)), ap (λ (T : List Node). meaning C T 0) same_table);
-        many = λ l a. omega (arith, p.few);
-      };
+        few = p.few;
+        count = z.low slot (omega (arith, p.has_slot_room)) ∙ p.count;
+        starts = subst (λ (a : ℕ). Starts C (state_of t was 0) (rows_at mid w f C a n)) p.rows (classed_apart slot_classed (omega (arith, (z.few few_classes).1)), ap (λ (T : List Node). meaning C T 0) same_table);
+      });
       only = record { low = λ q l. z.low q (omega (arith, p.has_slot_room)); mid = λ q l k. z.low q (omega arith); high = λ q l. z.high q (omega (arith, p.few)) };
     }
 
@@ -210,12 +212,12 @@ module _ {was : List ℕ} {t : Table} {slot : ℕ} (p : SlotTable was t slot) wh
           let most : r ≤ 32 = omega (arith, o.few, p.few) in
           (omega (arith, rows_length now w f C 48192 r, some (rows_at now w f C 48192 r) o.written.ordered.whole), most, sized r most, within r most)
 
-      pub slot_done : {now' : List ℕ} → length now ≡ length was → PartCopied (set now slot r) now' 48192 (slot + 1) (r * w) → Acted (state_of t was 0) t was now' slot r
+      pub slot_done : {now' : List ℕ} → length now ≡ length was → PartCopied (set now slot r) now' 48192 (slot + 1) (r * w) → Acted (state_of t was 0) t was now' slot (Ok r)
       slot_done {now'} long c =
           let (pos, most, narrow, inside) = slot_few in
           let (holds, only) = put_down t was now now' p.wide p.has_slot_room (omega arith) (omega (arith, long, p.room)) pos most (o.written, o.means ∙ ap (λ (T : List Node). meaning C T 0) same_table)
           (λ q l. o.low q (omega arith) ∙ z.low q (omega arith)) (λ q l. o.high q (omega (arith, narrow)) ∙ z.high q (omega (arith, p.few))) c in
-          record { holds = holds; only = only }
+          record { holds = rows_in holds; only = only }
 
 -- A round in a slot
 module _ {s : Scene} {pack places effects was : List ℕ} {h : Change} {t : Table} (x : Stands s pack places effects h was t) where
@@ -250,7 +252,7 @@ module _ {s : Scene} {pack places effects was : List ℕ} {h : Change} {t : Tabl
       room = omega (arith, p.room);
     }
 
-    pub round_staged : Everyone h → ((m : ℕ) → m < t.nodes → Silent (s.causes (at s t.characters m))) → {now : List ℕ} {r : ℕ} → Acted (state_of t mid 0) t mid now slot r → Staged s h.root t was now slot r
+    pub round_staged : Everyone h → ((m : ℕ) → m < t.nodes → Silent (s.causes (at s t.characters m))) → {now : List ℕ} {r : Result ℕ Stop} → Acted (state_of t mid 0) t mid now slot r → Staged s h.root t was now slot r
     round_staged e quiet {now} {r} a = record {
       holds = subst (λ (z : State). InSlot t z now slot r) (rewritten_means round_caused g y.written.ordered (λ z c. x.observes.everyone e.all z c) quiet ∙ ap (λ (m : ℕ). change s.causes s.takes (at s t.characters m)) (sym e.root)) a.holds;
       only = only_then slot_only a.only;

@@ -25,25 +25,38 @@ use Rattle.chart.specs.Laws.Unique.{ordered_reached, some}
 use Rattle.chart.specs.Laws.Cells.{rows_same, rows_most}
 use Rattle.chart.specs.Laws.MergedRows.{classed_apart}
 use Rattle.chart.specs.Laws.Numbering.{pigeons}
+use Rattle.transition.specs.declared.stop.Stop.{Stop}
+use Rattle.transition.specs.declared.stop.Stop.TheVariants.{States}
+use Rattle.std.specs.Prelude.{Ok, Err}
 use Rattle.transition.specs.declared.change.Change.{Change}
 use Rattle.transition.specs.Happening.{change}
 use Rattle.transition.specs.Inner.Change.{Scene, Stands, at, Laid, ChangeMade}
-use Rattle.transition.specs.Duties.Stage.{slot_room, scratch_at, StageRoom, SlotOnly, InSlot, Staged}
+use Rattle.transition.specs.Duties.Stage.{slot_room, scratch_at, StageRoom, SlotOnly, RowsIn, InSlot, Staged}
 use Rattle.transition.specs.Laws.ChangedRows.{small}
+
+-- what a slot holds, as it is handed back
+pub rows_in : {t : Table} {z : State} {work : List ℕ} {slot n : ℕ} → RowsIn t z work slot n → InSlot t z work slot (Ok n)
+rows_in {t} {z} {work} {slot} r = record {
+  rows = λ m e. subst (RowsIn t z work slot) (let same : _ ≡ m = cc in same) r;
+  many = λ why e. absurd (cc);
+}
+
+pub many_in : {t : Table} {z : State} {work : List ℕ} {slot : ℕ} → (AtMost 32 t.characters z → ⊥) → InSlot t z work slot (Err States)
+many_in many = record { rows = λ m e. absurd (cc); many = λ why e. ((let same : States ≡ why = cc in sym same), many) }
 
 -- a written chart of r rows in the scratch, its count put into a slot and its rows copied down behind it
 pub put_down : (t : Table) (was now now' : List ℕ) {z : State} {slot from r : ℕ} → t.fluents + t.characters ≤ t.width → slot + slot_room t.width ≤ scratch_at → scratch_at ≤ from → work_room ≤ length now → 0 < r → r ≤ 32
     → Starts t.characters z (rows_at now t.width t.fluents t.characters from r) → Below was now scratch_at → Above was now work_room → PartCopied (set now slot r) now' from (slot + 1) (r * t.width)
-    → InSlot t z now' slot r × SlotOnly t.width was now' slot
+    → RowsIn t z now' slot r × SlotOnly t.width was now' slot
 put_down t was now now' {z} {slot} {from} {r} wide has_slot_room behind room some few starts below above c =
     let kept : (q : ℕ) → q ≢ slot → get_or (set now slot r) q 0 ≡ get_or now q 0 = λ q g. get_or-set_other now slot q r 0 g in
     let most : r * t.width ≤ 32 * t.width = mul-le-mul_right t.width few in
     let rows = rows_same now now' t.width t.fluents t.characters from (slot + 1) r wide (λ q l. c.part q l ∙ kept (from + q) (omega arith)) in (
       record {
         some = some;
-        count = λ g. c.low slot (omega arith) ∙ get_or-set_same now slot r 0 (omega arith);
-        starts = λ g. subst (Starts t.characters z) (sym rows) starts;
-        many = λ g a. omega arith;
+        few = few;
+        count = c.low slot (omega arith) ∙ get_or-set_same now slot r 0 (omega arith);
+        starts = subst (Starts t.characters z) (sym rows) starts;
       },
       record {
         low = λ q g. c.low q (omega arith) ∙ kept q (omega arith) ∙ below q (omega arith);
@@ -119,11 +132,11 @@ module _ {s : Scene} {pack places effects was : List ℕ} {h : Change} {t : Tabl
     some_rows = omega (arith, y.few, most)
 
     -- one row is a written chart as it stands
-    pub stage_one : k ≡ 1 → {now' : List ℕ} → PartCopied (set mid slot 1) now' 40756 (slot + 1) (1 * w) → Staged s h.root t was now' slot 1
+    pub stage_one : k ≡ 1 → {now' : List ℕ} → PartCopied (set mid slot 1) now' 40756 (slot + 1) (1 * w) → Staged s h.root t was now' slot (Ok 1)
     stage_one e {now'} c =
         let starts : Starts C made (rows_at mid w f C 40756 k) = (record { ordered = y.ordered; apart = λ i j a b q. omega (arith, a, b, e, rows_length mid w f C 40756 k) }, y.means) in
         let (holds, only) = put_down t was mid now' wide p.has_slot_room (omega arith) (omega (arith, long, p.room)) (omega arith) (omega arith) (subst (λ (k : ℕ). Starts C made (rows_at mid w f C 40756 k)) e starts) y.low (λ q l. y.high q (omega (arith, sized (t.nodes * 7 + 1) 225 most))) c in
-        record { holds = holds; only = only }
+        record { holds = rows_in holds; only = only }
 
     pub stage_levels : Levels mid k w f C 40756 47508 47736 47964
     stage_levels = record { few = omega (arith, some_rows); wide = wide; source = omega (arith, sized k 225 some_rows); new = omega (arith, some_rows); old = omega (arith, some_rows); leads = omega (arith, some_rows, p.room) }
@@ -139,9 +152,9 @@ module _ {s : Scene} {pack places effects was : List ℕ} {h : Change} {t : Tabl
       above : Above was mid' 48192
       above q l = z.high q (omega (arith, some_rows)) ∙ y.high q (omega (arith, sized (t.nodes * 7 + 1) 225 most))
 
-      pub stage_many : 32 < count → Staged s h.root t was mid' slot count
+      pub stage_many : 32 < count → Staged s h.root t was mid' slot (Err States)
       stage_many l = record {
-        holds = record { some = omega arith; count = λ g. absurd (omega arith); starts = λ g. absurd (omega arith); many = λ g a. z.many g (subst (AtMost 32 C) (sym means) a) };
+        holds = many_in (λ a. z.many l (subst (AtMost 32 C) (sym means) a));
         only = record { low = λ q g. below q (omega (arith, p.has_slot_room)); mid = λ q g k. below q k; high = λ q g. above q (omega arith) };
       }
 
@@ -157,10 +170,10 @@ module _ {s : Scene} {pack places effects was : List ℕ} {h : Change} {t : Tabl
           pub apart_inside : (k ≤ 32) × (slot + 1 + k * w ≤ scratch_at) × (40756 + k * w ≤ length mid')
           apart_inside = let l = sized k 32 (omega arith) in (omega arith, inside k (omega arith), omega (arith, l, long, long', p.room))
 
-          pub stage_apart : {now' : List ℕ} → PartCopied (set mid' slot k) now' 40756 (slot + 1) (k * w) → Staged s h.root t was now' slot k
+          pub stage_apart : {now' : List ℕ} → PartCopied (set mid' slot k) now' 40756 (slot + 1) (k * w) → Staged s h.root t was now' slot (Ok k)
           stage_apart {now'} c =
               let (holds, only) = put_down t was mid' now' wide p.has_slot_room (omega arith) (omega (arith, long, long', p.room)) y.some apart_inside.0 (classed_apart stage_classed (omega (arith, (z.few few).1)), means) below (λ q l. above q (omega arith)) c in
-              record { holds = holds; only = only }
+              record { holds = rows_in holds; only = only }
 
         module _ {now : List ℕ} {r : ℕ} (o : WrittenOut mid' now k w f C 40756 48192 r) where
           pub stage_few : (0 < r) × (r ≤ 32)
@@ -177,8 +190,8 @@ module _ {s : Scene} {pack places effects was : List ℕ} {h : Change} {t : Tabl
           pub stage_inside : (48192 + r * w ≤ 49152) × (slot + 1 + r * w ≤ scratch_at) × (49152 ≤ length was)
           stage_inside = (omega (arith, sized r 32 stage_few.1), inside r stage_few.1, omega (arith, p.room))
 
-          pub stage_done : {now' : List ℕ} → length now ≡ length was → PartCopied (set now slot r) now' 48192 (slot + 1) (r * w) → Staged s h.root t was now' slot r
+          pub stage_done : {now' : List ℕ} → length now ≡ length was → PartCopied (set now slot r) now' 48192 (slot + 1) (r * w) → Staged s h.root t was now' slot (Ok r)
           stage_done {now'} size c =
               let (some, most) = stage_few in
               let (holds, only) = put_down t was now now' wide p.has_slot_room (omega arith) (omega (arith, size, p.room)) some most (o.written, o.means ∙ means) (λ q l. o.low q (omega arith) ∙ below q l) (λ q l. o.high q (omega (arith, sized r 32 most)) ∙ above q (omega arith)) c in
-              record { holds = holds; only = only }
+              record { holds = rows_in holds; only = only }

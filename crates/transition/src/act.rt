@@ -6,6 +6,7 @@ ghost use Rattle.transition.specs.Duties.Play.{Untold, Actable, ActsIn};
 use crate::cause::tells;
 use crate::change::Change;
 use crate::stage::stage;
+use crate::stop::Stop;
 use pack::places::{ACTION, EFFECTS, OBSERVED};
 use pack::table::Table;
 
@@ -24,7 +25,7 @@ pub fn lowest_untold(pack: &[u8], at: usize, characters: usize) -> usize
     7
 }
 
-// Part 1 of an action in what a row of a table means, into a slot; how many states that leaves, or more than 32.
+// Part 1 of an action in what a row of a table means, into a slot; how many states that leaves.
 pub fn act(
     pack: &[u8],
     places: &[u16],
@@ -33,7 +34,7 @@ pub fn act(
     t: Table,
     root: usize,
     slot: usize,
-) -> usize
+) -> Result<usize, Stop>
     requires { Actable pack.now places.now action work.old t root slot }
     ensures { ActsIn pack.now places.now action root t work.old
         work.new slot result }

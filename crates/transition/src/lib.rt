@@ -12,3 +12,4 @@ pub mod round;
 pub mod settle;
 pub mod stage;
 pub mod step;
+pub mod stop;

@@ -47,10 +47,9 @@ pub fn play(
         characters: n.characters,
         width,
     };
-    let number = step_slot(pack, places, m, work, t, 0, SLOT);
-    if number != 0 {
+    if let Err(stop) = step_slot(pack, places, m, work, t, 0, SLOT) {
         clear(work, 0, WORK_ROOM);
-        return Charted::Refused(number, 0);
+        return Charted::Refused(stop.number(), 0);
     }
     let rows = wide(work[SLOT]);
     let left = Table {

@@ -1,6 +1,6 @@
 // A round of triggers in a slot. Where it tells nobody anything, every belief stays where it was: the values change in
 // place, and rows that have become the same are merged.
-ghost use Rattle.std.specs.Prelude.{◌≡◌, true, ℕ, ◌<◌, ◌≤◌, length, get_or};
+ghost use Rattle.std.specs.Prelude.{◌≡◌, true, ℕ, ◌<◌, ◌≤◌, length, get_or, Ok};
 ghost use Rattle.pack.specs.Duties.Table.{table_of, state_of};
 ghost use Rattle.transition.specs.Duties.Cause.{Telling, OfEffects};
 ghost use Rattle.transition.specs.Inner.Change.{Scene, Scened, InScene};
@@ -12,6 +12,7 @@ use crate::cause::write_told;
 use crate::change::Change;
 use crate::regions::{CLASSES, FIRSTS, LEVEL, MERGED};
 use crate::stage::{put_down, stage};
+use crate::stop::Stop;
 use chart::merge::write_merged;
 use chart::partition::partition;
 use chart::values::Regions;
@@ -72,7 +73,7 @@ pub fn rewrite(pack: &[u8], effects: &[u16], work: &mut [u8], t: Table)
 // Merges the rows of the table in a slot, where two of them mean the same; how many are left.
 pub fn merge_slot(work: &mut [u8], t: Table, slot: usize) -> usize
     requires { SlotTable work.old t slot }
-    ensures { Acted (state_of t work.old 0) t work.old work.new slot result }
+    ensures { Acted (state_of t work.old 0) t work.old work.new slot (Ok result) }
 {
     let regions = Regions {
         level: LEVEL,
@@ -89,7 +90,7 @@ pub fn merge_slot(work: &mut [u8], t: Table, slot: usize) -> usize
 }
 
 // The round in which these effects take place in the rows of the table in a slot, everyone taking part; how many rows
-// it leaves, or more than 32.
+// it leaves.
 pub fn round(
     pack: &[u8],
     places: &[u16],
@@ -97,7 +98,7 @@ pub fn round(
     h: Change,
     work: &mut [u8],
     slot: usize,
-) -> usize
+) -> Result<usize, Stop>
     requires { Scened pack.now places.now effects.now h work.old × StageRoom work.old h.table slot
         × Everyone h × Slotted (table_of h.table work.old) work.old h.table slot }
     ensures { InScene pack.now places.now effects.now h work.old
@@ -108,5 +109,5 @@ pub fn round(
         return stage(pack, places, effects, h, work, slot);
     }
     rewrite(pack, effects, work, t);
-    merge_slot(work, t, slot)
+    Ok(merge_slot(work, t, slot))
 }

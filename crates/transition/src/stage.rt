@@ -7,6 +7,7 @@ ghost use Rattle.transition.specs.Duties.Stage.{StageRoom, Staged, scratch_at};
 
 use crate::change::{Change, change_table};
 use crate::regions::{CLASSES, FIRSTS, LEVEL, MADE, MERGED};
+use crate::stop::Stop;
 use chart::bytes::copy_part;
 use chart::merge::write_merged;
 use chart::partition::partition;
@@ -23,8 +24,8 @@ pub fn put_down(work: &mut [u8], from: usize, n: usize, w: usize, slot: usize)
     copy_part(work, from, slot + 1, n * w);
 }
 
-// Puts the table of what happens, merged, into the slot at `slot`. How many rows that is, or more than 32, and then the
-// slot is as it was.
+// Puts the table of what happens, merged, into the slot at `slot`, and says how many rows that is. Where there are over
+// 32 states the slot stays as it was.
 pub fn stage(
     pack: &[u8],
     places: &[u16],
@@ -32,7 +33,7 @@ pub fn stage(
     h: Change,
     work: &mut [u8],
     slot: usize,
-) -> usize
+) -> Result<usize, Stop>
     requires { Scened pack.now places.now effects.now h work.old × StageRoom work.old h.table slot }
     ensures { InScene pack.now places.now effects.now h work.old
         (λ s. Staged s h.root h.table work.old work.new slot result) }
@@ -41,14 +42,12 @@ pub fn stage(
     let rows = change_table(pack, places, effects, h, work);
     if rows == 1 {
         put_down(work, MADE, 1, t.width, slot);
-        return 1;
+        return Ok(1);
     }
     let made = Table {
         rows: MADE,
         nodes: rows,
-        fluents: t.fluents,
-        characters: t.characters,
-        width: t.width,
+        ..t
     };
     let regions = Regions {
         level: LEVEL,
@@ -57,13 +56,13 @@ pub fn stage(
     };
     let classes = partition(work, made, regions, 32);
     if 32 < classes {
-        return classes;
+        return Err(Stop::States);
     }
     if rows <= classes {
         put_down(work, MADE, rows, t.width, slot);
-        return rows;
+        return Ok(rows);
     }
     let count = write_merged(work, made, CLASSES, MERGED);
     put_down(work, MERGED, count, t.width, slot);
-    count
+    Ok(count)
 }

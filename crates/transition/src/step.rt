@@ -6,9 +6,9 @@ ghost use Rattle.transition.specs.Duties.Play.{Playable, PlaysIn};
 
 use crate::act::act;
 use crate::settle::settle;
+use crate::stop::Stop;
 use pack::judge::holds;
 use pack::places::ACTION;
-use pack::refusal::{CONDITION, STATES};
 use pack::table::Table;
 
 // An action, and how many triggers there are that may fire after it.
@@ -18,7 +18,7 @@ pub struct Move {
     pub triggers: usize,
 }
 
-// Plays an action in what a row of a table means, into a slot: 0, or 10, 11 or 12.
+// Plays an action in what a row of a table means, into a slot, or says what stops it.
 pub fn step_slot(
     pack: &[u8],
     places: &[u16],
@@ -27,25 +27,19 @@ pub fn step_slot(
     t: Table,
     root: usize,
     slot: usize,
-) -> u8
+) -> Result<(), Stop>
     requires { Playable pack.now places.now m.triggers m.action work.old t root slot }
     ensures { PlaysIn pack.now places.now m.triggers m.action root t
         work.old work.new slot result }
 {
-    let may = holds(pack, places[ACTION * m.action] as usize, work, t, root);
-    if !may {
-        return CONDITION;
+    if !holds(pack, places[ACTION * m.action] as usize, work, t, root) {
+        return Err(Stop::Condition);
     }
-    let nodes = act(pack, places, m.action, work, t, root, slot);
-    if 32 < nodes {
-        return STATES;
-    }
+    let nodes = act(pack, places, m.action, work, t, root, slot)?;
     let left = Table {
         rows: slot + 1,
         nodes,
-        fluents: t.fluents,
-        characters: t.characters,
-        width: t.width,
+        ..t
     };
     settle(pack, places, m.triggers, work, left, slot)
 }

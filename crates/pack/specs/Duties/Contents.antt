@@ -3,7 +3,7 @@
 -- author and of each character from 320 on.
 use Rattle.std.specs.Prelude.{ℕ, ◌+◌, ◌*◌, ◌<◌, ◌≤◌, ◌≡◌, List, [], length, get_or, Result, IfOk}
 use Rattle.pack.specs.Syntax.{Action, Trigger, Theory, Pack}
-use Rattle.pack.specs.Reading.{done, Reader, bind, mapped, many, Reply, gives, refuses, told}
+use Rattle.pack.specs.Reading.{done, Reader, bind, mapped, many, gives, told}
 use Rattle.pack.specs.Grammar.{Dimensions, node_at, nodes_at, pack_at, condition_at}
 use Rattle.pack.specs.Grammar.{effects_at, consenters_at, rules_at, theory_at, pack_of}
 use Rattle.pack.specs.Duties.Said.{said, forget, replied}

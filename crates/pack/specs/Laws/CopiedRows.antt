@@ -250,6 +250,17 @@ rowing_next d F C sized s from nodes left a i was now t end few x c =
           ∙ append_assoc (rows_at was (F + C) F C a i) (x.item ∷ []) x.rest ∙ x.same;
     }
 
+-- the same, counted up: behind row i are the nodes from i + 1 on
+pub rowing_after : (d : Dimensions) (F C : ℕ) → Shaped d F C
+    → (s : List ℕ) (from nodes a i : ℕ) (was now : List ℕ) (t : List Node) (end : ℕ) → nodes ≤ 32
+    → (x : NextRow d s from nodes (nodes - i) (rows_at was (F + C) F C a i) t end)
+    → RowCopied s from was now (a + i * (F + C)) F C
+    → Rowing d s (from + (F + C)) nodes (nodes - (i + 1)) (rows_at now (F + C) F C a (i + 1)) t end
+rowing_after d F C sized s from nodes a i was now t end few x c =
+    let less : (nodes - i) - 1 ≡ nodes - (i + 1) = omega arith in
+    subst (λ (k : ℕ). Rowing d s (from + (F + C)) nodes k (rows_at now (F + C) F C a (i + 1)) t end) less
+    (rowing_next d F C sized s from nodes (nodes - i) a i was now t end few x c)
+
 pub rowing_none : (d : Dimensions) (s : List ℕ) (from nodes left : ℕ) (rows t : List Node) (end : ℕ)
     → Rowing d s from nodes left rows t end → left ≤ 0 → rows ≡ t
 unfolding runs

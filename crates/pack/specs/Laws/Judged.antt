@@ -97,6 +97,13 @@ module _ {A B : Type 0} (p : Reader A) (s : List ℕ) (f : List A → B) (xs : L
   left_next n left x m e g =
       record { rest = x.rest; reads = ap (many p (left - 1) s) (sym e) ∙ x.more; same = x.same ∙ g }
 
+  -- the same, counted up: behind thing i of count things are those from i + 1 on
+  pub left_after : (n i count : ℕ) (x : Next p s n (count - i) f xs end) (m : ℕ) → x.place ≡ m
+      → f (x.item ∷ x.rest) ≡ f x.rest → Left p s m (count - (i + 1)) f xs end
+  left_after n i count x m e g =
+      let less : (count - i) - 1 ≡ count - (i + 1) = omega arith in
+      subst (λ (k : ℕ). Left p s m k f xs end) less (left_next n (count - i) x m e g)
+
   pub left_none : (n left : ℕ) → Left p s n left f xs end → left ≤ 0 → f xs ≡ f []
   unfolding runs
   left_none n zero l h = l.same ∙ ap f (sym (same_value l.reads))
@@ -122,6 +129,14 @@ counted_starts limit p s at xs end h e k q =
       ap (λ (v : ℕ). many p v s (at + 1)) (sym q ∙ o.value) ∙ ap (many p b.value s) (sym o.next) ∙ b.right,
       o.inside,
     )
+
+-- before its first thing all of a counted run is left
+pub counted_left : {A B : Type 0} (limit : ℕ) (p : Reader A) (s : List ℕ) (at : ℕ) (f : List A → B) (xs : List A)
+    (end : ℕ) → limit ≤ 128 → counted 0 limit p s at ≡ done xs end
+    → Left p s (at + 1) (get_or s at 0 - 0) f xs end
+counted_left limit p s at f xs end h e =
+    let all : get_or s at 0 ≡ get_or s at 0 - 0 = omega arith in
+    left_start p s f xs end _ _ (counted_starts limit p s at xs end h e _ all).0
 
 -- one test more
 pub all_next : (σ : State) (x : Test) (rest : List Test) → passes σ x ≡ true → all_pass σ (x ∷ rest) ≡ all_pass σ rest

@@ -126,6 +126,13 @@ module _ {A : Type 0} (makes : List Effect → A → A) (d : Dimensions) (s : Li
         same = x.same ∙ g;
       }
 
+  -- the same, counted up: behind effect i of count effects are those from i + 1 on
+  pub owed_after : (n i count : ℕ) (v b : A) (end : ℕ) (x : Due n (count - i) v b end) (m : ℕ) (now : A)
+      → x.place ≡ m → makes (x.item ∷ x.rest) v ≡ makes x.rest now → Owed m (count - (i + 1)) now b end
+  owed_after n i count v b end x m now e g =
+      let less : (count - i) - 1 ≡ count - (i + 1) = omega arith in
+      subst (λ (k : ℕ). Owed m k now b end) less (owed_next n (count - i) v b end x m now e g)
+
   pub owed_none : (n left : ℕ) (v b : A) (end : ℕ) → Owed n left v b end → left ≤ 0 → makes [] v ≡ v → b ≡ v
   unfolding runs
   owed_none n zero v b end l h nil =

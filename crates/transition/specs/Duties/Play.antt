@@ -1,5 +1,5 @@
 -- An action and the rounds after it, in a slot of the work buffer. Assumes nothing.
-use Rattle.std.specs.Prelude.{◌≡◌, true, false, ◌⊎◌, ◌≢◌, List, ℕ, suc, ◌+◌, ◌<◌, ◌≤◌, length, get_or}
+use Rattle.std.specs.Prelude.{◌≡◌, true, false, ◌⊎◌, ◌≢◌, List, ℕ, suc, ◌+◌, ◌<◌, ◌≤◌, length, get_or, Result, Ok, Err}
 use Rattle.pack.specs.Syntax.{Effect, Node, Theory}
 use Rattle.pack.specs.State.{State, meaning}
 use Rattle.pack.specs.Grammar.{longest_pack}
@@ -10,6 +10,8 @@ use Rattle.pack.specs.Duties.Places.{places_room}
 use Rattle.pack.specs.Duties.Table.{rows_at}
 use Rattle.pack.specs.declared.table.Table.{Table}
 use Rattle.chart.specs.Chart.{Written, Starts}
+use Rattle.transition.specs.declared.stop.Stop.{Stop}
+use Rattle.transition.specs.declared.stop.Stop.TheVariants.{Condition, Rounds, States}
 use Rattle.transition.specs.Happening.{act, action_of, Settles, Stops, Plays, Refuses}
 use Rattle.transition.specs.Duties.Cause.{told, Tabled}
 use Rattle.transition.specs.Duties.Stage.{StageRoom, SlotOnly, InSlot}
@@ -56,11 +58,12 @@ Settleable pack places triggers work t slot =
     × ((actions : ℕ) × (Setting p T pack places actions triggers work t slot × Slotted T work t slot)))
 
 -- part 1 is in the slot, or leaves more than 32 states
-pub record Acted (z : State) (t : Table) (was now : List ℕ) (slot r : ℕ) : Type 0 where
+pub record Acted (z : State) (t : Table) (was now : List ℕ) (slot : ℕ) (r : Result ℕ Stop) : Type 0 where
   pub holds : InSlot t z now slot r
   pub only : SlotOnly t.width was now slot
 
-abbrev pub ActsIn : (pack places : List ℕ) (action root : ℕ) (t : Table) (was now : List ℕ) (slot r : ℕ) → Type 0
+abbrev pub ActsIn : (pack places : List ℕ) (action root : ℕ) (t : Table) (was now : List ℕ) (slot : ℕ)
+    → Result ℕ Stop → Type 0
 ActsIn pack places action root t was now slot r =
     (p : Theory) (T : List Node) (actions triggers : ℕ) → Setting p T pack places actions triggers was t slot
     → action < actions → root < t.nodes
@@ -72,17 +75,29 @@ pub record Left (s : State) (t : Table) (work : List ℕ) (slot : ℕ) : Type 0 
   pub starts : Starts t.characters s
       (rows_at work t.width t.fluents t.characters (slot + 1) (get_or work slot 0))
 
+-- "10 | action's condition fails", "11 | a trigger holds after round 16", "12 | over 32 different states"
+abbrev pub number_of : Stop → ℕ
+number_of Condition = 10
+number_of Rounds = 11
+number_of States = 12
+
+-- the number of what a step hands back: 0 where nothing stops it
+abbrev pub stop_of : Result (Unit {0}) Stop → ℕ
+stop_of (Ok done) = 0
+stop_of (Err why) = number_of why
+
 -- it settles in what the slot holds, or stops
 pub record SettledIn (p : Theory) (z : State) (t : Table) (was now : List ℕ) (slot r : ℕ) : Type 0 where
   pub settles : r ≡ 0 → (s : State) × Settles p 16 z s × Left s t now slot
   pub stops : r ≢ 0 → Stops p 16 z r
   pub only : SlotOnly t.width was now slot
 
-abbrev pub SettlesIn : (pack places : List ℕ) (triggers : ℕ) (t : Table) (was now : List ℕ) (slot r : ℕ) → Type 0
+abbrev pub SettlesIn : (pack places : List ℕ) (triggers : ℕ) (t : Table) (was now : List ℕ) (slot : ℕ)
+    → Result (Unit {0}) Stop → Type 0
 SettlesIn pack places triggers t was now slot r =
     (p : Theory) (T : List Node) (actions : ℕ) → Setting p T pack places actions triggers was t slot
     → Slotted T was t slot
-    → SettledIn p (meaning t.characters T 0) t was now slot r
+    → SettledIn p (meaning t.characters T 0) t was now slot (stop_of r)
 
 -- it plays, and the slot holds what it leaves, or it is refused
 pub record PlayedIn (p : Theory) (z : State) (a : ℕ) (t : Table) (was now : List ℕ) (slot r : ℕ) : Type 0 where
@@ -90,9 +105,9 @@ pub record PlayedIn (p : Theory) (z : State) (a : ℕ) (t : Table) (was now : Li
   pub refuses : r ≢ 0 → Refuses p z a r
   pub only : SlotOnly t.width was now slot
 
-abbrev pub PlaysIn : (pack places : List ℕ) (triggers action root : ℕ) (t : Table) (was now : List ℕ) (slot r : ℕ)
-    → Type 0
+abbrev pub PlaysIn : (pack places : List ℕ) (triggers action root : ℕ) (t : Table) (was now : List ℕ) (slot : ℕ)
+    → Result (Unit {0}) Stop → Type 0
 PlaysIn pack places triggers action root t was now slot r =
     (p : Theory) (T : List Node) (actions : ℕ) → Setting p T pack places actions triggers was t slot → action < actions
     → root < t.nodes
-    → PlayedIn p (meaning t.characters T root) action t was now slot r
+    → PlayedIn p (meaning t.characters T root) action t was now slot (stop_of r)

@@ -1,12 +1,14 @@
 -- A stage of Step in the work buffer: slots below 40,304, each as wide as its table needs, and the stage's scratch from
 -- there on. Assumes nothing.
-use Rattle.std.specs.Prelude.{◌≡◌, List, ℕ, ◌+◌, ◌*◌, ◌<◌, ◌≤◌, length, get_or}
+use Rattle.std.specs.Prelude.{◌≡◌, List, ℕ, ◌+◌, ◌*◌, ◌<◌, ◌≤◌, length, get_or, Result, Ok, Err}
 use Rattle.pack.specs.Duties.Table.{rows_at, Below, Above, Between}
 use Rattle.pack.specs.declared.table.Table.{Table}
 use Rattle.chart.specs.Call.{work_room}
 use Rattle.chart.specs.Chart.{Starts}
 use Rattle.chart.specs.States.{AtMost}
 use Rattle.pack.specs.State.{State}
+use Rattle.transition.specs.declared.stop.Stop.{Stop}
+use Rattle.transition.specs.declared.stop.Stop.TheVariants.{States}
 use Rattle.transition.specs.Happening.{change}
 use Rattle.transition.specs.Inner.Change.{Scene, at}
 
@@ -34,13 +36,18 @@ pub record SlotOnly (w : ℕ) (was now : List ℕ) (slot : ℕ) : Type 0 where
   pub mid : Between was now (slot + slot_room w) scratch_at
   pub high : Above was now work_room
 
--- in the slot stands the written chart of z, r rows and their count; or z has more than 32 states
-pub record InSlot (t : Table) (z : State) (work : List ℕ) (slot r : ℕ) : Type 0 where
-  pub some : 0 < r
-  pub count : r ≤ 32 → get_or work slot 0 ≡ r
-  pub starts : r ≤ 32 → Starts t.characters z (rows_at work t.width t.fluents t.characters (slot + 1) r)
-  pub many : 32 < r → AtMost 32 t.characters z → ⊥
+-- in the slot stands the written chart of z, n rows and their count
+pub record RowsIn (t : Table) (z : State) (work : List ℕ) (slot n : ℕ) : Type 0 where
+  pub some : 0 < n
+  pub few : n ≤ 32
+  pub count : get_or work slot 0 ≡ n
+  pub starts : Starts t.characters z (rows_at work t.width t.fluents t.characters (slot + 1) n)
 
-pub record Staged (s : Scene) (root : ℕ) (t : Table) (was now : List ℕ) (slot r : ℕ) : Type 0 where
+-- so many rows of it stand there, or z has more than 32 states
+pub record InSlot (t : Table) (z : State) (work : List ℕ) (slot : ℕ) (r : Result ℕ Stop) : Type 0 where
+  pub rows : (n : ℕ) → r ≡ Ok n → RowsIn t z work slot n
+  pub many : (why : Stop) → r ≡ Err why → (why ≡ States) × (AtMost 32 t.characters z → ⊥)
+
+pub record Staged (s : Scene) (root : ℕ) (t : Table) (was now : List ℕ) (slot : ℕ) (r : Result ℕ Stop) : Type 0 where
   pub holds : InSlot t (change s.causes s.takes (at s t.characters root)) now slot r
   pub only : SlotOnly t.width was now slot

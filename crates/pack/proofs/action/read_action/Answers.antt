@@ -1,8 +1,7 @@
 -- Each part ends where the next begins, and each place is marked. Assumes nothing.
-use Rattle.std.proofs.Common.{rules, arith, ap, ◌+◌, ◌∙◌, length-set}
+use Rattle.std.proofs.Common.{rules, arith, ap, ◌∙◌, length-set}
 use Rattle.std.proofs.lemmas.Result.{IfOk-from_err}
-use Rattle.pack.specs.Duties.Places.{Within, Marked, ActionParts}
-use Rattle.pack.specs.Grammar.{condition_at}
+use Rattle.pack.specs.Duties.Places.{ActionParts}
 use Rattle.pack.specs.Duties.Said.{shown}
 use Rattle.pack.specs.Duties.Answer.{dims}
 use Rattle.pack.specs.Laws.Marks.{first_one, first_two, first_three, kept_one, kept_two, kept_three, action_first, action_kept, action_parts, if_ok_map}

@@ -1,5 +1,5 @@
 -- Those that are read are marked, with their parts, and what is left tells what the whole tells. Assumes nothing.
-use Rattle.std.proofs.Common.{rules, arith, refl, ap, ◌+◌, ◌*◌, ◌∙◌}
+use Rattle.std.proofs.Common.{rules, arith, refl, ap, ◌*◌, ◌∙◌}
 use Rattle.std.proofs.lemmas.Result.{IfOk-from_err}
 use Rattle.pack.specs.Duties.Places.{ActionParts}
 use Rattle.pack.specs.Duties.Said.{said, shown}

@@ -1,5 +1,5 @@
 -- Those that are read are marked, with their parts, and what is left tells what the whole tells. Assumes nothing.
-use Rattle.std.proofs.Common.{ℕ, ◌+◌, ◌*◌, ◌<◌, ◌≡◌, length}
+use Rattle.std.proofs.Common.{ℕ, ◌*◌, ◌<◌, ◌≡◌, length}
 use Rattle.pack.specs.Duties.Places.{ActionParts}
 use Rattle.pack.specs.Grammar.{action_at}
 use Rattle.pack.specs.Duties.Answer.{dims}

@@ -1,9 +1,7 @@
 -- The conditions that are read are marked, and what is left tells what the whole tells. Assumes nothing.
 use Rattle.std.proofs.Common.{rules, arith, refl, ap, ◌+◌, ◌∙◌, length-set}
 use Rattle.std.proofs.lemmas.Result.{IfOk-from_err}
-use Rattle.pack.specs.Grammar.{condition_at}
 use Rattle.pack.specs.Duties.Said.{shown}
-use Rattle.pack.specs.Duties.Answer.{dims}
 use Rattle.pack.specs.Laws.Marks.{marking_start, marking_set, marking_within, marking_refused, marking_whole, marking_all, set_below}
 use Rattle.pack.specs.Laws.Bounded.{condition_bounded}
 use Rattle.pack.proofs.action.read_observed.Goals as goal

@@ -1,6 +1,6 @@
 -- Version, characters and fluents are read each behind the one before it, and the domain sizes behind these. Assumes
 -- nothing.
-use Rattle.std.proofs.Common.{rules, arith, ap, sym, ◌∙◌}
+use Rattle.std.proofs.Common.{rules, arith, ap, ◌∙◌}
 use Rattle.pack.specs.Grammar.{head_at}
 use Rattle.pack.specs.Duties.Said.{said, placed}
 use Rattle.pack.specs.Laws.Number.{between_within}

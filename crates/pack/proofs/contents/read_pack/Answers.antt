@@ -1,9 +1,6 @@
 -- The limit of length is tested first, the end last, and in between the parts are read. Assumes nothing.
-use Rattle.std.proofs.Common.{rules, ap, sym, ◌∙◌, length}
+use Rattle.std.proofs.Common.{rules, ◌∙◌}
 use Rattle.std.proofs.lemmas.Result.{IfOk-from_err}
-use Rattle.pack.specs.Reading.{told}
-use Rattle.pack.specs.Duties.Said.{forget}
-use Rattle.pack.specs.Laws.Reading.{never_gives}
 use Rattle.pack.specs.Laws.PartsFound.{pack-long, pack-told, pack_all, ended_passed, ended_early}
 use Rattle.pack.proofs.contents.read_pack.Goals as goal
 

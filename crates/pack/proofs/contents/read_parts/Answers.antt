@@ -1,14 +1,13 @@
 -- The head, the count of nodes, the nodes and the rest are read each behind what came before it, by one reader, which
 -- begins at the first byte. Assumes nothing.
-use Rattle.std.proofs.Common.{rules, arith, ap, sym, ◌≡◌, ◌≤◌, ◌∙◌, length}
+use Rattle.std.proofs.Common.{rules, arith, ap, sym, ◌≡◌, ◌∙◌}
 use Rattle.std.proofs.lemmas.Result.{IfOk-from_err}
-use Rattle.pack.specs.Reading.{done, refused, bind, mapped, many}
+use Rattle.pack.specs.Reading.{done, bind, mapped, many}
 use Rattle.pack.specs.Number.{between}
-use Rattle.pack.specs.Grammar.{head_at, node_at, theory_at}
-use Rattle.pack.specs.Duties.Said.{said, placed, forget}
+use Rattle.pack.specs.Grammar.{head_at, node_at}
+use Rattle.pack.specs.Duties.Said.{forget}
 use Rattle.pack.specs.Duties.Answer.{dims_of}
-use Rattle.pack.specs.Duties.Places.{Within}
-use Rattle.pack.specs.Duties.Contents.{body_at, TheoryRead}
+use Rattle.pack.specs.Duties.Contents.{body_at}
 use Rattle.pack.specs.Laws.Bounded.{head_within, count_within, rows_within}
 use Rattle.pack.specs.Laws.PartsFound.{body_forget, body_found, parts_forget, parts_body}
 use Rattle.pack.proofs.contents.read_parts.Goals as goal

@@ -1,7 +1,6 @@
 -- The actions, the triggers and the utilities are read each behind what came before it, by the same reader. Assumes
 -- nothing.
-use Rattle.std.proofs.Common.{rules, arith, ap, sym, subst, ◌≡◌, ◌≤◌, ◌∙◌}
-use Rattle.pack.specs.Duties.Said.{said, placed}
+use Rattle.std.proofs.Common.{rules}
 use Rattle.pack.specs.Duties.Places.{Within}
 use Rattle.pack.specs.Duties.Answer.{dims}
 use Rattle.pack.specs.Laws.Runs.{theory_forget}

@@ -5,7 +5,7 @@ use Rattle.pack.specs.Laws.CopiedRows.{copying_start, copying_more}
 use Rattle.pack.proofs.copy.copy_bytes.Goals as goal
 
 pub loop-i-init : goal.loop-i-init
-loop-i-init c = (copying_start _ _ _ _ _ _, omega arith)
+loop-i-init c = copying_start _ _ _ _ _ _
 
 pub overflow_add-buffer : goal.overflow_add-buffer
 overflow_add-buffer c = omega (arith, c.requires.source c.loop-i.i c.loop-i-test.true)
@@ -20,16 +20,16 @@ pub overflow_add-buffer-in-loop-i : goal.overflow_add-buffer-in-loop-i
 overflow_add-buffer-in-loop-i c = omega (arith, c.requires.room)
 
 pub bounds-buffer-to : goal.bounds-buffer-to
-bounds-buffer-to c = omega (arith, c.requires.room, c.loop-i.invariant.0.only.long)
+bounds-buffer-to c = omega (arith, c.requires.room, c.loop-i.invariant.only.long)
 
 pub loop-i-preserved : goal.loop-i-preserved
 loop-i-preserved c =
-    (copying_more _ _ _ _ _ _ _ c.loop-i.i _ c.loop-i.invariant.0 c.loop-i-test.true (omega (arith, c.requires.room, c.loop-i.invariant.0.only.long)) refl, omega arith)
+    copying_more _ _ _ _ _ _ _ c.loop-i.i _ c.loop-i.invariant c.loop-i-test.true (omega (arith, c.requires.room, c.loop-i.invariant.only.long)) refl
 
 pub shape_of-buffer : goal.shape_of-buffer
-shape_of-buffer c = c.loop-i.invariant.0.only.long
+shape_of-buffer c = c.loop-i.invariant.only.long
 
 pub returns : goal.returns
 returns c =
     let same : c.loop-i.i ≡ c.args.count = (omega arith) in
-    record { copied = λ i l. c.loop-i.invariant.0.copied i (omega arith); only = c.loop-i.invariant.0.only }
+    record { copied = λ i l. c.loop-i.invariant.copied i (omega arith); only = c.loop-i.invariant.only }

@@ -1,11 +1,7 @@
 -- The first i bytes are copied, and nothing else is changed. Assumes nothing.
-use Prim.Native.Nat.{◌-◌, ◌≤◌}
 use Rattle.pack.specs.Laws.CopiedRows.{Copying}
 use Rattle.pack.proofs.copy.copy_bytes.Given as goal
 
 abbrev pub invariant-loop-i : goal.invariant-loop-i
 invariant-loop-i l =
-    Copying l.s l.from l.initial.buffer l.buffer l.to l.count l.less l.i × (l.i ≤ l.count)
-
-abbrev pub decreases-loop-i : goal.decreases-loop-i
-decreases-loop-i l = l.count - l.i
+    Copying l.s l.from l.initial.buffer l.buffer l.to l.count l.less l.i

@@ -1,25 +1,25 @@
 -- None of the effects so far is such a one. Assumes nothing.
-use Prim.Native.Nat.{ℕ}
+use Prim.Native.Nat.{ℕ, ◌-◌}
+use lib.ListN.{get_or}
 use mathlib.Core.Path.{◌≡◌, refl, sym, ◌∙◌}
 use mathlib.Core.List.{List}
 use native.Mathlib.Omega.{arith}
-use borrow.Author.Rules.{rules}
 use Rattle.pack.specs.Syntax.{Effect}
 use Rattle.pack.specs.Reading.{done}
 use Rattle.pack.specs.Grammar.{Dimensions, effect_at, effects_at}
 use Rattle.pack.specs.Duties.Judge.{Small}
 use Rattle.pack.specs.Duties.Effects.{asks, some_of}
-use Rattle.pack.specs.Laws.Judged.{Next, left_start, left_one, left_next, left_none, counted_starts}
+use Rattle.pack.specs.Laws.Judged.{Next, left_one, left_after, left_none, counted_starts, counted_left}
 use Rattle.pack.specs.Laws.Wanted.{some_here, some_on, some_nil}
 use Rattle.pack.proofs.effects.some_effect.Goals as goal
-use Rattle.pack.proofs.effects.some_effect.Goals.{In-loop-left}
+use Rattle.pack.proofs.effects.some_effect.Goals.{In-loop}
 
 -- the next effect
-next : (c : In-loop-left) →
+next : (c : In-loop) →
     (d : Dimensions) → Small d → (xs : List Effect) (end : ℕ) → effects_at d c.args.s.now c.args.at ≡ done xs end
-    → Next (effect_at d) c.args.s.now c.loop-left.n c.loop-left.left (some_of (asks c.args.w)) xs end
+    → Next (effect_at d) c.args.s.now c.loop.n (get_or c.args.s.now c.args.at 0 - c.loop.counter) (some_of (asks c.args.w)) xs end
 next c d small xs end e =
-    left_one _ _ _ _ _ _ _ (c.loop-left.invariant d small xs end e) c.loop-left-test.true
+    left_one _ _ _ _ _ _ _ (c.loop.invariant d small xs end e) (omega arith)
 
 pub overflow_add-n : goal.overflow_add-n
 unfolding effects_at
@@ -31,14 +31,9 @@ unfolding effects_at
 bounds-s-at c =
     (counted_starts 17 (effect_at c.requires.over) c.args.s.now c.args.at c.requires.value c.requires.end (omega arith) c.requires.reads _ refl).1
 
-pub wide-left-requires : goal.wide-left-requires
+pub loop-init : goal.loop-init
 unfolding effects_at
-wide-left-requires c = search rules
-
-pub loop-left-init : goal.loop-left-init
-unfolding effects_at
-loop-left-init c =
-    λ d small xs end e. left_start _ _ _ _ _ _ _ (counted_starts 17 (effect_at d) c.args.s.now c.args.at xs end (omega arith) e _ c.wide-left.ensures).0
+loop-init c = λ d small xs end e. counted_left 17 (effect_at d) _ _ _ xs end (omega arith) e
 
 pub is_wanted-requires : goal.is_wanted-requires
 unfolding effects_at
@@ -50,32 +45,24 @@ pub returns-then-is_wanted : goal.returns-then-is_wanted
 unfolding effects_at
 returns-then-is_wanted c =
     λ d small xs end e.
-    let x = next (goal.at.returns-then-is_wanted c).In-loop-left d small xs end e in
+    let x = next (goal.at.returns-then-is_wanted c).In-loop d small xs end e in
     sym (x.same ∙ some_here _ x.item x.rest (sym (c.is_wanted.ensures d small x.item x.place x.here) ∙ c.if-is_wanted.true))
 
 pub after_effect-n-requires : goal.after_effect-n-requires
 unfolding effects_at
 after_effect-n-requires c =
-    let x = next (goal.at.after_effect-n-requires c).In-loop-left c.requires.over c.requires.small c.requires.value c.requires.end c.requires.reads in
+    let x = next (goal.at.after_effect-n-requires c).In-loop c.requires.over c.requires.small c.requires.value c.requires.end c.requires.reads in
     record { over = c.requires.over; small = c.requires.small; value = x.item; end = x.place; reads = x.here }
 
-pub overflow_sub-left : goal.overflow_sub-left
+pub loop-preserved : goal.loop-preserved
 unfolding effects_at
-overflow_sub-left c = search rules
-
-pub loop-left-smaller : goal.loop-left-smaller
-unfolding effects_at
-loop-left-smaller c = search rules
-
-pub loop-left-preserved : goal.loop-left-preserved
-unfolding effects_at
-loop-left-preserved c =
+loop-preserved c =
     λ d small xs end e.
-    let x = next (goal.at.loop-left-preserved c).In-loop-left d small xs end e in
-    left_next _ _ _ _ _ _ _ x _ (sym (c.after_effect-n.ensures d small x.item x.place x.here))
+    let x = next (goal.at.loop-preserved c).In-loop d small xs end e in
+    left_after _ _ _ _ _ _ _ _ x _ (sym (c.after_effect-n.ensures d small x.item x.place x.here))
     (some_on _ x.item x.rest (sym (c.is_wanted.ensures d small x.item x.place x.here) ∙ c.if-is_wanted.false))
 
 pub returns : goal.returns
 unfolding effects_at
 returns c =
-    λ d small xs end e. sym (left_none _ _ _ _ _ _ _ (c.loop-left.invariant d small xs end e) c.loop-left-test.false ∙ some_nil _)
+    λ d small xs end e. sym (left_none _ _ _ _ _ _ _ (c.loop.invariant d small xs end e) (omega arith) ∙ some_nil _)

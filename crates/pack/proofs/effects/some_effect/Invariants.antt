@@ -1,5 +1,5 @@
 -- None of the effects so far is such a one. Assumes nothing.
-use Prim.Native.Nat.{ℕ}
+use Prim.Native.Nat.{ℕ, ◌-◌}
 use mathlib.Core.Path.{◌≡◌}
 use mathlib.Core.List.{List}
 use Rattle.pack.specs.Syntax.{Effect}
@@ -10,9 +10,6 @@ use Rattle.pack.specs.Duties.Effects.{asks, some_of}
 use Rattle.pack.specs.Laws.Judged.{Left}
 use Rattle.pack.proofs.effects.some_effect.Given as goal
 
-abbrev pub invariant-loop-left : goal.invariant-loop-left
-invariant-loop-left l =
-    (d : Dimensions) → Small d → (xs : List Effect) (end : ℕ) → effects_at d l.s l.at ≡ done xs end → Left (effect_at d) l.s l.n l.left (some_of (asks l.w)) xs end
-
-abbrev pub decreases-loop-left : goal.decreases-loop-left
-decreases-loop-left l = l.left
+abbrev pub invariant-loop : goal.invariant-loop
+invariant-loop l =
+    (d : Dimensions) → Small d → (xs : List Effect) (end : ℕ) → effects_at d l.s l.at ≡ done xs end → Left (effect_at d) l.s l.n (l.end - l.counter) (some_of (asks l.w)) xs end

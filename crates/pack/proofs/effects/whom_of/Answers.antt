@@ -8,4 +8,4 @@ pub bounds-s-at : goal.bounds-s-at
 bounds-s-at c = omega (arith, effect_read c.requires)
 
 pub returns : goal.returns
-returns c = λ d small x n e. sym c.wide.ensures ∙ sym (effect_bytes_lem d small _ _ x n e).whom
+returns c = λ d small x n e. c.from.ensures ∙ sym (effect_bytes_lem d small _ _ x n e).whom

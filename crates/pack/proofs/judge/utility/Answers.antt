@@ -7,7 +7,7 @@ use Rattle.pack.specs.Grammar.{rule_at, rules_at}
 use Rattle.pack.specs.Number.{number_at}
 use Rattle.pack.specs.Duties.Said.{said}
 use Rattle.pack.specs.Laws.Reading.{never, same_value, same_place}
-use Rattle.pack.specs.Laws.Judged.{left_start, left_one, left_next, left_last, left_none, counted_starts, rule_parts, rule_holds, rule_next, rule_none}
+use Rattle.pack.specs.Laws.Judged.{left_one, left_after, left_last, left_none, counted_starts, counted_left, rule_parts, rule_holds, rule_next, rule_none}
 use Rattle.pack.proofs.judge.utility.Goals as goal
 
 pub overflow_add-n : goal.overflow_add-n
@@ -20,71 +20,58 @@ unfolding rules_at
 bounds-s-at c =
     (counted_starts 9 (rule_at c.requires.dimensions) c.args.s.now c.args.at c.requires.value c.requires.end (omega arith) c.requires.reads _ refl).1
 
-pub wide-left-requires : goal.wide-left-requires
+pub loop-i-init : goal.loop-i-init
 unfolding rules_at
-wide-left-requires c = search rules
-
-pub loop-left-init : goal.loop-left-init
-unfolding rules_at
-loop-left-init c =
-    λ d over xs end e. left_start _ _ _ _ _ _ _ (counted_starts 9 (rule_at d) c.args.s.now c.args.at xs end (omega arith) e _ c.wide-left.ensures).0
+loop-i-init c = λ d over xs end e. counted_left 9 (rule_at d) _ _ _ xs end (omega arith) e
 
 pub holds-holding-requires : goal.holds-holding-requires
 unfolding rules_at
 holds-holding-requires c =
-    let x = left_one _ _ _ _ _ _ _ (c.loop-left.invariant c.requires.dimensions c.requires.over c.requires.value c.requires.end c.requires.reads) c.loop-left-test.true in
-    let q = rule_parts c.requires.dimensions c.args.s.now c.loop-left.n x.item x.place x.here in
+    let x = left_one _ _ _ _ _ _ _ (c.loop-i.invariant c.requires.dimensions c.requires.over c.requires.value c.requires.end c.requires.reads) (omega arith) in
+    let q = rule_parts c.requires.dimensions c.args.s.now c.loop-i.n x.item x.place x.here in
     record { table = c.requires.table; there = c.requires.there; dimensions = c.requires.dimensions; over = c.requires.over; value = x.item.condition; end = q.middle; reads = q.condition }
 
-pub returns-then-left-lt2 : goal.returns-then-left-lt2
+pub returns-then-i-count : goal.returns-then-i-count
 unfolding rules_at
-returns-then-left-lt2 c =
+returns-then-i-count c =
     let z = state_of c.args.t c.args.buffer.now c.args.node in
-    λ d over xs end e. let x = left_one _ _ _ _ _ _ _ (c.loop-left.invariant d over xs end e) c.loop-left-test.true in
-    let q = rule_parts d c.args.s.now c.loop-left.n x.item x.place x.here in
-    sym (left_last _ _ _ _ _ _ _ x (omega (arith, c.if-left-lt2.true)) (rule_next z x.item x.rest (sym (c.holds-holding.ensures d over x.item.condition q.middle q.condition) ∙ c.if-not-holding.true)) ∙ rule_none z)
+    λ d over xs end e. let x = left_one _ _ _ _ _ _ _ (c.loop-i.invariant d over xs end e) (omega arith) in
+    let q = rule_parts d c.args.s.now c.loop-i.n x.item x.place x.here in
+    sym (left_last _ _ _ _ _ _ _ x (omega (arith, c.if-i-count.true)) (rule_next z x.item x.rest (sym (c.holds-holding.ensures d over x.item.condition q.middle q.condition) ∙ c.if-not-holding.true)) ∙ rule_none z)
 
 pub after_condition-requires : goal.after_condition-requires
 unfolding rules_at
 after_condition-requires c =
-    let x = left_one _ _ _ _ _ _ _ (c.loop-left.invariant c.requires.dimensions c.requires.over c.requires.value c.requires.end c.requires.reads) c.loop-left-test.true in
-    let q = rule_parts c.requires.dimensions c.args.s.now c.loop-left.n x.item x.place x.here in
+    let x = left_one _ _ _ _ _ _ _ (c.loop-i.invariant c.requires.dimensions c.requires.over c.requires.value c.requires.end c.requires.reads) (omega arith) in
+    let q = rule_parts c.requires.dimensions c.args.s.now c.loop-i.n x.item x.place x.here in
     record { over = c.requires.dimensions; small = c.requires.over.small; value = x.item.condition; end = q.middle; reads = q.condition }
 
 pub read_number-requires : goal.read_number-requires
 unfolding rules_at
 read_number-requires c = search rules
 
-pub returns-in-Err : goal.returns-in-Err
+pub returns-in_default : goal.returns-in_default
 unfolding rules_at
-returns-in-Err c =
-    λ d over xs end e. let x = left_one _ _ _ _ _ _ _ (c.loop-left.invariant d over xs end e) c.loop-left-test.true in
-    let q = rule_parts d c.args.s.now c.loop-left.n x.item x.place x.here in
-    never (sym (c.read_number.ensures ∙ ap said c.in-Err.is) ∙ ap (number_at c.args.s.now) (c.after_condition.ensures d over.small x.item.condition q.middle q.condition) ∙ q.number)
+returns-in_default c =
+    λ d over xs end e. let x = left_one _ _ _ _ _ _ _ (c.loop-i.invariant d over xs end e) (omega arith) in
+    let q = rule_parts d c.args.s.now c.loop-i.n x.item x.place x.here in
+    never (sym (c.read_number.ensures ∙ ap said c.in_default.is) ∙ ap (number_at c.args.s.now) (c.after_condition.ensures d over.small x.item.condition q.middle q.condition) ∙ q.number)
 
 pub returns-then-holding : goal.returns-then-holding
 unfolding rules_at
 returns-then-holding c =
-    λ d over xs end e. let x = left_one _ _ _ _ _ _ _ (c.loop-left.invariant d over xs end e) c.loop-left-test.true in
-    let q = rule_parts d c.args.s.now c.loop-left.n x.item x.place x.here in
+    λ d over xs end e. let x = left_one _ _ _ _ _ _ _ (c.loop-i.invariant d over xs end e) (omega arith) in
+    let q = rule_parts d c.args.s.now c.loop-i.n x.item x.place x.here in
     same_value (sym (c.read_number.ensures ∙ ap said c.in-Ok.is) ∙ ap (number_at c.args.s.now) (c.after_condition.ensures d over.small x.item.condition q.middle q.condition) ∙ q.number) ∙ sym (x.same ∙ rule_holds (state_of c.args.t c.args.buffer.now c.args.node) x.item x.rest (sym (c.holds-holding.ensures d over x.item.condition q.middle q.condition) ∙ c.if-holding.true))
 
-pub overflow_sub-left : goal.overflow_sub-left
+pub loop-i-preserved : goal.loop-i-preserved
 unfolding rules_at
-overflow_sub-left c = search rules
-
-pub loop-left-smaller : goal.loop-left-smaller
-unfolding rules_at
-loop-left-smaller c = search rules
-
-pub loop-left-preserved : goal.loop-left-preserved
-unfolding rules_at
-loop-left-preserved c =
-    λ d over xs end e. let x = left_one _ _ _ _ _ _ _ (c.loop-left.invariant d over xs end e) c.loop-left-test.true in
-    let q = rule_parts d c.args.s.now c.loop-left.n x.item x.place x.here in
-    left_next _ _ _ _ _ _ _ x _ (sym (same_place (sym (c.read_number.ensures ∙ ap said c.in-Ok.is) ∙ ap (number_at c.args.s.now) (c.after_condition.ensures d over.small x.item.condition q.middle q.condition) ∙ q.number))) (rule_next (state_of c.args.t c.args.buffer.now c.args.node) x.item x.rest (sym (c.holds-holding.ensures d over x.item.condition q.middle q.condition) ∙ c.if-holding.false))
+loop-i-preserved c =
+    λ d over xs end e. let x = left_one _ _ _ _ _ _ _ (c.loop-i.invariant d over xs end e) (omega arith) in
+    let q = rule_parts d c.args.s.now c.loop-i.n x.item x.place x.here in
+    left_after _ _ _ _ _ _ _ _ x _ (sym (same_place (sym (c.read_number.ensures ∙ ap said c.in-Ok.is) ∙ ap (number_at c.args.s.now) (c.after_condition.ensures d over.small x.item.condition q.middle q.condition) ∙ q.number))) (rule_next (state_of c.args.t c.args.buffer.now c.args.node) x.item x.rest (sym (c.holds-holding.ensures d over x.item.condition q.middle q.condition) ∙ c.if-holding.false))
 
 pub returns : goal.returns
 unfolding rules_at
 returns c =
-    λ d over xs end e. sym (left_none _ _ _ _ _ _ _ (c.loop-left.invariant d over xs end e) c.loop-left-test.false ∙ rule_none (state_of c.args.t c.args.buffer.now c.args.node))
+    λ d over xs end e. sym (left_none _ _ _ _ _ _ _ (c.loop-i.invariant d over xs end e) (omega arith) ∙ rule_none (state_of c.args.t c.args.buffer.now c.args.node))

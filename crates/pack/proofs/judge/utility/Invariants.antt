@@ -1,5 +1,5 @@
 -- What is left gives the state the number that the whole gives it. Assumes nothing.
-use Prim.Native.Nat.{ℕ}
+use Prim.Native.Nat.{ℕ, ◌-◌}
 use mathlib.Core.Path.{◌≡◌}
 use mathlib.Core.List.{List}
 use Rattle.pack.specs.Duties.Table.{state_of}
@@ -10,9 +10,6 @@ use Rattle.pack.specs.Reading.{done}
 use Rattle.pack.specs.Laws.Judged.{Left}
 use Rattle.pack.proofs.judge.utility.Given as goal
 
-abbrev pub invariant-loop-left : goal.invariant-loop-left
-invariant-loop-left l =
-    (d : Dimensions) → Over d l.t → (xs : List Rule) (end : ℕ) → rules_at d l.s l.at ≡ done xs end → Left (rule_at d) l.s l.n l.left (Rattle.pack.specs.Condition.utility (state_of l.t l.buffer l.node)) xs end
-
-abbrev pub decreases-loop-left : goal.decreases-loop-left
-decreases-loop-left l = l.left
+abbrev pub invariant-loop-i : goal.invariant-loop-i
+invariant-loop-i l =
+    (d : Dimensions) → Over d l.t → (xs : List Rule) (end : ℕ) → rules_at d l.s l.at ≡ done xs end → Left (rule_at d) l.s l.n (l.count - l.i) (Rattle.pack.specs.Condition.utility (state_of l.t l.buffer l.node)) xs end

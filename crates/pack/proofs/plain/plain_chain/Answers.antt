@@ -1,30 +1,13 @@
--- What is left, from n on, tells what the whole tells. Assumes nothing.
+-- Each byte of the chain is below the limit. Assumes nothing.
+use Rattle.std.proofs.Common.{rules, ◌<◌, ◌≤◌}
 use native.Mathlib.Omega.{arith}
-use mathlib.Core.Path.{refl, ap, ◌∙◌}
-use Rattle.pack.specs.Reading.{done}
-use Rattle.pack.specs.Laws.Runs.{runs_none}
-use Rattle.pack.proofs.InRange.{unsaid, chain_more}
+use borrow.Author.Tests.{tests}
+use Rattle.std.proofs.lemmas.Iterator.{cases_from_all, YieldsList-from_slice}
+use Rattle.pack.proofs.InRange.{chain_reads, each_below}
+use Rattle.pack.proofs.Slices.{part}
 use Rattle.pack.proofs.plain.plain_chain.Goals as goal
-
-pub loop-left-init : goal.loop-left-init
-loop-left-init c = (refl, refl)
-
-pub bounds-s-n : goal.bounds-s-n
-bounds-s-n c = omega (arith, c.loop-left.invariant.1, c.requires)
-
-pub returns-then-limit-wide : goal.returns-then-limit-wide
-returns-then-limit-wide c = unsaid
-
-pub overflow_add-n : goal.overflow_add-n
-overflow_add-n c = omega (arith, c.loop-left.invariant.1, c.requires)
-
-pub loop-left-preserved : goal.loop-left-preserved
-loop-left-preserved c = (
-  c.loop-left.invariant.0 ∙ chain_more c.args.characters c.args.s.now c.loop-left.n c.loop-left.left c.wide.result c.loop-left-test.true
-      (omega (arith, c.loop-left.invariant.1, c.requires, c.loop-left-test.true)) c.wide.ensures (omega (arith, c.if-limit-wide.false, c.byte_limit-limit.ensures.0)) (omega (arith, c.if-limit-wide.false, c.byte_limit-limit.ensures.1)),
-  omega (arith, c.loop-left.invariant.1, c.loop-left-test.true),
-)
 
 pub returns : goal.returns
 returns c =
-    λ said. rw (c.loop-left.invariant.0, runs_none _ _ _ _ _ _ _ c.loop-left-test.false) (ap (done tt) (omega (arith, c.loop-left.invariant.1, c.loop-left-test.false)))
+    λ said. let below = each_below _ c.args.s.now c.args.at c.args.count c.byte_limit-limit.result c.all.result c.requires (cases_from_all _ _ _ (λ x. x < c.byte_limit-limit.result) (λ x. c.byte_limit-limit.result ≤ x) c.all.ensures.ran (YieldsList-from_slice (part c.args.s.now c.args.at c.args.count) cc) (λ x q k. search (rules, tests)) (λ x q k. search (rules, tests))) said in
+    chain_reads c.args.characters c.args.s.now c.args.count c.args.at c.requires (λ k l. let b = below k l in (omega arith, omega arith))

@@ -10,7 +10,7 @@ pub bounds-s-at : goal.bounds-s-at
 bounds-s-at c = omega (arith, test_read c.requires)
 
 pub overflow_add-result-2 : goal.overflow_add-result-2
-overflow_add-result-2 c = omega (arith, test_read c.requires, c.wide.ensures)
+overflow_add-result-2 c = omega (arith, test_read c.requires, c.from.ensures)
 
 pub returns : goal.returns
-returns c = λ d small x n e. omega (arith, (test_bytes_lem d small _ _ x n e).ends, c.wide.ensures)
+returns c = λ d small x n e. omega (arith, (test_bytes_lem d small _ _ x n e).ends, c.from.ensures)

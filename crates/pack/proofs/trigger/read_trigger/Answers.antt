@@ -1,5 +1,5 @@
 -- The condition ends where the effects begin, and both places are marked. Assumes nothing.
-use Rattle.std.proofs.Common.{rules, arith, ap, ◌∙◌, length-set}
+use Rattle.std.proofs.Common.{rules, arith, ap, ◌∙◌}
 use Rattle.std.proofs.lemmas.Result.{IfOk-from_err}
 use Rattle.pack.specs.Duties.Said.{shown}
 use Rattle.pack.specs.Duties.Answer.{dims}

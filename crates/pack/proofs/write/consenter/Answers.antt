@@ -18,4 +18,4 @@ bounds-s-at c =
 
 pub returns : goal.returns
 returns c =
-    λ d small cs n e. sym (((consenter_bytes d small c.args.s.now c.args.at cs n e).each c.args.i c.requires.1).0 ∙ c.wide.ensures)
+    λ d small cs n e. sym (((consenter_bytes d small c.args.s.now c.args.at cs n e).each c.args.i c.requires.1).0 ∙ sym c.from.ensures)

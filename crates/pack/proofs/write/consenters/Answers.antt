@@ -9,4 +9,4 @@ bounds-s-at c =
 
 pub returns : goal.returns
 returns c =
-    λ d small cs n e. sym ((consenter_bytes d small c.args.s.now c.args.at cs n e).long ∙ c.wide.ensures)
+    λ d small cs n e. sym ((consenter_bytes d small c.args.s.now c.args.at cs n e).long ∙ sym c.from.ensures)

@@ -1,6 +1,6 @@
 -- The value goes to its fluent exactly where the effect is meant for whom. Assumes nothing.
 use native.Mathlib.Omega.{arith}
-use mathlib.Core.Path.{refl}
+use mathlib.Core.Path.{refl, sym}
 use lib.ListN.{length-set}
 use Rattle.pack.specs.Laws.OneByte.{effect_bytes_lem}
 use Rattle.pack.specs.Laws.WrittenValues.{effect_meant, effect_other}
@@ -14,8 +14,8 @@ pub overflow_add-at : goal.overflow_add-at
 overflow_add-at c =
     omega (arith, (effect_bytes_lem c.requires.dimensions c.requires.small c.args.s.now c.args.at c.requires.value c.requires.end c.requires.reads).inside)
 
-pub bounds-s-at-then-wide-whom : goal.bounds-s-at-then-wide-whom
-bounds-s-at-then-wide-whom c =
+pub bounds-s-at-then-from-whom : goal.bounds-s-at-then-from-whom
+bounds-s-at-then-from-whom c =
     omega (arith, (effect_bytes_lem c.requires.dimensions c.requires.small c.args.s.now c.args.at c.requires.value c.requires.end c.requires.reads).inside)
 
 pub overflow_add-f : goal.overflow_add-f
@@ -27,8 +27,8 @@ pub overflow_add-buffer : goal.overflow_add-buffer
 overflow_add-buffer c =
     omega (arith, (effect_bytes_lem c.requires.dimensions c.requires.small c.args.s.now c.args.at c.requires.value c.requires.end c.requires.reads).inside)
 
-pub bounds-s-at-then-wide-whom-2 : goal.bounds-s-at-then-wide-whom-2
-bounds-s-at-then-wide-whom-2 c =
+pub bounds-s-at-then-from-whom-2 : goal.bounds-s-at-then-from-whom-2
+bounds-s-at-then-from-whom-2 c =
     omega (arith, (effect_bytes_lem c.requires.dimensions c.requires.small c.args.s.now c.args.at c.requires.value c.requires.end c.requires.reads).inside)
 
 pub bounds-buffer-f : goal.bounds-buffer-f
@@ -39,11 +39,11 @@ bounds-buffer-f c =
 pub shape_of-buffer : goal.shape_of-buffer
 shape_of-buffer c = simp length-set
 
-pub returns-then-wide-whom : goal.returns-then-wide-whom
-returns-then-wide-whom c =
-    effect_meant c.args.s.now c.args.at c.args.whom c.args.buffer.now c.args.row c.args.fluents _ _ _ c.wide.ensures c.if-wide-whom.true c.wide-then-wide-whom.ensures refl (let b = (effect_bytes_lem c.requires.dimensions c.requires.small c.args.s.now c.args.at c.requires.value c.requires.end c.requires.reads) in
+pub returns-then-from-whom : goal.returns-then-from-whom
+returns-then-from-whom c =
+    effect_meant c.args.s.now c.args.at c.args.whom c.args.buffer.now c.args.row c.args.fluents _ _ _ (sym c.from.ensures) c.if-from-whom.true (sym c.from-then-from-whom.ensures) refl (let b = (effect_bytes_lem c.requires.dimensions c.requires.small c.args.s.now c.args.at c.requires.value c.requires.end c.requires.reads) in
     omega arith) c.requires.inside
 
-pub returns-else-wide-whom : goal.returns-else-wide-whom
-returns-else-wide-whom c =
-    effect_other c.args.s.now c.args.at c.args.whom c.args.buffer.now c.args.row c.args.fluents _ c.wide.ensures c.if-wide-whom.false
+pub returns-else-from-whom : goal.returns-else-from-whom
+returns-else-from-whom c =
+    effect_other c.args.s.now c.args.at c.args.whom c.args.buffer.now c.args.row c.args.fluents _ (sym c.from.ensures) c.if-from-whom.false

@@ -65,8 +65,8 @@ overflow_add-slot-2 c =
     let ((th, (T, (x, m))), there, row, free) = c.requires in
     omega (arith, free, x.laid.room)
 
-pub step_slot-number-requires : goal.step_slot-number-requires
-step_slot-number-requires c =
+pub step_slot-requires : goal.step_slot-requires
+step_slot-requires c =
     let ((th, (T, (x, m))), there, row, free) = c.requires in
     let y = table_stage c.table_in-t.ensures x in
     (th, (T, (_, (stage_setting (stage_same y (λ q l. c.id_of-id.ensures.interning.only.low q (omega (arith, l, free))) c.id_of-id.auto.work) free, there, (subst (λ (t : Table). c.args.root < t.nodes) (sym c.table_in-t.ensures) row)))))
@@ -81,8 +81,8 @@ note_left-requires c =
     let ((th, (T, (x, m))), there, row, free) = c.requires in
     let y = table_stage c.table_in-t.ensures x in
     let y' = stage_same y (λ q l. c.id_of-id.ensures.interning.only.low q (omega (arith, l, free))) c.id_of-id.auto.work in
-    let z = c.step_slot-number.ensures th T _ (stage_setting y' free) there (subst (λ (t : Table). c.args.root < t.nodes) (sym c.table_in-t.ensures) row) in
-    let y'' = stage_same y' z.only.low c.step_slot-number.auto.work in
+    let z = rw c.number_of-number.ensures at (c.step_slot.ensures th T _ (stage_setting y' free) there (subst (λ (t : Table). c.args.root < t.nodes) (sym c.table_in-t.ensures) row)) in
+    let y'' = stage_same y' z.only.low c.step_slot.auto.work in
     (stage_before y'' (omega (arith, free)), omega (arith, row, x.tabled.few), omega (arith, there, x.theorized.found.most_actions), stage_slot y'' free, (z.plays c.if-number-eq0.true).2.few)
 
 pub note-requires : goal.note-requires
@@ -90,8 +90,8 @@ note-requires c =
     let ((th, (T, (x, m))), there, row, free) = c.requires in
     let y = table_stage c.table_in-t.ensures x in
     let y' = stage_same y (λ q l. c.id_of-id.ensures.interning.only.low q (omega (arith, l, free))) c.id_of-id.auto.work in
-    let z = c.step_slot-number.ensures th T _ (stage_setting y' free) there (subst (λ (t : Table). c.args.root < t.nodes) (sym c.table_in-t.ensures) row) in
-    let y'' = stage_same y' z.only.low c.step_slot-number.auto.work in
+    let z = rw c.number_of-number.ensures at (c.step_slot.ensures th T _ (stage_setting y' free) there (subst (λ (t : Table). c.args.root < t.nodes) (sym c.table_in-t.ensures) row)) in
+    let y'' = stage_same y' z.only.low c.step_slot.auto.work in
     (stage_before y'' (omega (arith, free)), omega (arith, row, x.tabled.few), omega (arith, there, x.theorized.found.most_actions), omega arith)
 
 pub returns-then-number-eq0 : goal.returns-then-number-eq0
@@ -101,9 +101,9 @@ returns-then-number-eq0 c =
       λ th T x m.
           let y = table_stage c.table_in-t.ensures x in
           let y' = stage_same y (λ q l. c.id_of-id.ensures.interning.only.low q (omega (arith, l, free))) c.id_of-id.auto.work in
-          subst (λ (t : Table). Advanced th c.args.p.foresight.0 c.args.p (meaning t.characters T c.args.root) c.args.action t c.args.work.now c.note_left.new.work (c.args.slot + c.args.p.stride) c.step_slot-number.result) c.table_in-t.ensures
-          (step_left y free c.args.root c.id_of-id.ensures.interning.only (c.id_of-id.ensures.interning.told th c.args.p.foresight.0 (c.args.slot + c.args.p.stride) (omega (arith, free)) x.slotted m).0 (c.step_slot-number.ensures th T _ (stage_setting y' free) there (subst (λ (t : Table). c.args.root < t.nodes) (sym c.table_in-t.ensures) row)) (c.step_slot-number.auto.work ∙ c.id_of-id.auto.work) c.if-number-eq0.true c.note_left.ensures),
-      once_left c.args.p c.id_of-id.ensures c.step_at-at.ensures.0 unread c.if-number-eq0.true (subst (λ (t : Table). LeftNoted c.args.p t c.args.root c.args.action (c.args.slot + c.args.p.stride) c.step_slot-number.new.work c.note_left.new.work) c.table_in-t.ensures c.note_left.ensures),
+          subst (λ (t : Table). Advanced th c.args.p.foresight.0 c.args.p (meaning t.characters T c.args.root) c.args.action t c.args.work.now c.note_left.new.work (c.args.slot + c.args.p.stride) c.number_of-number.result) c.table_in-t.ensures
+          (step_left y free c.args.root c.id_of-id.ensures.interning.only (c.id_of-id.ensures.interning.told th c.args.p.foresight.0 (c.args.slot + c.args.p.stride) (omega (arith, free)) x.slotted m).0 (rw c.number_of-number.ensures at (c.step_slot.ensures th T _ (stage_setting y' free) there (subst (λ (t : Table). c.args.root < t.nodes) (sym c.table_in-t.ensures) row))) (c.step_slot.auto.work ∙ c.id_of-id.auto.work) c.if-number-eq0.true c.note_left.ensures),
+      once_left c.args.p c.id_of-id.ensures c.step_at-at.ensures.0 unread c.if-number-eq0.true (subst (λ (t : Table). LeftNoted c.args.p t c.args.root c.args.action (c.args.slot + c.args.p.stride) c.step_slot.new.work c.note_left.new.work) c.table_in-t.ensures c.note_left.ensures),
     )
 
 pub returns-else-number-eq0 : goal.returns-else-number-eq0
@@ -113,7 +113,7 @@ returns-else-number-eq0 c =
       λ th T x m.
           let y = table_stage c.table_in-t.ensures x in
           let y' = stage_same y (λ q l. c.id_of-id.ensures.interning.only.low q (omega (arith, l, free))) c.id_of-id.auto.work in
-          subst (λ (t : Table). Advanced th c.args.p.foresight.0 c.args.p (meaning t.characters T c.args.root) c.args.action t c.args.work.now c.note.new.work (c.args.slot + c.args.p.stride) c.step_slot-number.result) c.table_in-t.ensures
-          (step_refused y free c.args.root c.id_of-id.ensures.interning.only (c.id_of-id.ensures.interning.told th c.args.p.foresight.0 (c.args.slot + c.args.p.stride) (omega (arith, free)) x.slotted m).0 (c.step_slot-number.ensures th T _ (stage_setting y' free) there (subst (λ (t : Table). c.args.root < t.nodes) (sym c.table_in-t.ensures) row)) (c.step_slot-number.auto.work ∙ c.id_of-id.auto.work) c.if-number-eq0.false c.note.ensures),
-      once_refused c.args.p c.id_of-id.ensures c.step_at-at.ensures.0 unread c.if-number-eq0.false (subst (λ (t : Table). Noted c.args.p t c.args.root c.args.action 0 c.step_slot-number.new.work c.note.new.work) c.table_in-t.ensures c.note.ensures),
+          subst (λ (t : Table). Advanced th c.args.p.foresight.0 c.args.p (meaning t.characters T c.args.root) c.args.action t c.args.work.now c.note.new.work (c.args.slot + c.args.p.stride) c.number_of-number.result) c.table_in-t.ensures
+          (step_refused y free c.args.root c.id_of-id.ensures.interning.only (c.id_of-id.ensures.interning.told th c.args.p.foresight.0 (c.args.slot + c.args.p.stride) (omega (arith, free)) x.slotted m).0 (rw c.number_of-number.ensures at (c.step_slot.ensures th T _ (stage_setting y' free) there (subst (λ (t : Table). c.args.root < t.nodes) (sym c.table_in-t.ensures) row))) (c.step_slot.auto.work ∙ c.id_of-id.auto.work) c.if-number-eq0.false c.note.ensures),
+      once_refused c.args.p c.id_of-id.ensures c.step_at-at.ensures.0 unread c.if-number-eq0.false (subst (λ (t : Table). Noted c.args.p t c.args.root c.args.action 0 c.step_slot.new.work c.note.new.work) c.table_in-t.ensures c.note.ensures),
     )

@@ -1,87 +1,85 @@
 -- After so many rounds the state that has come about stands in the slot. Assumes nothing.
-use mathlib.Core.Path.{refl, ◌∙◌}
+use mathlib.Core.Path.{◌≡◌, refl, sym, ap, ◌∙◌, subst}
 use native.Mathlib.Omega.{arith}
+use Prim.Native.Nat.{ℕ, ◌≤◌}
+use lib.ListN.{length}
 use Rattle.pack.specs.State.{meaning}
+use Rattle.pack.specs.declared.table.Table.{Table}
+use Rattle.transition.specs.Inner.Fire.{Firable}
+use Rattle.std.proofs.lemmas.Result.{err_from_is_err_and}
 use Rattle.transition.proofs.Rounds.{InRound, round_start, round_table, round_firable, theory_triggers, round-idle, round_quiet, round_last, round_scene, round_slotted, round_stands, round_room, round-many, round_next}
 use Rattle.transition.proofs.settle.settle.Goals as goal
-use Rattle.transition.proofs.settle.settle.Goals.{After-effects-1}
-
--- the round at hand, for the theory and the table that are there
-here : (c : After-effects-1) →
-    let (p, (T, (n, (x, y)))) = c.requires in
-    InRound p (meaning c.args.t.characters T 0) c.args.t c.args.work.now c.loop-t.work c.args.slot c.loop-t.nodes c.loop-t.rounds
-here c =
-    let (p, (T, (n, (x, y)))) = c.requires in
-    c.loop-t.invariant.3 p T n x y
 
 pub returns-then-triggers-eq0 : goal.returns-then-triggers-eq0
 returns-then-triggers-eq0 c = λ p T n x y. round-idle x (round_start x y) refl c.if-triggers-eq0.true
 
-pub loop-t-init : goal.loop-t-init
-loop-t-init c = (refl, refl, omega arith, λ p T n x y. round_start x y)
+pub loop-init : goal.loop-init
+loop-init c = (refl, refl, λ p T n x y. round_start x y)
 
-pub overflow_add-now : goal.overflow_add-now
-overflow_add-now c =
+pub fire_all-requires : goal.fire_all-requires
+fire_all-requires c =
     let (p, (T, (n, (x, y)))) = c.requires in
-    omega (arith, x.room.has_slot_room)
-
-pub fire_all-any-requires : goal.fire_all-any-requires
-fire_all-any-requires c =
-    let (p, (T, (n, (x, y)))) = c.requires in
-    (round_firable x (here c) c.loop-t.invariant.1, omega (arith, (here c).few, c.loop-t.invariant.0))
-
-pub shape_of-work-then-not-any : goal.shape_of-work-then-not-any
-shape_of-work-then-not-any c = c.loop-t.invariant.1
-
-pub returns-then-not-any : goal.returns-then-not-any
-returns-then-not-any c =
-    let (size, long, few, going) = c.loop-t.invariant in
-    λ p T n x y. let g = going p T n x y in round_quiet x g long (c.fire_all-any.ensures _ _ _ (round_table x g long) (theory_triggers x.theorized)) (c.if-not-any.true)
-
-pub shape_of-work-then-rounds-eq16 : goal.shape_of-work-then-rounds-eq16
-shape_of-work-then-rounds-eq16 c = c.loop-t.invariant.1
-
-pub returns-then-rounds-eq16 : goal.returns-then-rounds-eq16
-returns-then-rounds-eq16 c =
-    let (size, long, few, going) = c.loop-t.invariant in
-    λ p T n x y. let g = going p T n x y in round_last x g long (c.fire_all-any.ensures _ _ _ (round_table x g long) (theory_triggers x.theorized)) (c.if-not-any.false) c.if-rounds-eq16.true
-
-pub round-nodes-requires : goal.round-nodes-requires
-round-nodes-requires c =
-    let (p, (T, (n, (x, y)))) = c.requires in
-    let (size, long, few, going) = c.loop-t.invariant in
-    let g = here (goal.at.round-nodes-requires c).After-effects-1 in
-    let fired = c.fire_all-any.ensures _ _ _ (round_table x g long) (theory_triggers x.theorized) in
-    let e = c.if-not-any.false in
-    ((round_scene x g long fired e, round_stands x g long fired e (c.fire_all-any.auto.effects ∙ size)), round_room x g long fired e, record { all = refl; root = refl }, round_slotted x g long)
-
-pub shape_of-work-then-nodes-gt32 : goal.shape_of-work-then-nodes-gt32
-shape_of-work-then-nodes-gt32 c = c.round-nodes.auto.work ∙ c.loop-t.invariant.1
-
-pub returns-then-nodes-gt32 : goal.returns-then-nodes-gt32
-returns-then-nodes-gt32 c =
-    let (size, long, few, going) = c.loop-t.invariant in
-    let e = c.if-not-any.false in
-    λ p T n x y.
+    let (long, table, going) = c.loop.invariant in
     let g = going p T n x y in
-    let fired = c.fire_all-any.ensures _ _ _ (round_table x g long) (theory_triggers x.theorized) in
-    round-many x g long fired e (c.round-nodes.ensures (round_scene x g long fired e) (round_stands x g long fired e (c.fire_all-any.auto.effects ∙ size))) c.if-rounds-eq16.false few c.if-nodes-gt32.true
+    rw table (round_firable x g long, omega (arith, g.holds.few, c.loop-test.array_long))
 
-pub overflow_add-rounds : goal.overflow_add-rounds
-overflow_add-rounds c = omega (arith, c.loop-t.invariant.2)
+pub returns-then-not-fire_all : goal.returns-then-not-fire_all
+returns-then-not-fire_all c =
+    let (long, table, going) = c.loop.invariant in
+    let fired = rw table at c.fire_all.ensures in
+    λ p T n x y. let g = going p T n x y in round_quiet x g long (fired _ _ _ (round_table x g long) (theory_triggers x.theorized)) c.if-not-fire_all.true
 
-pub loop-t-smaller : goal.loop-t-smaller
-loop-t-smaller c = omega (arith, c.loop-t.invariant.2, c.if-rounds-eq16.false)
+-- In a round everyone takes part, and in each row that takes effect which fired there: all rows are judged before any
+-- is written.
+pub round-requires : goal.round-requires
+round-requires c =
+    let (p, (T, (n, (x, y)))) = c.requires in
+    let (long, table, going) = c.loop.invariant in
+    let g = going p T n x y in
+    let fired = (rw table at c.fire_all.ensures) _ _ _ (round_table x g long) (theory_triggers x.theorized) in
+    let e = c.if-not-fire_all.false in
+    rw table ((round_scene x g long fired e, round_stands x g long fired e c.if-not-fire_all.array_long), round_room x g long fired e, record { all = refl; root = refl }, round_slotted x g long)
 
-pub loop-t-preserved : goal.loop-t-preserved
-loop-t-preserved c =
-    let (size, long, few, going) = c.loop-t.invariant in
-    let e = c.if-not-any.false in (
-      c.fire_all-any.auto.effects ∙ size,
-      c.round-nodes.auto.work ∙ long,
-      omega (arith, few, c.if-rounds-eq16.false),
+pub returns-in_err-now : goal.returns-in_err-now
+returns-in_err-now c =
+    let (long, table, going) = c.loop.invariant in
+    let e = c.if-not-fire_all.false in
+    let left = err_from_is_err_and c.from_residual.result c.from_residual.ensures.1 in
+    rw (left.1, left.2)
+    (λ p T n x y.
+    let g = going p T n x y in
+    let fired = (rw table at c.fire_all.ensures) _ _ _ (round_table x g long) (theory_triggers x.theorized) in
+    round-many x g long fired e ((rw table at c.in_err-now.ensures) (round_scene x g long fired e) (round_stands x g long fired e c.if-not-fire_all.array_long)) (omega arith) refl)
+
+pub loop-preserved : goal.loop-preserved
+loop-preserved c =
+    let (long, table, going) = c.loop.invariant in
+    let e = c.if-not-fire_all.false in (
+      c.round.auto.work ∙ long,
+      ap (λ (t : Table). record { rows = t.rows; nodes = c.in_ok-now.field-0; fluents = t.fluents; characters = t.characters; width = t.width }) table,
       λ p T n x y.
           let g = going p T n x y in
-          let fired = c.fire_all-any.ensures _ _ _ (round_table x g long) (theory_triggers x.theorized) in
-          round_next x g long fired e (c.round-nodes.ensures (round_scene x g long fired e) (round_stands x g long fired e (c.fire_all-any.auto.effects ∙ size))) c.if-rounds-eq16.false few (omega (arith, c.if-nodes-gt32.false)),
+          let fired = (rw table at c.fire_all.ensures) _ _ _ (round_table x g long) (theory_triggers x.theorized) in
+          round_next x g long fired e ((rw table at c.in_ok-now.ensures) (round_scene x g long fired e) (round_stands x g long fired e c.if-not-fire_all.array_long)) (omega arith) refl,
     )
+
+-- Behind the last round the triggers are judged once more, in the rows that it has left, which are as many as the table
+-- says, and at most 32.
+pub fire_all-requires-2 : goal.fire_all-requires-2
+fire_all-requires-2 c =
+    let (p, (T, (n, (x, y)))) = c.requires in
+    let (long, table, going) = c.loop.invariant in
+    let g = going p T n x y in
+    rw table (round_firable x g long, omega (arith, g.holds.few, c.loop-test.array_long))
+
+pub returns-then-fire_all : goal.returns-then-fire_all
+returns-then-fire_all c =
+    let (long, table, going) = c.loop.invariant in
+    let fired = rw table at c.fire_all-2.ensures in
+    λ p T n x y. let g = going p T n x y in round_last x g long (fired _ _ _ (round_table x g long) (theory_triggers x.theorized)) c.if-fire_all.true (omega arith)
+
+pub returns : goal.returns
+returns c =
+    let (long, table, going) = c.loop.invariant in
+    let idle = rw table at c.fire_all-2.ensures in
+    λ p T n x y. let g = going p T n x y in round_quiet x g long (idle _ _ _ (round_table x g long) (theory_triggers x.theorized)) c.if-fire_all.false

@@ -1,7 +1,8 @@
 -- The condition, part 1, the rounds. Assumes nothing.
-use mathlib.Core.Path.{◌∙◌}
+use mathlib.Core.Path.{sym, ◌∙◌}
 use native.Mathlib.Omega.{arith}
 use Prim.Native.Nat.{◌*◌}
+use Rattle.std.proofs.lemmas.Result.{err_from_is_err_and}
 use Rattle.transition.proofs.PartOne.{act_places}
 use Rattle.transition.proofs.PlayedInSlot.{play_table, play_judged, play_forbidden, play_many, play_setting, play_slotted, play_settled}
 use Rattle.transition.proofs.step.step_slot.Goals as goal
@@ -24,22 +25,24 @@ bounds-places-m c =
 pub overflow_cast-places : goal.overflow_cast-places
 overflow_cast-places c = omega (arith, c.type_inv.places (9 * c.args.m.action))
 
-pub holds-may-requires : goal.holds-may-requires
-holds-may-requires c =
+pub holds-requires : goal.holds-requires
+holds-requires c =
     let (p, (T, (n, (x, l, i)))) = c.requires in
     play_judged x l _ i
 
-pub returns-then-not-may : goal.returns-then-not-may
-returns-then-not-may c = λ p T n x l i. play_forbidden x l _ i c.holds-may.ensures (c.if-not-may.true)
+pub returns-then-not-holds : goal.returns-then-not-holds
+returns-then-not-holds c = λ p T n x l i. play_forbidden x l _ i c.holds.ensures (c.if-not-holds.true)
 
-pub act-nodes-requires : goal.act-nodes-requires
-act-nodes-requires c =
+pub act-requires : goal.act-requires
+act-requires c =
     let (p, (T, (n, (x, l, i)))) = c.requires in
     (p, (T, (n, (_, (x, l, i)))))
 
-pub returns-then-nodes-gt32 : goal.returns-then-nodes-gt32
-returns-then-nodes-gt32 c =
-    λ p T n x l i. play_many x l _ i c.holds-may.ensures (c.if-not-may.false) (c.act-nodes.ensures p T n _ x l i) c.act-nodes.auto.work c.if-nodes-gt32.true
+pub returns-in_err-nodes : goal.returns-in_err-nodes
+returns-in_err-nodes c =
+    let left = err_from_is_err_and c.from_residual.result c.from_residual.ensures.1 in
+    rw (left.1, left.2)
+    (λ p T n x l i. play_many x l _ i c.holds.ensures c.if-not-holds.false (c.in_err-nodes.ensures p T n _ x l i))
 
 pub overflow_add-left : goal.overflow_add-left
 overflow_add-left c =
@@ -49,16 +52,17 @@ overflow_add-left c =
 pub settle-requires : goal.settle-requires
 settle-requires c =
     let (p, (T, (n, (x, l, i)))) = c.requires in
-    let y = c.act-nodes.ensures p T n _ x l i in
-    let e = c.if-not-may.false in
-    (p, (play_table x l _ i c.holds-may.ensures e y c.act-nodes.auto.work (omega (arith, c.if-nodes-gt32.false)), (n, (play_setting x l _ i c.holds-may.ensures e y c.act-nodes.auto.work (omega (arith, c.if-nodes-gt32.false)), play_slotted x l _ i c.holds-may.ensures e y c.act-nodes.auto.work (omega (arith, c.if-nodes-gt32.false))))))
+    let y = c.in_ok-nodes.ensures p T n _ x l i in
+    let e = c.if-not-holds.false in
+    (p, (play_table x l _ i c.holds.ensures e y c.act.auto.work, (n, (play_setting x l _ i c.holds.ensures e y c.act.auto.work, play_slotted x l _ i c.holds.ensures e y c.act.auto.work))))
 
 pub shape_of-work : goal.shape_of-work
-shape_of-work c = c.settle.auto.work ∙ c.act-nodes.auto.work
+shape_of-work c = c.settle.auto.work ∙ c.act.auto.work
 
 pub returns : goal.returns
 returns c =
-    let e = c.if-not-may.false in
+    let e = c.if-not-holds.false in
     λ p T n x l i.
-    let y = c.act-nodes.ensures p T n _ x l i in
-    play_settled x l _ i c.holds-may.ensures e y c.act-nodes.auto.work (omega (arith, c.if-nodes-gt32.false)) (c.settle.ensures p (play_table x l _ i c.holds-may.ensures e y c.act-nodes.auto.work (omega (arith, c.if-nodes-gt32.false))) n (play_setting x l _ i c.holds-may.ensures e y c.act-nodes.auto.work (omega (arith, c.if-nodes-gt32.false))) (play_slotted x l _ i c.holds-may.ensures e y c.act-nodes.auto.work (omega (arith, c.if-nodes-gt32.false))))
+    let y = c.in_ok-nodes.ensures p T n _ x l i in
+    let long = c.act.auto.work in
+    play_settled x l _ i c.holds.ensures e y long (c.settle.ensures p (play_table x l _ i c.holds.ensures e y long) n (play_setting x l _ i c.holds.ensures e y long) (play_slotted x l _ i c.holds.ensures e y long))
