@@ -10,11 +10,7 @@ pub fn clear(work: &mut [u8], a: usize, k: usize)
     requires { a + k ≤ length work.old }
     ensures { Cleared work.old work.new a k }
 {
-    let mut i = 0;
-    while i < k {
-        work[a + i] = 0;
-        i += 1;
-    }
+    work[a..a + k].fill(0);
 }
 
 // Copies the f bytes from a on to b, past them or below them.
@@ -22,9 +18,5 @@ pub fn copy_part(work: &mut [u8], a: usize, b: usize, f: usize)
     requires { Apart a b f × (a + f ≤ length work.old) × (b + f ≤ length work.old) }
     ensures { PartCopied work.old work.new a b f }
 {
-    let mut k = 0;
-    while k < f {
-        work[b + k] = work[a + k];
-        k += 1;
-    }
+    work.copy_within(a..a + f, b);
 }
