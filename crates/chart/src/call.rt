@@ -9,7 +9,7 @@ ghost use Rattle.pack.specs.Duties.Contents.{replied, replied_count};
 ghost use Rattle.chart.specs.Replies.{all_below};
 
 use pack::node::check_chart;
-use pack::number::{Checked, Number, wide};
+use pack::number::{Checked, Number};
 use pack::refusal::{RANGE, SHORT};
 
 // How long a work buffer must be, of which so many bytes are set to 0 in the end.
@@ -71,14 +71,7 @@ pub fn check_lent(said: Number, enough: bool, in_range: bool) -> Number
 pub fn all_below(chain: &[u8], characters: usize) -> bool
     ensures { result ≡ all_below characters chain.now }
 {
-    let mut i = 0;
-    while i < chain.len() {
-        if characters <= wide(chain[i]) {
-            return false;
-        }
-        i += 1;
-    }
-    true
+    chain.iter().all(|c| usize::from(*c) < characters)
 }
 
 // Whether a chain's characters and a fluent are there.

@@ -10,7 +10,7 @@ use crate::Matched;
 use crate::bytes::clear;
 use crate::call::{WORK_ROOM, both_at_most, check_lent, check_under};
 use crate::out::{Shift, put_rows};
-use crate::pairs::{MET, meet_first, other_value, seek, write_chain};
+use crate::pairs::{meet_first, seek, write_chain};
 use pack::contents::read_contents;
 use pack::node::check_chart;
 use pack::number::Number;
@@ -68,13 +68,10 @@ pub fn match_rows(work: &mut [u8], n: TwoCharts, chain: &mut [u8]) -> Matched
         width,
     };
     meet_first(work, 0, n.first);
-    let k = seek(work, t);
-    if 4096 <= k {
-        return Matched::Same;
+    match seek(work, t) {
+        None => Matched::Same,
+        Some((k, fluent)) => Matched::Differ(write_chain(work, k, chain), fluent),
     }
-    let length = write_chain(work, k, chain);
-    let fluent = other_value(work, t, MET + k * 5);
-    Matched::Differ(length, fluent)
 }
 
 // Compares two charts. The work buffer is cleared.
