@@ -23,6 +23,15 @@ put_more {src} {was} {now} {from} {to} {k} {more} {less} c l = let v = shifted s
   high = λ p h. get_or-set_other now (to + k) p v 0 (omega arith) ∙ c.high p (omega arith);
 }
 
+-- the values as they are, then the beliefs
+pub put_row : {src was mid now : List ℕ} {from to f c more less : ℕ} → PartPut src was mid from to f 0 0 → PartPut src mid now (from + f) (to + f) c more less → RowPutIn src was now from to f c more less
+put_row {src} {from = from} {to = to} a b = record {
+  values = λ q h. let e : shifted src 0 0 (from + q) ≡ get_or src (from + q) 0 = omega arith in b.low (to + q) (omega arith) ∙ a.part q h ∙ e;
+  beliefs = b.part;
+  low = λ p h. b.low p (omega arith) ∙ a.low p h;
+  high = λ p h. b.high p h ∙ a.high p (omega arith);
+}
+
 pub rows_start : (src was : List ℕ) (w f c from to more less : ℕ) → RowsPut src was was w f c from to more less 0
 rows_start src was w f c from to more less = record { values = λ j q l. absurd (omega arith); beliefs = λ j d l. absurd (omega arith); low = λ p l. refl; high = λ p l. refl }
 

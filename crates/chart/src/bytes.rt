@@ -21,7 +21,10 @@ pub fn copy_part(work: &mut [u8], a: usize, b: usize, f: usize)
     requires { Apart a b f × (a + f ≤ length work.old) × (b + f ≤ length work.old) }
     ensures { PartCopied work.old work.new a b f }
 {
-    work.copy_within(a..a + f, b);
+    // Rows are short, and a loop over a few bytes is quicker than the call that `copy_within` becomes.
+    for k in 0..f {
+        work[b + k] = work[a + k];
+    }
 }
 
 // Whether the f bytes from a on are the same as those from b on.
@@ -29,7 +32,13 @@ pub fn same_part(work: &[u8], a: usize, b: usize, f: usize) -> bool
     requires { (a + f ≤ length work.now) × (b + f ≤ length work.now) }
     ensures { Decides result ((q : ℕ) → q < f → SameByte work.now a b q) }
 {
-    &work[a..a + f] == &work[b..b + f]
+    // Rows are short, and a loop over a few bytes is quicker than `==` of the two slices.
+    for q in 0..f {
+        if work[a + q] != work[b + q] {
+            return false;
+        }
+    }
+    true
 }
 
 // The first of the f bytes from a on that is not the same from b on.

@@ -31,7 +31,7 @@ pub fn put_beside(src: &[u8], from: usize, f: usize, c: usize, out: &mut [u8], t
     ensures { RowPutIn src.now out.old out.new from to f c s.more
         s.less }
 {
-    out[to..to + f].copy_from_slice(&src[from..from + f]);
+    put_part(src, from, out, to, f, Shift { more: 0, less: 0 });
     put_part(src, from + f, out, to + f, c, s)
 }
 

@@ -29,7 +29,14 @@ pub fn value_hash(work: &[u8], a: usize, f: usize) -> usize
 // The class, of `count`, whose leading row has the values of row i. Only those of row i's hash are looked
 // at, of which `last` is the last one's number plus 1, and from `g.level` on stands such a number for the one before
 // each.
-pub fn value_class(work: &[u8], t: Table, g: Regions, i: usize, count: usize, last: usize) -> Option<usize>
+pub fn value_class(
+    work: &[u8],
+    t: Table,
+    g: Regions,
+    i: usize,
+    count: usize,
+    last: usize,
+) -> Option<usize>
     requires { of_values (Chain work.now) t g.level g.firsts i count last }
     ensures { Found (of_values (SameValues work.now) t) (first_of work.now g) count i result }
 {
