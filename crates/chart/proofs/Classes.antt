@@ -7,29 +7,29 @@ use native.Mathlib.Numerals.{add-one}
 use native.Mathlib.Nat.{eq-or-lt_of_le, le_of_suc-le-suc}
 use native.Mathlib.Omega.{arith}
 use Rattle.chart.specs.Laws.Merged.{classes, grows, Numbered, first}
-use Rattle.chart.specs.Duties.Level.{Decides, Agrees, Placed, Sorted}
+use Rattle.std.specs.Bool.{Decides}
+use Rattle.chart.specs.Duties.Level.{Placed, Sorted}
 use native.Mathlib.Decide.{dec_lt}
-use lib.Dec.{leb}
-use borrow.Author.Tests.{leb-true, le-leb}
 
 true_not_false : {r : Bool} → r ≡ true → r ≡ false → ⊥
 true_not_false p q = let z : ◌≡◌ {A = ℕ} 0 1 = cc in omega arith
 
 pub decided_no : {P : Type 0} → (P → ⊥) → Decides false P
-decided_no n = record { yes = λ e. absurd (true_not_false e refl); no = λ p. absurd (n p) }
+decided_no n = (λ e. absurd (true_not_false e refl), λ p. absurd (n p))
 
 pub refuted : {r : Bool} {P : Type 0} → Decides r P → r ≡ false → P → ⊥
-refuted d e p = true_not_false (d.no p) e
+refuted d e p = true_not_false (d.1 p) e
 
 pub decides_as : {r : Bool} {P Q : Type 0} → (P → Q) → (Q → P) → Decides r P → Decides r Q
-decides_as f g d = record { yes = λ e. f (d.yes e); no = λ q. d.no (g q) }
+decides_as f g d = (λ e. f (d.0 e), λ q. d.1 (g q))
 
--- whether a property holds of all numbers below n, by the first of which it does not
-pub agrees_decides : {P : ℕ → Type 0} {n r : ℕ} → Agrees P n r → Decides (leb n r) ((q : ℕ) → q < n → P q)
-agrees_decides {P} {n} {r} a = record {
-  yes = λ e q h. a.before q (omega (arith, leb-true n r e));
-  no = λ f. by_cases (dec_lt r n) (λ h. absurd (a.here h (f r h))) (λ h. le-leb n r (omega arith));
-}
+-- a row's class: the one that is found, or the next
+module _ {R : ℕ → ℕ → Type 0} {lead : ℕ → ℕ} {count i : ℕ} where
+  pub placed_found : {q : ℕ} → (q < count) × R (lead q) i → Placed R lead count i q
+  placed_found f = record { within = omega (arith, f.0); known = λ _. f.1; fresh = λ h. absurd (omega (arith, f.0)) }
+
+  pub placed_next : ((p : ℕ) → p < count → R (lead p) i → ⊥) → Placed R lead count i count
+  placed_next n = record { within = omega arith; known = λ h. absurd (omega arith); fresh = λ _. n }
 
 pub record Equivalence (R : ℕ → ℕ → Type 0) : Type 0 where
   pub self : (a : ℕ) → R a a

@@ -3,11 +3,12 @@ use Prim.Native.Nat.{ℕ, ◌+◌, ◌*◌, ◌<◌, ◌≤◌}
 use mathlib.Core.Path.{◌≡◌, refl, sym, ap, ap₂, ◌∙◌, subst}
 use mathlib.Core.Logic.{by_cases}
 use mathlib.Core.List.{List, ◌++◌, List-discrete}
-use native.Mathlib.Decide.{ℕ_discrete, dec_lt, dec_le}
+use native.Mathlib.Decide.{ℕ_discrete, dec_le}
 use native.Mathlib.Nat.{le_trans}
 use native.Mathlib.Omega.{arith}
 use lib.ListN.{length, get_or, drop}
-use lib.Seq.{ext_get_or}
+use Rattle.std.specs.Prelude.{Option, Some, None}
+use Rattle.std.proofs.lemmas.Option.{MatchOption-at_some, MatchOption-at_none}
 use Rattle.pack.specs.Syntax.{Node}
 use Rattle.pack.specs.State.{State, node, target, meaning, Closed}
 use Rattle.pack.specs.Duties.Table.{cells, rows_at, Above}
@@ -15,7 +16,7 @@ use Rattle.pack.specs.Reading.{gives}
 use Rattle.pack.specs.Laws.Table.{finds_walk}
 use Rattle.pack.specs.Laws.Rows.{cells_at, rows_length}
 use Rattle.std.specs.Prelude.{Option, Some, None}
-use Rattle.chart.specs.declared.Difference as found
+use Rattle.chart.specs.declared.Difference as parting
 use Rattle.chart.specs.Compare.{Verdict, same, differ, Compared, Differ}
 use Rattle.chart.specs.Call.{chain_room, work_room}
 use Rattle.chart.specs.Promises.{after}
@@ -25,14 +26,14 @@ use Rattle.chart.specs.Laws.Bridge.{val, meaning_at}
 use Rattle.chart.specs.Laws.Comparing.{differ_valid}
 use Rattle.chart.specs.Laws.Moore as moore
 use Rattle.chart.specs.Duties.Numbers.{Sound}
-use Rattle.chart.specs.Duties.Level.{Agrees, SameByte}
+use Rattle.chart.specs.Duties.Level.{FirstNot, SameByte}
 use Rattle.chart.specs.Inner.Pairs.{left_at, right_at, Paired, PairsIn, FirstMet, FirstOther, Sought, Ways, Writable, LongWay, WayWritten}
 use Rattle.chart.specs.Duties.Look.{NodesRead}
 use Rattle.chart.specs.Duties.Put.{Cleared}
 use Rattle.chart.specs.Inner.Match.{Joinable, Joined, Matchable, Said, RowsMatched, ChartsMatched}
 use Rattle.chart.specs.Laws.Cells.{cells-length, row_in, rows_node, rows_same, rows_most}
 use Rattle.chart.proofs.PartitionLevels.{sound_closed}
-use Rattle.chart.proofs.MetPairs.{pairs_first}
+use Rattle.chart.proofs.MetPairs.{entries_most, pairs_first}
 use Rattle.chart.specs.Laws.ChartBytes.{front_back}
 use Rattle.chart.specs.Laws.LookedUp.{cleared_all}
 use Rattle.chart.specs.Laws.LoadedNodes.{read_slim}
@@ -62,7 +63,7 @@ module _ {work : List ℕ} {n m f c : ℕ} {chain : List ℕ} (p : Matchable wor
     pub match_pairs : PairsIn mid (n + m) w f c 1 2048 6144 1 0 0
     match_pairs = pairs_first (rows_at mid w f c 1 (n + m)) (omega (arith, p.few)) (omega (arith, p.some)) (omega (arith, p.some)) b
 
-    module _ {now : List ℕ} {k : ℕ} (x : Sought mid now (n + m) w f c 1 2048 6144 k) where
+    module _ {now : List ℕ} {r : Option (ℕ × ℕ)} (x : Sought mid now (n + m) w f c 1 2048 6144 r) where
       -- bytes of the rows are as they were
       low : (q : ℕ) → q < 2048 → get_or now q 0 ≡ get_or work q 0
       low q h = x.low q h ∙ b.low q h
@@ -70,20 +71,25 @@ module _ {work : List ℕ} {n m f c : ℕ} {chain : List ℕ} (p : Matchable wor
       high : Above work now 26624
       high q h = x.high q (omega arith) ∙ b.high q (omega arith)
 
-      pub matched_same : 4096 ≤ k → RowsMatched work now n m f c chain chain None
-      matched_same h = record {
+      pub matched_same : r ≡ None → RowsMatched work now n m f c chain chain None
+      matched_same e = record {
         verdict = same;
-        true = ap₂ (λ (t : List Node) (i : ℕ). meaning c t i) (sym kept) (sym b.left) ∙ x.none h ∙ ap₂ (λ (t : List Node) (i : ℕ). meaning c t i) kept b.right;
+        true = ap₂ (λ (t : List Node) (i : ℕ). meaning c t i) (sym kept) (sym b.left) ∙ MatchOption-at_none _ _ e x.found ∙ ap₂ (λ (t : List Node) (i : ℕ). meaning c t i) kept b.right;
         said = record { answer = refl; result = refl };
         high = high;
       }
 
-      module _ (some : k < 4096) (long : length now ≡ length work) where
+      module _ {k fluent : ℕ} (e : r ≡ Some (k, fluent)) (long : length now ≡ length work) where
+        -- its entry, and the first value that is another
+        found : FirstOther (rows_at mid w f c 1 (n + m)) (left_at mid 6144 0) (right_at mid 6144 0) now (n + m) c 2048 6144 k
+            × FirstNot (SameByte now (1 + left_at now 6144 k * w) (1 + right_at now 6144 k * w)) f fluent
+        found = MatchOption-at_some _ _ (k, fluent) e x.found
+
         -- the first pair of which the values differ
         other : FirstOther T 0 n now (n + m) c 2048 6144 k
         other = subst (λ (t : List Node). FirstOther t 0 n now (n + m) c 2048 6144 k) kept
             (subst (λ (r : ℕ). FirstOther (rows_at mid w f c 1 (n + m)) r n now (n + m) c 2048 6144 k) b.left
-            (subst (λ (s : ℕ). FirstOther (rows_at mid w f c 1 (n + m)) (left_at mid 6144 0) s now (n + m) c 2048 6144 k) b.right (x.some some)))
+            (subst (λ (s : ℕ). FirstOther (rows_at mid w f c 1 (n + m)) (left_at mid 6144 0) s now (n + m) c 2048 6144 k) b.right found.0))
 
         abbrev way : List ℕ
         way = other.pairs.met.way k
@@ -93,6 +99,9 @@ module _ {work : List ℕ} {n m f c : ℕ} {chain : List ℕ} (p : Matchable wor
 
         abbrev v : ℕ
         v = right_at now 6144 k
+
+        some : k < 4096
+        some = omega (arith, other.there, entries_most (omega (arith, p.few)) other.pairs)
 
         inside : (u < n + m) × (v < n + m)
         inside = other.pairs.inside k other.there
@@ -123,7 +132,7 @@ module _ {work : List ℕ} {n m f c : ℕ} {chain : List ℕ} (p : Matchable wor
                 ∙ ap (λ (s : State). s ch) (meaning_at c T n)
 
         ways : Ways now 6144 k
-        ways = record { way = other.pairs.met.way; root = other.pairs.met.root; on = λ i h l. other.pairs.met.on i h (omega (arith, other.there)); room = omega (arith, p.room) }
+        ways = record { way = other.pairs.met.way; root = other.pairs.met.root; on = λ i h l. other.pairs.met.on i h (omega (arith, other.there)); room = omega (arith, some, p.room) }
 
         pub match_writable : Writable now chain 6144 k
         unfolding ways
@@ -138,24 +147,17 @@ module _ {work : List ℕ} {n m f c : ℕ} {chain : List ℕ} (p : Matchable wor
         values_long : (i : ℕ) → i < n + m → length (node T i).values ≡ f
         values_long i h = ap (λ (x : Node). length x.values) (rows_node work w f c 1 (n + m) i h) ∙ cells-length work (1 + i * w) f
 
-        -- the entry, and the values of its rows, lie within the buffer
-        pub match_inside : (6144 + k * 5 + 2 ≤ length now) × (1 + u * w + f ≤ length now) × (1 + v * w + f ≤ length now)
-        match_inside = (omega (arith, p.room), omega (arith, rows_room, row_in (n + m) w u inside.0, p.room), omega (arith, rows_room, row_in (n + m) w v inside.1, p.room))
+        module _ {chain' : List ℕ} {size : ℕ} (l : LongWay now 6144 k size) (y : WayWritten now chain chain' 6144 k size) where
+          z : FirstNot (SameByte now (1 + u * w) (1 + v * w)) f fluent
+          z = found.1
 
-        module _ {chain' : List ℕ} {size : ℕ} (l : LongWay now 6144 k size) (y : WayWritten now chain chain' 6144 k size) {fluent : ℕ} (z : Agrees (SameByte now (1 + u * w) (1 + v * w)) f fluent) where
           alike : (q : ℕ) → q < fluent → get_or (node T u).values q 0 ≡ get_or (node T v).values q 0
           alike q h = value u q inside.0 (omega (arith, z.within)) ∙ z.before q h ∙ sym (value v q inside.1 (omega (arith, z.within)))
-
-          -- some value differs
-          there : fluent < f
-          there =
-              by_cases (dec_lt fluent f) (λ h. h)
-              (λ h. absurd (other.first.good.1 (left ∙ ext_get_or 0 (node T u).values (node T v).values (values_long u inside.0 ∙ sym (values_long v inside.1)) (λ q l. alike q (omega (arith, values_long u inside.0))) ∙ sym right)))
 
           differs : Differ c (meaning c T 0) (meaning c T n) way fluent
           differs = record {
             first = other.first;
-            here = λ e. z.here there (sym (value u fluent inside.0 there) ∙ ap (λ (l : List ℕ). get_or l fluent 0) (sym left) ∙ e ∙ ap (λ (l : List ℕ). get_or l fluent 0) right ∙ value v fluent inside.1 there);
+            here = λ e. z.here (sym (value u fluent inside.0 z.within) ∙ ap (λ (l : List ℕ). get_or l fluent 0) (sym left) ∙ e ∙ ap (λ (l : List ℕ). get_or l fluent 0) right ∙ value v fluent inside.1 z.within);
             lowest = λ q l. ap (λ (l : List ℕ). get_or l q 0) left ∙ alike q l ∙ ap (λ (l : List ℕ). get_or l q 0) (sym right);
           }
 
@@ -190,7 +192,7 @@ module _ {first second work : List ℕ} {n m f c : ℕ} (p : Joinable first n se
     has_chain_room = room;
   }
 
-  pub charts_matched : {chain chain' mid' now : List ℕ} {r : Option found.Difference} → RowsMatched mid mid' n m f c chain chain' r → Cleared mid' now 0 work_room → length now ≡ length work → ChartsMatched first n second m f c chain chain' work now r
+  pub charts_matched : {chain chain' mid' now : List ℕ} {r : Option parting.Difference} → RowsMatched mid mid' n m f c chain chain' r → Cleared mid' now 0 work_room → length now ≡ length work → ChartsMatched first n second m f c chain chain' work now r
   charts_matched {chain} {chain'} {r = r} y z same-long = record {
     said = λ t u a b.
         subst (λ (v : Verdict). Said v chain chain' r)

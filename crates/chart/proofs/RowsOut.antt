@@ -23,15 +23,9 @@ put_more {src} {was} {now} {from} {to} {k} {more} {less} c l = let v = shifted s
   high = λ p h. get_or-set_other now (to + k) p v 0 (omega arith) ∙ c.high p (omega arith);
 }
 
--- a byte put as it is
-pub put_same : {src was now : List ℕ} {from to k : ℕ} → PartPut src was now from to k 0 0 → to + k < length now → PartPut src was (set now (to + k) (get_or src (from + k) 0)) from to (k + 1) 0 0
-put_same {src} {was} {now} {from} {to} {k} c l = let e : shifted src 0 0 (from + k) ≡ get_or src (from + k) 0 = omega arith in subst (λ (v : ℕ). PartPut src was (set now (to + k) v) from to (k + 1) 0 0) e (put_more c l)
-
-pub put_all : {src was now : List ℕ} {from to q k more less : ℕ} → PartPut src was now from to q more less → q ≤ k → k ≤ q → PartPut src was now from to k more less
-put_all {src} {was} {now} {from} {to} {q} {k} {more} {less} x h l = let e : q ≡ k = omega arith in subst (λ (k : ℕ). PartPut src was now from to k more less) e x
-
-pub put-row : {src was mid now : List ℕ} {from to f c more less : ℕ} → PartPut src was mid from to f 0 0 → PartPut src mid now (from + f) (to + f) c more less → RowPutIn src was now from to f c more less
-put-row {src} {from = from} {to = to} a b = record {
+-- the values as they are, then the beliefs
+pub put_row : {src was mid now : List ℕ} {from to f c more less : ℕ} → PartPut src was mid from to f 0 0 → PartPut src mid now (from + f) (to + f) c more less → RowPutIn src was now from to f c more less
+put_row {src} {from = from} {to = to} a b = record {
   values = λ q h. let e : shifted src 0 0 (from + q) ≡ get_or src (from + q) 0 = omega arith in b.low (to + q) (omega arith) ∙ a.part q h ∙ e;
   beliefs = b.part;
   low = λ p h. b.low p (omega arith) ∙ a.low p h;
@@ -53,6 +47,3 @@ rows_next {src} {was} {now} {now'} {w} {f} {c} {from} {to} {more} {less} {i} wid
   low = λ p l. x.low p (omega arith) ∙ g.low p l;
   high = λ p l. let m : (i + 1) * w ≡ i * w + w = ap (λ (k : ℕ). k * w) (add-one i) ∙ suc-mul i w in x.high p (omega arith) ∙ g.high p (omega arith);
 }
-
-pub rows_all : {src was now : List ℕ} {w f c from to more less i n : ℕ} → RowsPut src was now w f c from to more less i → i ≤ n → n ≤ i → RowsPut src was now w f c from to more less n
-rows_all {src} {was} {now} {w} {f} {c} {from} {to} {more} {less} {i} {n} g h l = let e : i ≡ n = omega arith in subst (λ (i : ℕ). RowsPut src was now w f c from to more less i) e g

@@ -2,6 +2,7 @@
 use mathlib.Core.Path.{◌≡◌, refl, sym, ◌∙◌, ap, subst}
 use mathlib.Core.Logic.{by_cases}
 use mathlib.Core.List.{List}
+use Rattle.std.specs.Prelude.{Some, None}
 use Prim.Native.Nat.{ℕ, ◌+◌, ◌*◌, ◌<◌, ◌≤◌}
 use native.Mathlib.Decide.{dec_lt}
 use native.Mathlib.Omega.{arith}
@@ -12,7 +13,7 @@ use Rattle.pack.specs.Duties.Table.{rows_at, Below, Above}
 use Rattle.chart.specs.Laws.Bridge.{val}
 use Rattle.chart.specs.Laws.Breadth.{met-row, met-first, met_none}
 use Rattle.chart.specs.Duties.Numbers.{Sound}
-use Rattle.chart.specs.Duties.Level.{Agrees, SameByte}
+use Rattle.chart.specs.Duties.Level.{FirstNot, SameByte}
 use Rattle.chart.specs.Inner.Pairs.{left_at, right_at, Paired, Pairs, PairsIn, Followed, Sought}
 use Rattle.chart.specs.Laws.Cells.{row_in}
 use Rattle.chart.proofs.PartitionLevels.{same_rows, still_sound, values_byte, byte_values}
@@ -63,20 +64,22 @@ module _ {was : List ℕ} {n w f c t m q : ℕ} (l : Paired was n w f c t m q) (
     seeking_place long =
         (omega (arith, seeking_few, l.room), omega (arith, row_in n w (left_at now q done) inside.0, l), omega (arith, row_in n w (right_at now q done) inside.1, l))
 
-    module _ {k : ℕ} (z : Agrees (SameByte now (t + left_at now q done * w) (t + right_at now q done * w)) f k) where
-      pub seeking_other : k < f → Sought was now n w f c t m q done
-      seeking_other h = record {
-        none = λ e. absurd (omega (arith, seeking_few));
-        some = λ _. record { count = count; pairs = g.pairs; there = there; first = met-first g.pairs.met g.within g.same there differ };
-        low = g.low;
-        high = g.high;
-      }
-        where
-          differ : (node T (left_at now q done)).values ≡ (node T (right_at now q done)).values → ⊥
-          differ e = z.here h ((values_byte now n w f c t (left_at now q done) (right_at now q done) inside.0 inside.1 (subst (λ (U : List Node). val c U (left_at now q done) ≡ val c U (right_at now q done)) (sym rows) e)).byte k h)
+    abbrev Same : ℕ → Type 0
+    Same = SameByte now (t + left_at now q done * w) (t + right_at now q done * w)
 
-      pub seeking_more : f ≤ k → {now' : List ℕ} {next : ℕ} → Followed now now' n w f c t m q done count next → Seeking was now' n w f c t m q next (done + 1)
-      seeking_more h {now'} {next} p = record {
+    pub seeking_other : {k : ℕ} → FirstNot Same f k → Sought was now n w f c t m q (Some (done, k))
+    seeking_other {k} z = record {
+      found = (record { count = count; pairs = g.pairs; there = there; first = met-first g.pairs.met g.within g.same there differ }, z);
+      low = g.low;
+      high = g.high;
+    }
+      where
+        differ : (node T (left_at now q done)).values ≡ (node T (right_at now q done)).values → ⊥
+        differ e = z.here ((values_byte now n w f c t (left_at now q done) (right_at now q done) inside.0 inside.1 (subst (λ (U : List Node). val c U (left_at now q done) ≡ val c U (right_at now q done)) (sym rows) e)).byte k z.within)
+
+    module _ (z : (j : ℕ) → j < f → Same j) where
+      pub seeking_more : {now' : List ℕ} {next : ℕ} → Followed now now' n w f c t m q done count next → Seeking was now' n w f c t m q next (done + 1)
+      seeking_more {now'} {next} p = record {
         within = omega (arith, p.more);
         pairs = let y = pairs_as rows g.roots.0 g.roots.1 p.pairs in record { met = met-row y.met refl; inside = y.inside; marked = y.marked; listed = y.listed; distinct = y.distinct };
         roots = let (a, b) = p.kept 0 (omega arith) in (a ∙ g.roots.0, b ∙ g.roots.1);
@@ -86,10 +89,10 @@ module _ {was : List ℕ} {n w f c t m q : ℕ} (l : Paired was n w f c t m q) (
       }
         where
           here : (node T (left_at now q done)).values ≡ (node T (right_at now q done)).values
-          here = subst (λ (U : List Node). val c U (left_at now q done) ≡ val c U (right_at now q done)) rows (byte_values now n w f c t (left_at now q done) (right_at now q done) inside.0 inside.1 (record { byte = λ j i. z.before j (omega arith) }))
+          here = subst (λ (U : List Node). val c U (left_at now q done) ≡ val c U (right_at now q done)) rows (byte_values now n w f c t (left_at now q done) (right_at now q done) inside.0 inside.1 (record { byte = z }))
 
           alike : (e : ℕ) → e < done + 1 → (node T (left_at now q e)).values ≡ (node T (right_at now q e)).values
           alike e i = by_cases (dec_lt e done) (λ b. g.same e b) (λ b. let y : done ≡ e = omega arith in subst (λ (e : ℕ). (node T (left_at now q e)).values ≡ (node T (right_at now q e)).values) y here)
 
-  pub seeking_none : count ≤ done → Sought was now n w f c t m q 4096
-  seeking_none h = record { none = λ _. met_none g.pairs.met g.within g.same h; some = λ e. absurd (omega arith); low = g.low; high = g.high }
+  pub seeking_none : count ≤ done → Sought was now n w f c t m q None
+  seeking_none h = record { found = met_none g.pairs.met g.within g.same h; low = g.low; high = g.high }

@@ -2,6 +2,8 @@
 use mathlib.Core.Path.{◌≡◌, refl, sym, ◌∙◌, ap, subst}
 use mathlib.Core.Logic.{◌↔◌, by_cases}
 use mathlib.Core.List.{List}
+use Rattle.std.specs.Prelude.{Bool, Some, None}
+use Rattle.std.specs.Bool.{Decides}
 use Prim.Native.Nat.{ℕ, suc, ◌+◌, ◌*◌, ◌%◌, ◌<◌, ◌≤◌}
 use native.Mathlib.Decide.{dec_lt}
 use native.Mathlib.Omega.{arith}
@@ -9,11 +11,11 @@ use lib.ListN.{get_or, length, set, length-set}
 use lib.Seq.{get_or-set_same, get_or-set_other}
 use Rattle.pack.specs.Duties.Table.{Below, Above}
 use Rattle.chart.specs.Duties.Classed.{class_at}
-use Rattle.chart.specs.Duties.Level.{Agrees, Placed, SameByte, SameValues, Levels, Sorted}
+use Rattle.chart.specs.Duties.Level.{Found, Placed, SameByte, SameValues, Levels, Sorted}
 use Rattle.chart.specs.Laws.Sums.{sum_same}
 use Rattle.chart.specs.Inner.Values.{hash_of, lead_mark, Last, Chain, Chained, Valuable, RowValued, Valued}
 use Rattle.chart.specs.Laws.Cells.{row_in}
-use Rattle.chart.proofs.Classes.{Equivalence, sorted_none, sorted_row}
+use Rattle.chart.proofs.Classes.{Equivalence, decides_as, placed_found, placed_next, sorted_none, sorted_row}
 
 -- `SameValues` is an equivalence
 pub values_equivalence : (bytes : List ℕ) (w f t : ℕ) → Equivalence (SameValues bytes w f t)
@@ -39,12 +41,9 @@ pub mark_same : (bytes bytes' : List ℕ) (a b f : ℕ) → ((q : ℕ) → q < f
 mark_same bytes bytes' a b f h = ap (λ (s : ℕ). s % 131) (sum_same 2 bytes' bytes b a f h)
 
 -- rows held against each other byte by byte
-module _ {bytes : List ℕ} {w f t i j k : ℕ} (x : Agrees (SameByte bytes (t + i * w) (t + j * w)) f k) where
-  pub agrees_values : f ≤ k → SameValues bytes w f t i j
-  agrees_values h = record { byte = λ q l. x.before q (omega arith) }
-
-  pub agrees_not : k < f → SameValues bytes w f t i j → ⊥
-  agrees_not h s = x.here h (s.byte k h)
+pub same_decides : {bytes : List ℕ} {w f t i j : ℕ} {r : Bool} → Decides r ((q : ℕ) → q < f → SameByte bytes (t + i * w) (t + j * w) q)
+    → Decides r (SameValues bytes w f t i j)
+same_decides d = decides_as (λ b. record { byte = b }) (λ s. s.byte) d
 
 -- Looking along the classes of one mark: from class q on none has a leading row with the values of row i
 pub record Looking (bytes : List ℕ) (w f t r i count q : ℕ) : Type 0 where
@@ -69,8 +68,8 @@ module _ {bytes : List ℕ} {w f t a r i count last : ℕ} (x : Chain bytes w f 
     pub looking_lower : {m : ℕ} → m ≡ get_or bytes (a + p) 0 → m < q
     looking_lower z = omega (arith, (x.nexts p (omega (arith, g.within))).within)
 
-    pub looking_found : {j : ℕ} → j ≡ get_or bytes (r + p) 0 → SameValues bytes w f t j i → Placed (SameValues bytes w f t) (λ p. get_or bytes (r + p) 0) count i p
-    looking_found z s = record { within = omega (arith, g.within); known = λ _. subst (λ (j : ℕ). SameValues bytes w f t j i) z s; fresh = λ h. absurd (omega (arith, g.within)) }
+    pub looking_found : {j : ℕ} → j ≡ get_or bytes (r + p) 0 → SameValues bytes w f t j i → Found (SameValues bytes w f t) (λ p. get_or bytes (r + p) 0) count i (Some p)
+    looking_found z s = (omega (arith, g.within), subst (λ (j : ℕ). SameValues bytes w f t j i) z s)
 
     pub looking_next : {j m : ℕ} → j ≡ get_or bytes (r + p) 0 → (SameValues bytes w f t j i → ⊥) → m ≡ get_or bytes (a + p) 0 → Looking bytes w f t r i count m
     looking_next {j} {m} z n y =
@@ -85,8 +84,8 @@ module _ {bytes : List ℕ} {w f t a r i count last : ℕ} (x : Chain bytes w f 
               (λ k. let v : u ≡ p = omega arith in n (subst (λ (j : ℕ). SameValues bytes w f t j i) (ap (λ (u : ℕ). get_or bytes (r + u) 0) v ∙ sym z) s)));
         }
 
-  pub looking_none : {q : ℕ} → Looking bytes w f t r i count q → q ≤ 0 → Placed (SameValues bytes w f t) (λ p. get_or bytes (r + p) 0) count i count
-  looking_none g h = record { within = omega arith; known = λ l. absurd (omega arith); fresh = λ _ p l. g.others p (omega arith) l }
+  pub looking_none : {q : ℕ} → Looking bytes w f t r i count q → q ≤ 0 → Found (SameValues bytes w f t) (λ p. get_or bytes (r + p) 0) count i None
+  looking_none g h p l = g.others p (omega arith) l
 
 -- the last of a mark, by other marks that are the same
 last_as : {mark mark' : ℕ → ℕ} {m b x : ℕ} → Last mark m b x → ((p : ℕ) → p < m → mark' p ≡ mark p) → Last mark' m b x
@@ -157,12 +156,12 @@ module _ {was : List ℕ} {n w f t a k r i count : ℕ} (v : Valuable was n w f 
         other : (b' : ℕ) → b' < 131 → (b' ≡ b → ⊥) → Last (lead_mark now w f t r) (count + 1) b' (get_or (set heads b (count + 1)) b' 0)
         other b' h' z = subst (Last (lead_mark now w f t r) (count + 1) b') (sym (get_or-set_other heads b b' (count + 1) 0 z)) (last_more (old_head b' h') (λ y. z (sym y ∙ mark)))
 
-  module _ {heads : List ℕ} (x : Chained was heads w f t a r count) {q : ℕ} (is : Placed (SameValues was w f t) (λ p. get_or was (r + p) 0) count i q) where
+  module _ {heads : List ℕ} (x : Chained was heads w f t a r count) where
     -- What `value_row` stores
-    pub valued_old : q < count → RowValued was (set was (k + i) q) heads w f t a k r i count count
-    valued_old h = record {
+    pub valued_old : {q : ℕ} → Found (SameValues was w f t) (λ p. get_or was (r + p) 0) count i (Some q) → RowValued was (set was (k + i) q) heads w f t a k r i count count
+    valued_old {q} found = let h = found.0 in record {
       class = q;
-      is = is;
+      is = placed_found found;
       here = get_or-set_same was (k + i) q 0 (omega (arith, v));
       old = λ _. refl;
       new = λ z. absurd (omega arith);
@@ -179,12 +178,12 @@ module _ {was : List ℕ} {n w f t a k r i count : ℕ} (v : Valuable was n w f 
         led : (p : ℕ) → p < count → get_or (set was (k + i) q) (r + p) 0 ≡ get_or was (r + p) 0
         led p l = get_or-set_other was (k + i) (r + p) q 0 (omega (arith, v))
 
-    pub valued_new : count ≤ q → {b last : ℕ} → b < 131 → b ≡ hash_of was (t + i * w) f → last ≡ get_or heads b 0
-        → RowValued was (set (set (set was (k + i) q) (r + count) i) (a + count) last) (set heads b (count + 1)) w f t a k r i count (count + 1)
-    valued_new h {b} {last} hb e z = record {
-      class = q;
-      is = is;
-      here = third (k + i) (omega (arith, v)) ∙ second (k + i) (omega (arith, v)) ∙ get_or-set_same was (k + i) q 0 (omega (arith, v));
+    pub valued_new : Found (SameValues was w f t) (λ p. get_or was (r + p) 0) count i None → {b last : ℕ} → b < 131 → b ≡ hash_of was (t + i * w) f → last ≡ get_or heads b 0
+        → RowValued was (set (set (set was (k + i) count) (r + count) i) (a + count) last) (set heads b (count + 1)) w f t a k r i count (count + 1)
+    valued_new none {b} {last} hb e z = record {
+      class = count;
+      is = placed_next none;
+      here = third (k + i) (omega (arith, v)) ∙ second (k + i) (omega (arith, v)) ∙ get_or-set_same was (k + i) count 0 (omega (arith, v));
       old = λ l. absurd (omega arith);
       new = λ _. (refl, lead);
       classed = λ j l. kept (k + j) (omega (arith, v)) (omega (arith, v)) (omega arith);
@@ -195,7 +194,7 @@ module _ {was : List ℕ} {n w f t a k r i count : ℕ} (v : Valuable was n w f 
     }
       where
         one : List ℕ
-        one = set was (k + i) q
+        one = set was (k + i) count
 
         two : List ℕ
         two = set one (r + count) i
@@ -210,7 +209,7 @@ module _ {was : List ℕ} {n w f t a k r i count : ℕ} (v : Valuable was n w f 
         second p n = get_or-set_other one (r + count) p i 0 n
 
         kept : (p : ℕ) → (p ≡ a + count → ⊥) → (p ≡ r + count → ⊥) → (p ≡ k + i → ⊥) → get_or now p 0 ≡ get_or was p 0
-        kept p x y z = third p x ∙ second p y ∙ get_or-set_other was (k + i) p q 0 z
+        kept p x y z = third p x ∙ second p y ∙ get_or-set_other was (k + i) p count 0 z
 
         low : Below was now a
         low p l = kept p (omega arith) (omega (arith, v)) (omega (arith, v))
@@ -219,10 +218,10 @@ module _ {was : List ℕ} {n w f t a k r i count : ℕ} (v : Valuable was n w f 
         led p l = kept (r + p) (omega (arith, v)) (omega arith) (omega (arith, v))
 
         lead : get_or now (r + count) 0 ≡ i
-        lead = third (r + count) (omega (arith, v)) ∙ get_or-set_same one (r + count) i 0 (omega (arith, v, length-set was (k + i) q))
+        lead = third (r + count) (omega (arith, v)) ∙ get_or-set_same one (r + count) i 0 (omega (arith, v, length-set was (k + i) count))
 
         next : get_or now (a + count) 0 ≡ last
-        next = get_or-set_same two (a + count) last 0 (omega (arith, v, length-set one (r + count) i, length-set was (k + i) q))
+        next = get_or-set_same two (a + count) last 0 (omega (arith, v, length-set one (r + count) i, length-set was (k + i) count))
 
 -- The rows below i are classed by their values
 pub record Valuing (was now heads : List ℕ) (n w f t a k r i count : ℕ) : Type 0 where

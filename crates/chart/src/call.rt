@@ -5,7 +5,6 @@ ghost use Rattle.pack.specs.Reading.{gives, refuses, pick};
 ghost use Rattle.pack.specs.Duties.Said.{replied};
 ghost use Rattle.chart.specs.Replies.{all_below};
 
-use pack::number::wide;
 use pack::refusal::Refusal;
 
 // How long a work buffer must be, of which so many bytes are set to 0 in the end.
@@ -41,14 +40,7 @@ pub fn check_lent(enough: bool, in_range: bool) -> Result<(), Refusal>
 pub fn all_below(chain: &[u8], characters: usize) -> bool
     ensures { result ≡ all_below characters chain.now }
 {
-    let mut i = 0;
-    while i < chain.len() {
-        if characters <= wide(chain[i]) {
-            return false;
-        }
-        i += 1;
-    }
-    true
+    chain.iter().all(|c| usize::from(*c) < characters)
 }
 
 // Whether a chain's characters and a fluent are there.

@@ -10,7 +10,7 @@ use crate::Difference;
 use crate::bytes::clear;
 use crate::call::{CHAIN_ROOM, WORK_ROOM, both_at_most, check_lent};
 use crate::out::{Shift, put_rows};
-use crate::pairs::{MET, meet_first, other_value, seek, write_chain};
+use crate::pairs::{meet_first, seek, write_chain};
 use pack::contents::read_contents;
 use pack::node::check_chart;
 use pack::refusal::Refusal;
@@ -68,12 +68,8 @@ pub fn match_rows(work: &mut [u8], n: TwoCharts, chain: &mut [u8]) -> Option<Dif
         width,
     };
     meet_first(work, 0, n.first);
-    let k = seek(work, t);
-    if 4096 <= k {
-        return None;
-    }
+    let (k, fluent) = seek(work, t)?;
     let length = write_chain(work, k, chain);
-    let fluent = other_value(work, t, MET + k * 5);
     Some(Difference { length, fluent })
 }
 

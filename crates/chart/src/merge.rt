@@ -5,7 +5,6 @@ ghost use Rattle.chart.specs.Duties.Classed.{Mapped, RowPut, ClassPut, Room, Cla
 ghost use Rattle.chart.specs.Duties.OfTable.{of_table, of_rows};
 
 use crate::bytes::copy_part;
-use pack::number::wide;
 use pack::table::Table;
 
 // Writes the classes of the c rows that stand from `from` on, from `to` on.
@@ -14,11 +13,8 @@ pub fn map_part(work: &mut [u8], from: usize, to: usize, k: usize, n: usize, c: 
     requires below { (d : ℕ) → d < c → get_or work.old (from + d) 0 < n }
     ensures { Mapped work.old work.new from to k c }
 {
-    let mut d = 0;
-    while d < c {
-        let b = wide(work[from + d]);
-        work[to + d] = work[k + b];
-        d += 1;
+    for d in 0..c {
+        work[to + d] = work[k + usize::from(work[from + d])];
     }
 }
 
@@ -39,7 +35,7 @@ pub fn write_class(work: &mut [u8], t: Table, k: usize, u: usize, i: usize, coun
     requires within { (i < t.nodes) × (count < t.nodes) }
     ensures { of_rows (ClassPut work.old work.new) t k u i count result }
 {
-    if wide(work[k + i]) < count {
+    if usize::from(work[k + i]) < count {
         return count;
     }
     put_mapped(
@@ -61,10 +57,8 @@ pub fn write_merged(work: &mut [u8], t: Table, k: usize, u: usize) -> usize
     ensures { of_table (WrittenOut work.old work.new) t u result }
 {
     let mut count = 0;
-    let mut i = 0;
-    while i < t.nodes {
+    for i in 0..t.nodes {
         count = write_class(work, t, k, u, i, count);
-        i += 1;
     }
     count
 }

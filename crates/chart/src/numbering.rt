@@ -2,17 +2,12 @@
 ghost use Rattle.std.specs.Prelude.{◌≡◌, ℕ, suc, ◌+◌, ◌<◌, ◌≤◌, max, length, get_or};
 ghost use Rattle.chart.specs.Duties.Numbers.{Numbering, Given, Named};
 
-use pack::number::wide;
-
 // How many are numbered once r, a number below `count` or `count` itself, is.
 pub fn more(count: usize, r: usize) -> usize
     requires { r < 256 }
     ensures { result ≡ max count (suc r) }
 {
-    if r < count {
-        return count;
-    }
-    r + 1
+    count.max(r + 1)
 }
 
 // The number of slot x: the one that it has, or the next.
@@ -21,9 +16,8 @@ pub fn number_of(work: &mut [u8], m: usize, size: usize, count: usize, x: usize)
     requires numbering { Numbering work.old m size count }
     ensures { Given work.old work.new m size count x result }
 {
-    let known = wide(work[m + x]);
-    if known != 0 {
-        return known - 1;
+    if let Some(number) = usize::from(work[m + x]).checked_sub(1) {
+        return number;
     }
     work[m + x] = (count + 1) as u8;
     work[m + size + count] = x as u8;
@@ -46,13 +40,11 @@ pub fn name_beliefs(
         (λ d. get_or work.old (to + d) 0) }
 {
     let mut met = count;
-    let mut k = 0;
-    while k < c {
-        let x = wide(work[to + k]);
+    for k in 0..c {
+        let x = usize::from(work[to + k]);
         let r = number_of(work, m, size, met, x);
         work[to + k] = r as u8;
         met = more(met, r);
-        k += 1;
     }
     met
 }

@@ -19,22 +19,8 @@ pub fn put_part(src: &[u8], from: usize, out: &mut [u8], to: usize, k: usize, s:
     requires shifts { (q : ℕ) → q < k → Shifts src.now s.more s.less (from + q) }
     ensures { PartPut src.now out.old out.new from to k s.more s.less }
 {
-    let mut q = 0;
-    while q < k {
+    for q in 0..k {
         out[to + q] = src[from + q] + s.more - s.less;
-        q += 1;
-    }
-}
-
-// Copies the f bytes of src from `from` on into `out` from `to` on.
-pub fn put_values(src: &[u8], from: usize, out: &mut [u8], to: usize, f: usize)
-    requires { (from + f ≤ length src.now) × (to + f ≤ length out.old) }
-    ensures { PartPut src.now out.old out.new from to f 0 0 }
-{
-    let mut q = 0;
-    while q < f {
-        out[to + q] = src[from + q];
-        q += 1;
     }
 }
 
@@ -45,7 +31,7 @@ pub fn put_beside(src: &[u8], from: usize, f: usize, c: usize, out: &mut [u8], t
     ensures { RowPutIn src.now out.old out.new from to f c s.more
         s.less }
 {
-    put_values(src, from, out, to, f);
+    put_part(src, from, out, to, f, Shift { more: 0, less: 0 });
     put_part(src, from + f, out, to + f, c, s)
 }
 
@@ -58,12 +44,9 @@ pub fn put_rows(src: &[u8], t: Table, out: &mut [u8], to: usize, s: Shift)
     ensures { RowsPut src.now out.old out.new t.width t.fluents
         t.characters t.rows to s.more s.less t.nodes }
 {
-    let n = t.nodes;
-    let mut i = 0;
-    while i < n {
+    for i in 0..t.nodes {
         let from = t.rows + i * t.width;
         put_beside(src, from, t.fluents, t.characters, out, to + i * t.width, s);
-        i += 1;
     }
 }
 

@@ -9,9 +9,7 @@ ghost use Rattle.chart.specs.Duties.Level.{Agrees, SameByte};
 ghost use Rattle.chart.specs.Inner.Pairs.{marks_at, met_at, mark_at, Paired, PairsIn, PairMet};
 ghost use Rattle.chart.specs.Inner.Pairs.{FirstMet, Followed, Sought, Ways, Writable, LongWay, WayWritten};
 
-use crate::bytes::clear;
-use crate::values::first_other;
-use pack::number::wide;
+use crate::bytes::{clear, first_other};
 use pack::table::Table;
 
 // A mark for each pair of 64 rows, and the pairs in the order in which they were met, five bytes each.
@@ -75,36 +73,33 @@ pub fn meet_beliefs(work: &mut [u8], t: Table, done: usize, count: usize) -> usi
         t.characters t.rows marks_at met_at done count result }
 {
     let e = MET + done * 5;
-    let a = t.rows + wide(work[e]) * t.width + t.fluents;
-    let b = t.rows + wide(work[e + 1]) * t.width + t.fluents;
+    let a = t.rows + usize::from(work[e]) * t.width + t.fluents;
+    let b = t.rows + usize::from(work[e + 1]) * t.width + t.fluents;
     let mut met = count;
-    let mut d = 0;
-    while d < t.characters {
-        let x = wide(work[a + d]);
-        let y = wide(work[b + d]);
+    for d in 0..t.characters {
+        let x = usize::from(work[a + d]);
+        let y = usize::from(work[b + d]);
         met = meet(work, met, x, y, done, d);
-        d += 1;
     }
     met
 }
 
-// The first of the values that is another in the two rows of the entry from e on; how many there are where all are
-// the same.
-pub fn other_value(work: &[u8], t: Table, e: usize) -> usize
+// The first of the values that is another in the two rows of the entry from e on.
+pub fn other_value(work: &[u8], t: Table, e: usize) -> Option<usize>
     requires { (e + 2 ≤ length work.now)
         × (t.rows + get_or work.now e 0 * t.width + t.fluents ≤ length work.now)
         × (t.rows + get_or work.now (e + 1) 0 * t.width + t.fluents ≤ length work.now) }
     ensures { Agrees (SameByte work.now (t.rows + get_or work.now e 0 * t.width)
         (t.rows + get_or work.now (e + 1) 0 * t.width)) t.fluents result }
 {
-    let x = wide(work[e]);
-    let y = wide(work[e + 1]);
+    let x = usize::from(work[e]);
+    let y = usize::from(work[e + 1]);
     first_other(work, t.rows + x * t.width, t.rows + y * t.width, t.fluents)
 }
 
 // Goes through the pairs in the order met, and meets those that they lead to, up to the first whose rows have other
-// values: its entry, or 4096 where there is none.
-pub fn seek(work: &mut [u8], t: Table) -> usize
+// values: its entry, and the first value that is another in them.
+pub fn seek(work: &mut [u8], t: Table) -> Option<(usize, usize)>
     requires paired { Paired work.old t.nodes t.width t.fluents t.characters t.rows marks_at met_at
         × Sound work.old t.nodes t.width t.fluents t.characters t.rows }
     requires pairs_in { PairsIn work.old t.nodes t.width t.fluents t.characters t.rows marks_at met_at 1 0 0 }
@@ -114,13 +109,13 @@ pub fn seek(work: &mut [u8], t: Table) -> usize
     let mut count = 1;
     let mut done = 0;
     while done < count {
-        if other_value(work, t, MET + done * 5) < t.fluents {
-            return done;
+        if let Some(fluent) = other_value(work, t, MET + done * 5) {
+            return Some((done, fluent));
         }
         count = meet_beliefs(work, t, done, count);
         done += 1;
     }
-    4096
+    None
 }
 
 // How many characters lead to entry e.

@@ -4,36 +4,34 @@
 // The old classes and the new ones are kept, a byte a row. Levels behind the first compare classes alone, from a row's
 // old class on.
 ghost use Rattle.std.specs.Prelude.{◌≡◌, ℕ, ◌+◌, ◌*◌, ◌<◌, ◌≤◌, length, get_or};
+ghost use Rattle.std.specs.Bool.{Decides};
 ghost use Rattle.chart.specs.Chart.{Ordered};
 ghost use Rattle.pack.specs.Duties.Table.{table_of};
 ghost use Rattle.chart.specs.Duties.Numbers.{Sound};
-ghost use Rattle.chart.specs.Duties.Level.{Decides, Agrees, Placed, SameValues, SameClass, Alike};
+ghost use Rattle.chart.specs.Duties.Level.{Found, SameValues, SameClass, Alike};
 ghost use Rattle.chart.specs.Duties.Level.{RowOk, Against, Levels, Finer, RowClassed, Leveled, Parted};
 ghost use Rattle.chart.specs.Duties.OfTable.{of_table, of_rows, of_values, in_regions, first_of};
 
 use crate::bytes::copy_part;
 use crate::values::{Regions, value_level};
-use pack::number::wide;
 use pack::table::Table;
 
-// The first of the c characters whose beliefs, from a on and from b on, are of different classes, which stand from k
-// on; c where there is none.
-pub fn first_apart(work: &[u8], a: usize, b: usize, c: usize, k: usize) -> usize
+// Whether the beliefs of each of the c characters, from a on and from b on, are of one class. The classes stand from k
+// on.
+pub fn same_classes(work: &[u8], a: usize, b: usize, c: usize, k: usize) -> bool
     requires rows { (a + c ≤ length work.now) × (b + c ≤ length work.now) }
     requires numbers { (d : ℕ) → d < c
         → (k + get_or work.now (a + d) 0 < length work.now) × (k + get_or work.now (b + d) 0 < length work.now) }
-    ensures { Agrees (SameClass work.now a b k) c result }
+    ensures { Decides result ((d : ℕ) → d < c → SameClass work.now a b k d) }
 {
-    let mut d = 0;
-    while d < c {
-        let x = wide(work[a + d]);
-        let y = wide(work[b + d]);
+    for d in 0..c {
+        let x = usize::from(work[a + d]);
+        let y = usize::from(work[b + d]);
         if work[k + x] != work[k + y] {
-            return d;
+            return false;
         }
-        d += 1;
     }
-    c
+    true
 }
 
 // Whether rows i and j are alike, where classes stand from k on. Rows of different classes never are, so that is asked
@@ -48,32 +46,24 @@ pub fn alike(work: &[u8], t: Table, k: usize, i: usize, j: usize) -> bool
     if work[k + i] != work[k + j] {
         return false;
     }
-    t.characters
-        <= first_apart(
-            work,
-            t.rows + i * t.width + t.fluents,
-            t.rows + j * t.width + t.fluents,
-            t.characters,
-            k,
-        )
+    let a = t.rows + i * t.width + t.fluents;
+    let b = t.rows + j * t.width + t.fluents;
+    same_classes(work, a, b, t.characters, k)
 }
 
-// The first of `count` classes whose leading row is alike to row i; or `count` where none is. No class below row i's
-// old one has such a row.
-pub fn class_of(work: &[u8], t: Table, g: Regions, i: usize, count: usize) -> usize
+// The first of `count` classes whose leading row is alike to row i. No class below row i's old one has such a row.
+pub fn class_of(work: &[u8], t: Table, g: Regions, i: usize, count: usize) -> Option<usize>
     requires { of_rows (Against work.now) t g.classes g.firsts count i }
-    ensures { Placed (of_rows (Alike work.now) t g.classes)
+    ensures { Found (of_rows (Alike work.now) t g.classes)
         (first_of work.now g) count i result }
 {
-    let mut q = wide(work[g.classes + i]);
-    while q < count {
-        let j = wide(work[g.firsts + q]);
+    for q in usize::from(work[g.classes + i])..count {
+        let j = usize::from(work[g.firsts + q]);
         if alike(work, t, g.classes, j, i) {
-            return q;
+            return Some(q);
         }
-        q += 1;
     }
-    count
+    None
 }
 
 // Classes row i: by the class whose leading row is alike, or as the leading row of a new class; how many classes there
@@ -84,11 +74,11 @@ pub fn class_row(work: &mut [u8], t: Table, g: Regions, i: usize, count: usize) 
     requires against { of_rows (Against work.old) t g.classes g.firsts count i }
     ensures { in_regions (of_rows (RowClassed work.old work.new) t) g i count result }
 {
-    let q = class_of(work, t, g, i, count);
-    work[g.level + i] = q as u8;
-    if q < count {
+    if let Some(q) = class_of(work, t, g, i, count) {
+        work[g.level + i] = q as u8;
         return count;
     }
+    work[g.level + i] = count as u8;
     work[g.firsts + count] = i as u8;
     count + 1
 }
@@ -101,10 +91,8 @@ pub fn level(work: &mut [u8], t: Table, g: Regions) -> usize
     ensures { in_regions (of_table (Leveled work.old work.new) t) g result }
 {
     let mut count = 0;
-    let mut i = 0;
-    while i < t.nodes {
+    for i in 0..t.nodes {
         count = class_row(work, t, g, i, count);
-        i += 1;
     }
     count
 }

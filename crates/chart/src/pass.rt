@@ -5,7 +5,6 @@ ghost use Rattle.chart.specs.Duties.OfTable.{of_table};
 
 use crate::bytes::{clear, copy_part};
 use crate::numbering::{more, name_beliefs, number_of};
-use pack::number::wide;
 use pack::table::Table;
 
 // Fills row i, of the rows from t on: the values and the beliefs of the row of the table s that number i was given to.
@@ -14,7 +13,7 @@ pub fn fill_row(work: &mut [u8], s: Table, m: usize, t: usize, i: usize, count: 
     requires numbering { Numbering work.old m s.nodes count × (i < count) }
     ensures { of_table (RowCopied work.old work.new) s m t i count result }
 {
-    let x = wide(work[m + s.nodes + i]);
+    let x = usize::from(work[m + s.nodes + i]);
     let from = s.rows + x * s.width;
     let to = t + i * s.width;
     copy_part(work, from, to, s.fluents + s.characters);

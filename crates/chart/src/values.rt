@@ -3,11 +3,11 @@
 // A row is held against the classes of its hash only. There are 131 hashes, since 2 is a primitive root of that prime,
 // so that no value is lost; nothing is proved of how they spread.
 ghost use Rattle.std.specs.Prelude.{◌≡◌, ◌+◌, ◌<◌, ◌≤◌, length, get_or};
-ghost use Rattle.chart.specs.Duties.Level.{Agrees, Placed, SameByte, SameValues, Levels};
+ghost use Rattle.chart.specs.Duties.Level.{Found, SameValues, Levels};
 ghost use Rattle.chart.specs.Inner.Values.{hash_of, Chain, Chained, Valuable, RowValued, Valued};
 ghost use Rattle.chart.specs.Duties.OfTable.{of_table, of_values, in_regions, first_of};
 
-use pack::number::wide;
+use crate::bytes::{digest, same_part};
 use pack::table::Table;
 
 // Where the classes stand in the work buffer: those of the level that is made, those so far, and the first row of each.
@@ -18,52 +18,38 @@ pub struct Regions {
     pub firsts: usize,
 }
 
-// The first of the f bytes from a on that is not the same from b on; f where all are.
-pub fn first_other(work: &[u8], a: usize, b: usize, f: usize) -> usize
-    requires { (a + f ≤ length work.now) × (b + f ≤ length work.now) }
-    ensures { Agrees (SameByte work.now a b) f result }
-{
-    let mut q = 0;
-    while q < f {
-        if work[a + q] != work[b + q] {
-            return q;
-        }
-        q += 1;
-    }
-    f
-}
-
 // The hash of the f bytes from a on, which is below 131: where all bytes are the same, so is the hash.
 pub fn value_hash(work: &[u8], a: usize, f: usize) -> usize
     requires { a + f ≤ length work.now }
     ensures { (result ≡ hash_of work.now a f) × (result < 131) }
 {
-    let mut sum: usize = 0;
-    let mut q = 0;
-    while q < f {
-        sum = (sum * 2 + wide(work[a + q])) % 4294967296;
-        q += 1;
-    }
-    sum % 131
+    digest::<2>(work, a, f) % 131
 }
 
-// The class, of `count`, whose leading row has the values of row i, or `count`. Only those of row i's hash are looked
+// The class, of `count`, whose leading row has the values of row i. Only those of row i's hash are looked
 // at, of which `last` is the last one's number plus 1, and from `g.level` on stands such a number for the one before
 // each.
-pub fn value_class(work: &[u8], t: Table, g: Regions, i: usize, count: usize, last: usize) -> usize
+pub fn value_class(
+    work: &[u8],
+    t: Table,
+    g: Regions,
+    i: usize,
+    count: usize,
+    last: usize,
+) -> Option<usize>
     requires { of_values (Chain work.now) t g.level g.firsts i count last }
-    ensures { Placed (of_values (SameValues work.now) t) (first_of work.now g) count i result }
+    ensures { Found (of_values (SameValues work.now) t) (first_of work.now g) count i result }
 {
     let mut q = last;
     while 0 < q {
         let p = q - 1;
-        let j = wide(work[g.firsts + p]);
-        if t.fluents <= first_other(work, t.rows + j * t.width, t.rows + i * t.width, t.fluents) {
-            return p;
+        let j = usize::from(work[g.firsts + p]);
+        if same_part(work, t.rows + j * t.width, t.rows + i * t.width, t.fluents) {
+            return Some(p);
         }
-        q = wide(work[g.level + p]);
+        q = usize::from(work[g.level + p]);
     }
-    count
+    None
 }
 
 // Classes row i by its values: by the class whose leading row has them, or as the leading row of a new class; how many
@@ -83,11 +69,11 @@ pub fn value_row(
 {
     let b = value_hash(work, t.rows + i * t.width, t.fluents);
     let last = heads[b];
-    let q = value_class(work, t, g, i, count, wide(last));
-    work[g.classes + i] = q as u8;
-    if q < count {
+    if let Some(q) = value_class(work, t, g, i, count, usize::from(last)) {
+        work[g.classes + i] = q as u8;
         return count;
     }
+    work[g.classes + i] = count as u8;
     work[g.firsts + count] = i as u8;
     work[g.level + count] = last;
     heads[b] = (count + 1) as u8;
@@ -101,10 +87,8 @@ pub fn value_level(work: &mut [u8], t: Table, g: Regions) -> usize
 {
     let mut heads = [0u8; 131];
     let mut count = 0;
-    let mut i = 0;
-    while i < t.nodes {
+    for i in 0..t.nodes {
         count = value_row(work, &mut heads, t, g, i, count);
-        i += 1;
     }
     count
 }

@@ -16,8 +16,7 @@ use crate::entry::{Key, keyed, put_key, storable};
 use crate::intern::{digest, extent};
 use crate::limits::Context;
 use crate::regions::{ROWS, STEPS, WAYS};
-use chart::bytes::copy_part;
-use chart::values::first_other;
+use chart::bytes::{copy_part, same_part};
 use pack::number::wide;
 use transition::regions::NUMBERS;
 
@@ -57,7 +56,7 @@ pub fn cell_has(work: &[u8], p: Context, slot: usize, at: usize, k: Key) -> bool
         return false;
     }
     let n = extent(work, p, slot);
-    n <= first_other(work, slot, at + 7, n)
+    same_part(work, slot, at + 7, n)
 }
 
 // The mark of what is known of the table in a slot by a key, where a cell of its bucket holds it; else 0.

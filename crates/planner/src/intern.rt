@@ -16,8 +16,7 @@ ghost use Rattle.planner.specs.Inner.Memory.{Identified, Spent};
 
 use crate::limits::Context;
 use crate::regions::{BLOCKS, ENOUGH, HEADS, LINKS, OVERFLOWED, SLOTS, TAKEN};
-use chart::bytes::{clear, copy_part};
-use chart::values::first_other;
+use chart::bytes::{self, clear, copy_part, same_part};
 use pack::number::wide;
 use pack::table::Table;
 use transition::regions::NUMBERS;
@@ -84,13 +83,7 @@ pub fn digest(work: &[u8], from: usize, n: usize) -> usize
     requires { from + n ≤ length work.now }
     ensures { (result ≡ sum_of 5 work.now from n) × (result < 4294967296) }
 {
-    let mut h = 0;
-    let mut i = 0;
-    while i < n {
-        h = (h * 5 + wide(work[from + i])) % 4294967296;
-        i += 1;
-    }
-    h
+    bytes::digest::<5>(work, from, n)
 }
 
 // One below 127.
@@ -118,7 +111,7 @@ pub fn has_id(work: &[u8], p: Context, t: Table, id: usize) -> bool
     if wide(work[at]) != t.nodes {
         return false;
     }
-    n <= first_other(work, t.rows, at + 1, n)
+    same_part(work, t.rows, at + 1, n)
 }
 
 // Puts a table behind those that are kept, where there is room: its id, or 0.

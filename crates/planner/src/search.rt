@@ -23,10 +23,9 @@ use crate::limits::{Context, Foresight, Limits, Nesting, SEASON, Story, laid_out
 use crate::prune::{Hope, next_promising};
 use crate::reach::{nearest, within_reach};
 use crate::steps::{known_step, steps_made};
-use chart::bytes::{clear, copy_part};
+use chart::bytes::{clear, copy_part, same_part};
 use chart::call::{WORK_ROOM, both_at_most, check_lent, unless_refused};
 use chart::start::{MERGED, merge_table};
-use chart::values::first_other;
 use pack::contents::read_pack;
 use pack::copy::copy_table;
 use pack::judge::utility;
@@ -121,7 +120,7 @@ pub fn repeats(work: &[u8], p: Context, slot: usize, done: usize) -> bool
     let n = extent(work, p, slot);
     let mut i = 0;
     while i < done {
-        if n <= first_other(work, slot, i * p.stride, n) {
+        if same_part(work, slot, i * p.stride, n) {
             return true;
         }
         i += 1;

@@ -1,5 +1,5 @@
 -- One level of the partition: rows classed by their values and by the classes of what they believe. Assumes nothing.
-use Rattle.std.specs.Prelude.{◌≡◌, Bool, true, ◌↔◌, List, ℕ, ◌+◌, ◌*◌, ◌<◌, ◌≤◌, get_or, length}
+use Rattle.std.specs.Prelude.{◌≡◌, ◌↔◌, Option, MatchOption, List, ℕ, ◌+◌, ◌*◌, ◌<◌, ◌≤◌, get_or, length}
 use Rattle.pack.specs.State.{node, target, meaning}
 use Rattle.chart.specs.States.{AtMost}
 use Rattle.chart.specs.Laws.Merged.{classes, Numbered}
@@ -7,16 +7,19 @@ use Rattle.chart.specs.Laws.Moore as moore
 use Rattle.pack.specs.Duties.Table.{rows_at, Below, Above, Between}
 use Rattle.chart.specs.Duties.Classed.{class_at, Classed}
 
--- the flag r says whether P holds
-pub record Decides (r : Bool) (P : Type 0) : Type 0 where
-  pub yes : r ≡ true → P
-  pub no : P → r ≡ true
-
--- P holds of the numbers below r, and r is n, or the first below n of which it does not
-pub record Agrees (P : ℕ → Type 0) (n r : ℕ) : Type 0 where
-  pub within : r ≤ n
+-- r is the first number below n of which P does not hold
+pub record FirstNot (P : ℕ → Type 0) (n r : ℕ) : Type 0 where
+  pub within : r < n
   pub before : (q : ℕ) → q < r → P q
-  pub here : r < n → P r → ⊥
+  pub here : P r → ⊥
+
+-- P holds of the numbers below n, or r is the first of which it does not
+abbrev pub Agrees : (P : ℕ → Type 0) (n : ℕ) → Option ℕ → Type 0
+Agrees P n r = MatchOption r ((q : ℕ) → q < n → P q) (FirstNot P n)
+
+-- the class of `count` whose leading row row i is in R with, where there is one
+abbrev pub Found : (R : ℕ → ℕ → Type 0) (lead : ℕ → ℕ) (count i : ℕ) → Option ℕ → Type 0
+Found R lead count i r = MatchOption r ((p : ℕ) → p < count → R (lead p) i → ⊥) (λ q. (q < count) × R (lead q) i)
 
 -- row i is put into class q of `count`: the one whose leading row it is in R with, or the next where there is none
 pub record Placed (R : ℕ → ℕ → Type 0) (lead : ℕ → ℕ) (count i q : ℕ) : Type 0 where

@@ -1,12 +1,13 @@
 -- Pairs of rows in the order met, breadth first. A pair is marked where it was met, and is an entry of five bytes: its
 -- rows, the number of the entry that it was met from, in two bytes, and the character that leads there. Assumes
 -- nothing.
-use Rattle.std.specs.Prelude.{◌≡◌, ◌⊎◌, ◌≢◌, List, [], ◌∷◌, ◌++◌, ℕ, ◌+◌, ◌*◌, ◌<◌, ◌≤◌, get_or, length}
+use Rattle.std.specs.Prelude.{◌≡◌, ◌⊎◌, ◌≢◌, Option, MatchOption, List, [], ◌∷◌, ◌++◌, ℕ, ◌+◌, ◌*◌, ◌<◌, ◌≤◌, get_or, length}
 use Rattle.pack.specs.Syntax.{Node}
 use Rattle.pack.specs.State.{Valid, meaning}
 use Rattle.pack.specs.Duties.Table.{cells, rows_at, Below, Above}
 use Rattle.chart.specs.Earliest.{Earliest}
 use Rattle.chart.specs.Laws.Breadth.{Met}
+use Rattle.chart.specs.Duties.Level.{FirstNot, SameByte}
 
 -- where the marks of pairs stand, and the pairs in the order met
 abbrev pub marks_at : ℕ
@@ -98,11 +99,13 @@ pub record FirstOther (T : List Node) (r s : ℕ) (bytes : List ℕ) (n c m q k 
   pub there : k < count
   pub first : Earliest (λ ch. Valid c ch × (meaning c T r ch ≢ meaning c T s ch)) (pairs.met.way k)
 
--- what `seek` leaves: k is the first entry whose rows have other values, or 4096 where there is none
-pub record Sought (was now : List ℕ) (n w f c t m q k : ℕ) : Type 0 where
-  pub none : 4096 ≤ k
-      → meaning c (rows_at was w f c t n) (left_at was q 0) ≡ meaning c (rows_at was w f c t n) (right_at was q 0)
-  pub some : k < 4096 → FirstOther (rows_at was w f c t n) (left_at was q 0) (right_at was q 0) now n c m q k
+-- what `seek` leaves: the first entry whose rows have other values, and the first value that is another in them; or
+-- none has
+pub record Sought (was now : List ℕ) (n w f c t m q : ℕ) (r : Option (ℕ × ℕ)) : Type 0 where
+  pub found : MatchOption r
+      (meaning c (rows_at was w f c t n) (left_at was q 0) ≡ meaning c (rows_at was w f c t n) (right_at was q 0))
+      (λ p. FirstOther (rows_at was w f c t n) (left_at was q 0) (right_at was q 0) now n c m q p.0
+      × FirstNot (SameByte now (t + left_at now q p.0 * w) (t + right_at now q p.0 * w)) f p.1)
   pub low : Below was now m
   pub high : Above was now (q + 20480)
 

@@ -1,24 +1,17 @@
--- The bytes before i are below. Assumes nothing.
-use mathlib.Core.Path.{sym}
-use Prim.Native.Nat.{◌<◌}
-use lib.ListN.{get_or}
-use native.Mathlib.Omega.{arith}
-use borrow.Author.Rules.{rules}
-use borrow.Author.Count.{below_more}
-use Rattle.chart.specs.Laws.Arguments.{not_below, all_there}
+-- One test for each byte. Assumes nothing.
+use Rattle.std.proofs.Common.{ℕ, List, [], ◌∷◌, ◌≡◌, ◌&&◌, ◌∙◌, Bool, refl, ap, ltb, rules, tests}
+use Rattle.std.proofs.lemmas.Iterator.{YieldsList-from_slice}
+use Rattle.std.proofs.lemmas.Iterator.Search.{all_from_yields_List}
+use Rattle.std.specs.List.{list_all}
+use Rattle.chart.specs.Replies.{all_below}
 use Rattle.chart.proofs.call.all_below.Goals as goal
 
-pub loop-i-init : goal.loop-i-init
-loop-i-init c = (search rules, λ j h. absurd (omega arith))
-
-pub returns-then-characters-wide : goal.returns-then-characters-wide
-returns-then-characters-wide c =
-    sym (not_below c.args.characters c.args.chain.now c.loop-i.i c.loop-i-test.true (omega (arith, c.if-characters-wide.true, c.wide.ensures)))
-
-pub loop-i-preserved : goal.loop-i-preserved
-loop-i-preserved c =
-    (search rules, below_more (λ j. get_or c.args.chain.now j 0 < c.args.characters) c.loop-i.i c.loop-i.invariant.1 (omega (arith, c.if-characters-wide.false, c.wide.ensures)))
+each : (C : ℕ) (chain : List ℕ) → list_all (λ x. ltb x C) chain ≡ all_below C chain
+unfolding all_below
+each C [] = refl
+each C (x ∷ chain) = ap (λ (b : Bool). ltb x C && b) (each C chain)
 
 pub returns : goal.returns
 returns c =
-    sym (all_there c.args.characters c.args.chain.now (λ j h. c.loop-i.invariant.1 j (omega (arith, c.loop-i-test.false))))
+    all_from_yields_List (λ x. ltb x c.args.characters) _ _ _ c.all.ensures.ran (YieldsList-from_slice c.args.chain.now cc) (λ x b q k. search (rules, tests))
+    ∙ each c.args.characters c.args.chain.now

@@ -1,34 +1,27 @@
 -- Up to the first pair whose values differ, and the way back from there. Assumes nothing.
-use mathlib.Core.Path.{◌∙◌}
-use native.Mathlib.Omega.{arith}
-use Rattle.chart.proofs.MatchedRows.{match_paired, match_sound, match_pairs, match_writable, match_inside, matched_same, matched_differ}
+use Rattle.std.proofs.Common.{rules, sym, subst, ◌≡◌, ◌∙◌, refl, None}
+use Rattle.chart.specs.Inner.Match.{RowsMatched}
+use Rattle.chart.proofs.MatchedRows.{match_paired, match_sound, match_pairs, match_writable, matched_same, matched_differ}
 use Rattle.chart.proofs.compare.match_rows.Goals as goal
 
-pub meet_first-requires : goal.meet_first-requires
-meet_first-requires c = (omega arith, omega (arith, c.requires.few), omega (arith, c.requires.room))
+pub seek-requires : goal.seek-requires
+seek-requires c = record {
+  paired = (match_paired c.requires c.meet_first.auto.work, match_sound c.requires c.meet_first.ensures);
+  pairs_in = match_pairs c.requires c.meet_first.ensures;
+}
 
-pub seek-k-requires : goal.seek-k-requires
-seek-k-requires c =
-    record { paired = (match_paired c.requires c.meet_first.auto.work, match_sound c.requires c.meet_first.ensures); pairs_in = match_pairs c.requires c.meet_first.ensures }
-
-pub returns-then-k-ge4096 : goal.returns-then-k-ge4096
-returns-then-k-ge4096 c =
-    matched_same c.requires c.meet_first.ensures c.seek-k.ensures c.if-k-ge4096.true
+pub returns-in_err-k : goal.returns-in_err-k
+returns-in_err-k c =
+    let none : c.from_residual.result ≡ None = search rules in
+    subst (RowsMatched c.args.work.now c.seek.new.work c.args.n.first c.args.n.second c.args.n.fluents c.args.n.characters c.args.chain.now c.args.chain.now) (sym none)
+    (matched_same c.requires c.meet_first.ensures c.in_err-k.ensures refl)
 
 pub write_chain-length-requires : goal.write_chain-length-requires
 write_chain-length-requires c =
-    match_writable c.requires c.meet_first.ensures c.seek-k.ensures (omega (arith, c.if-k-ge4096.false)) (c.seek-k.auto.work ∙ c.meet_first.auto.work)
-
-pub overflow_mul-k : goal.overflow_mul-k
-overflow_mul-k c = omega (arith, c.if-k-ge4096.false)
-
-pub overflow_add-k : goal.overflow_add-k
-overflow_add-k c = omega (arith, c.if-k-ge4096.false)
-
-pub other_value-fluent-requires : goal.other_value-fluent-requires
-other_value-fluent-requires c =
-    match_inside c.requires c.meet_first.ensures c.seek-k.ensures (omega (arith, c.if-k-ge4096.false)) (c.seek-k.auto.work ∙ c.meet_first.auto.work)
+    match_writable c.requires c.meet_first.ensures c.in_ok-k.ensures refl (c.seek.auto.work ∙ c.meet_first.auto.work)
 
 pub returns : goal.returns
 returns c =
-    matched_differ c.requires c.meet_first.ensures c.seek-k.ensures (omega (arith, c.if-k-ge4096.false)) (c.seek-k.auto.work ∙ c.meet_first.auto.work) c.write_chain-length.ensures.0 c.write_chain-length.ensures.1 c.other_value-fluent.ensures c.write_chain-length.auto.chain
+    let long = c.seek.auto.work ∙ c.meet_first.auto.work in
+    let (way, written) = c.write_chain-length.ensures in
+    matched_differ c.requires c.meet_first.ensures c.in_ok-k.ensures refl long way written c.write_chain-length.auto.chain

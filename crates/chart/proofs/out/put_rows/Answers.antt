@@ -1,11 +1,9 @@
 -- The rows below i are put. Assumes nothing.
-use mathlib.Core.Path.{refl, ◌∙◌}
 use Prim.Native.Nat.{◌≤◌, ◌+◌, ◌*◌}
 use lib.ListN.{length}
 use native.Mathlib.Omega.{arith}
-use borrow.Author.Rules.{rules}
 use Rattle.chart.specs.Laws.Cells.{row_in}
-use Rattle.chart.proofs.RowsOut.{rows_start, rows_next, rows_all}
+use Rattle.chart.proofs.RowsOut.{rows_start, rows_next}
 use Rattle.chart.proofs.out.put_rows.Goals as goal
 use Rattle.chart.proofs.out.put_rows.Goals.{In-loop-i}
 
@@ -17,7 +15,7 @@ place c =
     (omega (arith, r, c.requires.room), omega (arith, r, c.requires.room))
 
 pub loop-i-init : goal.loop-i-init
-loop-i-init c = (search rules, refl, rows_start _ _ _ _ _ _ _ _ _)
+loop-i-init c = rows_start _ _ _ _ _ _ _ _ _
 
 pub overflow_mul-from : goal.overflow_mul-from
 overflow_mul-from c = omega (arith, place (goal.at.overflow_mul-from c).In-loop-i)
@@ -33,15 +31,8 @@ overflow_add-to c = omega (arith, place (goal.at.overflow_add-to c).In-loop-i)
 
 pub put_beside-requires : goal.put_beside-requires
 put_beside-requires c =
-    let (x, y) = place (goal.at.put_beside-requires c).In-loop-i in record { room = (omega (arith, x, c.requires.room), omega (arith, y, c.requires.room, c.loop-i.invariant.1)); shifts = λ d h. c.requires.shifts c.loop-i.i d c.loop-i-test.true h }
+    let (x, y) = place (goal.at.put_beside-requires c).In-loop-i in record { room = (omega (arith, x, c.requires.room), omega (arith, y, c.requires.room, c.loop-i.auto.out)); shifts = λ d h. c.requires.shifts c.loop-i.i d c.loop-i-test.true h }
 
 pub loop-i-preserved : goal.loop-i-preserved
 loop-i-preserved c =
-    let (h, e, g) = c.loop-i.invariant in
-    (search rules, c.put_beside.auto.out ∙ e, rows_next c.requires.room.0 c.requires.room.1 g c.put_beside.ensures)
-
-pub shape_of-out : goal.shape_of-out
-shape_of-out c = c.loop-i.invariant.1
-
-pub returns : goal.returns
-returns c = let (h, e, g) = c.loop-i.invariant in rows_all g h c.loop-i-test.false
+    rows_next c.requires.room.0 c.requires.room.1 c.loop-i.invariant c.put_beside.ensures

@@ -1,10 +1,11 @@
 -- The characters below d are followed. Assumes nothing.
+use mathlib.Core.Path.{sym}
 use Prim.Native.Nat.{◌<◌}
 use native.Mathlib.Omega.{arith}
 use Rattle.chart.specs.Laws.Cells.{row_in}
 use Rattle.chart.proofs.MetPairs.{entries_most, follows_start, follows_left, follows_right, follows_meet, follows_more, follows_all}
 use Rattle.chart.proofs.pairs.meet_beliefs.Goals as goal
-use Rattle.chart.proofs.pairs.meet_beliefs.Goals.{After-slice_known-1, After-wide, After-wide-2}
+use Rattle.chart.proofs.pairs.meet_beliefs.Goals.{After-slice_known-1, After-from, After-from-2}
 
 -- the entries end within the buffer
 few : (c : After-slice_known-1) → c.args.done < 4096
@@ -12,15 +13,15 @@ few c =
     omega (arith, entries_most c.requires.paired.0.few c.requires.pairs_in, c.requires.paired.2)
 
 -- the rows of entry `done` are there
-left_in : (c : After-wide) →
-    c.wide.result < c.args.t.nodes
+left_in : (c : After-from) →
+    c.from.result < c.args.t.nodes
 left_in c =
-    omega (arith, c.wide.ensures, (c.requires.pairs_in.inside _ c.requires.paired.2).0)
+    omega (arith, c.from.ensures, (c.requires.pairs_in.inside _ c.requires.paired.2).0)
 
-right-in : (c : After-wide-2) →
-    c.wide-2.result < c.args.t.nodes
+right-in : (c : After-from-2) →
+    c.from-2.result < c.args.t.nodes
 right-in c =
-    omega (arith, c.wide-2.ensures, (c.requires.pairs_in.inside _ c.requires.paired.2).1)
+    omega (arith, c.from-2.ensures, (c.requires.pairs_in.inside _ c.requires.paired.2).1)
 
 pub overflow_mul-e : goal.overflow_mul-e
 overflow_mul-e c = omega (arith, few c)
@@ -31,20 +32,17 @@ overflow_add-e c = omega (arith, few c, c.requires.paired.0, c.well_formed)
 pub bounds-work-e : goal.bounds-work-e
 bounds-work-e c = omega (arith, few (goal.at.bounds-work-e c).After-slice_known-1, c.requires.paired.0)
 
-pub wide-requires : goal.wide-requires
-wide-requires c = tt
-
 pub overflow_mul-a : goal.overflow_mul-a
 overflow_mul-a c =
-    omega (arith, row_in _ c.args.t.width _ (left_in (goal.at.overflow_mul-a c).After-wide), c.requires.paired.0, c.well_formed)
+    omega (arith, row_in _ c.args.t.width _ (left_in (goal.at.overflow_mul-a c).After-from), c.requires.paired.0, c.well_formed)
 
 pub overflow_add-a : goal.overflow_add-a
 overflow_add-a c =
-    omega (arith, row_in _ c.args.t.width _ (left_in (goal.at.overflow_add-a c).After-wide), c.requires.paired.0, c.well_formed)
+    omega (arith, row_in _ c.args.t.width _ (left_in (goal.at.overflow_add-a c).After-from), c.requires.paired.0, c.well_formed)
 
 pub overflow_add-a-2 : goal.overflow_add-a-2
 overflow_add-a-2 c =
-    omega (arith, row_in _ c.args.t.width _ (left_in (goal.at.overflow_add-a-2 c).After-wide), c.requires.paired.0, c.well_formed)
+    omega (arith, row_in _ c.args.t.width _ (left_in (goal.at.overflow_add-a-2 c).After-from), c.requires.paired.0, c.well_formed)
 
 pub overflow_add-e-2 : goal.overflow_add-e-2
 overflow_add-e-2 c =
@@ -54,23 +52,20 @@ pub bounds-work-e-2 : goal.bounds-work-e-2
 bounds-work-e-2 c =
     omega (arith, few (goal.at.bounds-work-e-2 c).After-slice_known-1, c.requires.paired.0)
 
-pub wide-requires-2 : goal.wide-requires-2
-wide-requires-2 c = tt
-
 pub overflow_mul-b : goal.overflow_mul-b
 overflow_mul-b c =
-    omega (arith, row_in _ c.args.t.width _ (right-in (goal.at.overflow_mul-b c).After-wide-2), c.requires.paired.0, c.well_formed)
+    omega (arith, row_in _ c.args.t.width _ (right-in (goal.at.overflow_mul-b c).After-from-2), c.requires.paired.0, c.well_formed)
 
 pub overflow_add-b : goal.overflow_add-b
 overflow_add-b c =
-    omega (arith, row_in _ c.args.t.width _ (right-in (goal.at.overflow_add-b c).After-wide-2), c.requires.paired.0, c.well_formed)
+    omega (arith, row_in _ c.args.t.width _ (right-in (goal.at.overflow_add-b c).After-from-2), c.requires.paired.0, c.well_formed)
 
 pub overflow_add-b-2 : goal.overflow_add-b-2
 overflow_add-b-2 c =
-    omega (arith, row_in _ c.args.t.width _ (right-in (goal.at.overflow_add-b-2 c).After-wide-2), c.requires.paired.0, c.well_formed)
+    omega (arith, row_in _ c.args.t.width _ (right-in (goal.at.overflow_add-b-2 c).After-from-2), c.requires.paired.0, c.well_formed)
 
 pub loop-d-init : goal.loop-d-init
-loop-d-init c = follows_start c.requires.paired.2 c.requires.pairs_in c.wide.ensures c.wide-2.ensures
+loop-d-init c = follows_start c.requires.paired.2 c.requires.pairs_in (sym c.from.ensures) (sym c.from-2.ensures)
 
 pub overflow_add-a-in-loop-d : goal.overflow_add-a-in-loop-d
 overflow_add-a-in-loop-d c =
@@ -79,9 +74,6 @@ overflow_add-a-in-loop-d c =
 pub bounds-work-a : goal.bounds-work-a
 bounds-work-a c = omega (arith, follows_left c.requires.paired.0 c.loop-d.invariant, c.loop-d-test.true)
 
-pub wide-x-requires : goal.wide-x-requires
-wide-x-requires c = tt
-
 pub overflow_add-b-in-loop-d : goal.overflow_add-b-in-loop-d
 overflow_add-b-in-loop-d c =
     omega (arith, follows_right c.requires.paired.0 c.loop-d.invariant, c.loop-d-test.true, c.loop-d.invariant.long, c.well_formed)
@@ -89,25 +81,16 @@ overflow_add-b-in-loop-d c =
 pub bounds-work-b : goal.bounds-work-b
 bounds-work-b c = omega (arith, follows_right c.requires.paired.0 c.loop-d.invariant, c.loop-d-test.true)
 
-pub wide-y-requires : goal.wide-y-requires
-wide-y-requires c = tt
-
 pub meet-met-requires : goal.meet-met-requires
 meet-met-requires c =
-    record { small = (follows_meet c.requires.paired.0 c.loop-d.invariant c.requires.paired.1 c.loop-d-test.true c.wide-x.ensures c.wide-y.ensures).0; room = (follows_meet c.requires.paired.0 c.loop-d.invariant c.requires.paired.1 c.loop-d-test.true c.wide-x.ensures c.wide-y.ensures).1 }
-
-pub overflow_add-d : goal.overflow_add-d
-overflow_add-d c = omega (arith, c.loop-d-test.true, c.requires.paired.0.narrow)
-
-pub loop-d-smaller : goal.loop-d-smaller
-loop-d-smaller c = omega (arith, c.loop-d-test.true)
+    let (small, room) = follows_meet c.requires.paired.0 c.loop-d.invariant c.requires.paired.1 c.loop-d-test.true (sym c.from-x.ensures) (sym c.from-y.ensures) in record {
+      small = small;
+      room = room;
+    }
 
 pub loop-d-preserved : goal.loop-d-preserved
 loop-d-preserved c =
-    follows_more c.requires.paired.0 c.loop-d.invariant c.requires.paired.1 c.loop-d-test.true c.wide-x.ensures c.wide-y.ensures c.meet-met.auto.work c.meet-met.ensures
-
-pub shape_of-work : goal.shape_of-work
-shape_of-work c = c.loop-d.invariant.long
+    follows_more c.requires.paired.0 c.loop-d.invariant c.requires.paired.1 c.loop-d-test.true (sym c.from-x.ensures) (sym c.from-y.ensures) c.meet-met.auto.work c.meet-met.ensures
 
 pub returns : goal.returns
 returns c = follows_all c.requires.paired.0 c.loop-d.invariant c.loop-d-test.false

@@ -25,9 +25,9 @@ other_value-requires c =
     let (long, g) = c.loop-done.invariant in
     seeking_place c.requires.paired.0 c.requires.paired.1 g c.loop-done-test.true long
 
-pub returns-then-other_value-t : goal.returns-then-other_value-t
-returns-then-other_value-t c =
-    seeking_other c.requires.paired.0 c.requires.paired.1 c.loop-done.invariant.1 c.loop-done-test.true c.other_value.ensures c.if-other_value-t.true
+pub returns-in-Some : goal.returns-in-Some
+returns-in-Some c =
+    seeking_other c.requires.paired.0 c.requires.paired.1 c.loop-done.invariant.1 c.loop-done-test.true c.in-Some.ensures
 
 pub meet_beliefs-count-requires : goal.meet_beliefs-count-requires
 meet_beliefs-count-requires c =
@@ -43,7 +43,7 @@ loop-done-smaller c = omega (arith, few (goal.at.loop-done-smaller c).In-loop-do
 pub loop-done-preserved : goal.loop-done-preserved
 loop-done-preserved c =
     let (long, g) = c.loop-done.invariant in
-    (c.meet_beliefs-count.auto.work ∙ long, seeking_more c.requires.paired.0 c.requires.paired.1 g c.loop-done-test.true c.other_value.ensures c.if-other_value-t.false c.meet_beliefs-count.ensures)
+    (c.meet_beliefs-count.auto.work ∙ long, seeking_more c.requires.paired.0 c.requires.paired.1 g c.loop-done-test.true c.in_default.ensures c.meet_beliefs-count.ensures)
 
 pub returns : goal.returns
 returns c =

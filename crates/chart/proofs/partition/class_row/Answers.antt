@@ -2,9 +2,8 @@
 use Rattle.chart.proofs.Levels.{row_old, row_new}
 use Rattle.chart.proofs.partition.class_row.Goals as goal
 
-pub returns-then-q-count : goal.returns-then-q-count
-returns-then-q-count c =
-    row_old c.class_of-q.ensures c.requires.room.0 c.requires.room.1 c.if-q-count.true
+pub returns-in-Some : goal.returns-in-Some
+returns-in-Some c = row_old c.requires.room.0 c.requires.room.1 c.in-Some.ensures
 
 pub returns : goal.returns
-returns c = row_new c.class_of-q.ensures c.requires.room.0 c.requires.room.1 c.if-q-count.false
+returns c = row_new c.requires.room.0 c.requires.room.1 c.in_default.ensures

@@ -1,15 +1,8 @@
 -- The rows below i are classed. Assumes nothing.
-use mathlib.Core.Path.{◌≡◌}
-use Prim.Native.Nat.{◌-◌}
-use lib.ListN.{length}
 use Rattle.chart.proofs.Levels.{Leveling}
 use Rattle.chart.proofs.partition.level.Given as goal
 
 abbrev pub invariant-loop-i : goal.invariant-loop-i
 invariant-loop-i l =
-    (length l.work ≡ length l.initial.work) ×
     Leveling l.initial.work l.work l.t.nodes l.t.width l.t.fluents l.t.characters l.t.rows l.g.level l.g.classes l.g.firsts
     l.i l.count
-
-abbrev pub decreases-loop-i : goal.decreases-loop-i
-decreases-loop-i l = l.t.nodes - l.i

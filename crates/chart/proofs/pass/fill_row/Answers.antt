@@ -1,5 +1,5 @@
 -- The row is copied as it is, then its beliefs are named. Assumes nothing.
-use mathlib.Core.Path.{sym, ◌∙◌, ap}
+use mathlib.Core.Path.{◌∙◌, ap}
 use Prim.Native.Nat.{ℕ, ◌<◌, ◌≤◌, ◌+◌, ◌*◌}
 use lib.ListN.{length, get_or}
 use native.Mathlib.Omega.{arith}
@@ -8,21 +8,21 @@ use Rattle.chart.specs.Laws.Cells.{cells_same, row_in, part_behind}
 use Rattle.chart.specs.Laws.Numbering.{few, numbering_same}
 use Rattle.chart.specs.Laws.PassRows.{row_filled}
 use Rattle.chart.proofs.pass.fill_row.Goals as goal
-use Rattle.chart.proofs.pass.fill_row.Goals.{After-struct_known-1, After-wide-x}
+use Rattle.chart.proofs.pass.fill_row.Goals.{After-struct_known-1, After-from-x}
 
 room : (s : After-struct_known-1) → s.args.count ≤ s.args.s.nodes
 room s =
     few s.args.work.now s.args.m s.args.s.nodes s.args.count s.requires.numbering.0
 
 -- where the two rows lie
-place : (c : After-wide-x) →
-    (c.wide-x.result < c.args.s.nodes) ×
-    (c.args.s.rows + c.wide-x.result * c.args.s.width + c.args.s.width ≤ c.args.m) ×
+place : (c : After-from-x) →
+    (c.from-x.result < c.args.s.nodes) ×
+    (c.args.s.rows + c.from-x.result * c.args.s.width + c.args.s.width ≤ c.args.m) ×
     (c.args.t + c.args.i * c.args.s.width + c.args.s.width ≤ length c.args.work.now)
 place c =
-    let x : c.wide-x.result < c.args.s.nodes = omega (arith, c.wide-x.ensures, c.requires.numbering.0.there c.args.i c.requires.numbering.1) in (
+    let x : c.from-x.result < c.args.s.nodes = omega (arith, c.from-x.ensures, c.requires.numbering.0.there c.args.i c.requires.numbering.1) in (
       x,
-      omega (arith, row_in c.args.s.nodes c.args.s.width c.wide-x.result x, c.requires.laid.0.source),
+      omega (arith, row_in c.args.s.nodes c.args.s.width c.from-x.result x, c.requires.laid.0.source),
       omega (arith, row_in c.args.s.nodes c.args.s.width c.args.i (omega (arith, few c.args.work.now c.args.m c.args.s.nodes c.args.count c.requires.numbering.0, c.requires.numbering.1)), c.requires.laid.0.target),
     )
 
@@ -33,37 +33,37 @@ pub bounds-work-m : goal.bounds-work-m
 bounds-work-m c = omega (arith, room (goal.at.bounds-work-m c).After-struct_known-1, c.requires.laid.0)
 
 pub overflow_mul-from : goal.overflow_mul-from
-overflow_mul-from c = omega (arith, place (goal.at.overflow_mul-from c).After-wide-x, c.requires.laid.0)
+overflow_mul-from c = omega (arith, place (goal.at.overflow_mul-from c).After-from-x, c.requires.laid.0)
 
 pub overflow_add-from : goal.overflow_add-from
-overflow_add-from c = omega (arith, place (goal.at.overflow_add-from c).After-wide-x, c.requires.laid.0)
+overflow_add-from c = omega (arith, place (goal.at.overflow_add-from c).After-from-x, c.requires.laid.0)
 
 pub overflow_mul-to : goal.overflow_mul-to
-overflow_mul-to c = omega (arith, place (goal.at.overflow_mul-to c).After-wide-x)
+overflow_mul-to c = omega (arith, place (goal.at.overflow_mul-to c).After-from-x)
 
 pub overflow_add-to : goal.overflow_add-to
-overflow_add-to c = omega (arith, place (goal.at.overflow_add-to c).After-wide-x)
+overflow_add-to c = omega (arith, place (goal.at.overflow_add-to c).After-from-x)
 
 pub overflow_add-s : goal.overflow_add-s
-overflow_add-s c = omega (arith, place (goal.at.overflow_add-s c).After-wide-x, c.requires.laid.0)
+overflow_add-s c = omega (arith, place (goal.at.overflow_add-s c).After-from-x, c.requires.laid.0)
 
 pub copy_part-requires : goal.copy_part-requires
 copy_part-requires c =
-    let (x, from, to) = place (goal.at.copy_part-requires c).After-wide-x in
+    let (x, from, to) = place (goal.at.copy_part-requires c).After-from-x in
     (omega (arith, c.requires.laid.0), omega (arith, c.requires.laid.0), omega (arith, c.requires.laid.0))
 
 pub overflow_add-to-2 : goal.overflow_add-to-2
-overflow_add-to-2 c = omega (arith, place (goal.at.overflow_add-to-2 c).After-wide-x, c.requires.laid.0)
+overflow_add-to-2 c = omega (arith, place (goal.at.overflow_add-to-2 c).After-from-x, c.requires.laid.0)
 
 pub name_beliefs-requires : goal.name_beliefs-requires
 name_beliefs-requires c =
-    let (x, from, to) = place (goal.at.name_beliefs-requires c).After-wide-x in
-    let belief = c.requires.laid.1.beliefs c.wide-x.result in record { room = (omega (arith, c.requires.laid.0), omega (arith, c.requires.laid.0, c.copy_part.auto.work), c.requires.laid.0.few); numbering = numbering_same _ _ _ _ _ c.requires.numbering.0 (λ q l b. c.copy_part.ensures.low q (omega (arith, c.requires.laid.0))); below = λ d l. omega (arith, part_behind c.args.s.fluents c.args.s.characters c.copy_part.ensures d l, belief d x l) }
+    let (x, from, to) = place (goal.at.name_beliefs-requires c).After-from-x in
+    let belief = c.requires.laid.1.beliefs c.from-x.result in record { room = (omega (arith, c.requires.laid.0), omega (arith, c.requires.laid.0, c.copy_part.auto.work), c.requires.laid.0.few); numbering = numbering_same _ _ _ _ _ c.requires.numbering.0 (λ q l b. c.copy_part.ensures.low q (omega (arith, c.requires.laid.0))); below = λ d l. omega (arith, part_behind c.args.s.fluents c.args.s.characters c.copy_part.ensures d l, belief d x l) }
 
 pub returns : goal.returns
 returns c =
     let source : ℕ → ℕ = λ x. c.args.s.rows + x * c.args.s.width in
-    let e = sym c.wide-x.ensures in
+    let e = c.from-x.ensures in
     row_filled _ _ _
     (cells_same _ _ _ _ _ (λ q l. c.copy_part.ensures.part q (omega arith)) ∙ ap (λ (x : ℕ). cells c.args.work.now (source x) c.args.s.fluents) e)
     c.copy_part.ensures.low (λ q l. c.copy_part.ensures.high q (omega (arith, c.requires.laid.0.wide))) c.name_beliefs.ensures

@@ -1,8 +1,7 @@
 -- The mark, the key and the table's bytes. Assumes nothing.
 use native.Mathlib.Omega.{arith}
 use Prim.Native.Nat.{◌+◌}
-use mathlib.Core.Path.{sym}
-use borrow.Author.Tests.{leb-true, leb-false}
+use mathlib.Core.Path.{sym, ◌∙◌}
 use Rattle.planner.proofs.Chains.{table_moved}
 use Rattle.planner.proofs.SameBytes.{table_bytes}
 use Rattle.planner.proofs.TrueMemory.{unset, table_size}
@@ -14,8 +13,8 @@ returns-then-work-at-eq0 c = (unset, λ _ x. omega (arith, x.some, c.if-work-at-
 pub returns-then-not-keyed : goal.returns-then-not-keyed
 returns-then-not-keyed c = (unset, λ _ x. c.keyed.ensures.1 (c.if-not-keyed.true) x.key)
 
-pub first_other-requires : goal.first_other-requires
-first_other-requires c =
+pub same_part-requires : goal.same_part-requires
+same_part-requires c =
     let size = table_size c.args.p c.requires.0 in
     (omega (arith, c.extent-n.ensures, c.requires.0.before, c.requires.0.room, c.requires.0.laid.room), omega (arith, c.extent-n.ensures, size, c.requires.0.room, c.requires.1))
 
@@ -24,7 +23,7 @@ returns c = (
   λ e. record {
     some = omega (arith, c.if-work-at-eq0.false);
     key = c.keyed.ensures.0 (c.if-not-keyed.false);
-    same = table_moved c.args.p c.args.work.now c.args.work.now c.args.slot (c.args.at + 7) (λ i l. sym (c.first_other.ensures.before i (omega (arith, l, c.extent-n.ensures, leb-true c.extent-n.result c.first_other.result e))));
+    same = table_moved c.args.p c.args.work.now c.args.work.now c.args.slot (c.args.at + 7) (λ i l. sym (c.same_part.ensures.0 e i (omega (arith, l, c.extent-n.ensures))));
   },
-  λ e x. c.first_other.ensures.here (omega (arith, leb-false c.extent-n.result c.first_other.result e)) (table_bytes c.args.p c.args.work.now c.args.slot (c.args.at + 7) (sym x.same) c.first_other.result (omega (arith, c.extent-n.ensures, leb-false c.extent-n.result c.first_other.result e))),
+  λ e x. unset (sym e ∙ c.same_part.ensures.1 (λ q l. table_bytes c.args.p c.args.work.now c.args.slot (c.args.at + 7) (sym x.same) q (omega (arith, c.extent-n.ensures, l)))),
 )

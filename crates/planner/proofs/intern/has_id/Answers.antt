@@ -4,7 +4,6 @@ use mathlib.Core.Path.{◌≡◌, sym, ap, ◌∙◌}
 use native.Mathlib.Omega.{arith}
 use lib.ListN.{get_or}
 use Rattle.planner.specs.Inner.Memory.{kept_at}
-use borrow.Author.Tests.{leb-true, leb-false}
 use Rattle.planner.proofs.SameBytes.{named_bytes}
 use Rattle.planner.proofs.TrueMemory.{unset, kept_as, blocks_most}
 use Rattle.planner.proofs.intern.has_id.Goals as goal
@@ -63,8 +62,8 @@ pub overflow_add-at-2 : goal.overflow_add-at-2
 overflow_add-at-2 c =
     omega (arith, c.requires.0.laid.tabled, blocks_most c.args.p c.requires.0.laid c.args.id c.requires.1, c.requires.0.laid.room, c.requires.0.laid.tabled)
 
-pub first_other-requires : goal.first_other-requires
-first_other-requires c =
+pub same_part-requires : goal.same_part-requires
+same_part-requires c =
     (omega (arith, c.requires.0.before, c.requires.0.room, c.requires.0.laid.room, c.requires.0.laid.tabled), omega (arith, c.if-p-wide.false, blocks_most c.args.p c.requires.0.laid c.wide.result (omega (arith, c.wide.ensures, c.type_inv.work (c.args.p.memory + 48))), c.requires.0.room, c.requires.0.laid.room, c.requires.0.laid.tabled))
 
 pub returns : goal.returns
@@ -72,8 +71,8 @@ returns c =
     let here : c.args.p.tables - c.args.p.block + c.args.p.block * c.args.id ≡ kept_at c.args.p c.args.id = ap (λ (x : ℕ). x - c.args.p.block + c.args.p.block * c.args.id) c.requires.0.laid.tabled in
     let count = ap (λ (q : ℕ). get_or c.args.work.now q 0) here in
     let byte : (q : ℕ) → get_or c.args.work.now (c.args.p.tables - c.args.p.block + c.args.p.block * c.args.id + 1 + q) 0 ≡ get_or c.args.work.now (kept_at c.args.p c.args.id + 1 + q) 0 = λ q. ap (λ (x : ℕ). get_or c.args.work.now (x + 1 + q) 0) here in
-    let n = c.args.t.nodes * c.args.t.width in (
+    (
       λ e. kept_as c.args.p c.requires.0 c.args.id (omega (arith, c.if-id-eq0.false)) (omega (arith, c.if-p-wide.false, ap (λ (k : ℕ). c.args.p.block * k) c.wide.ensures)) (omega (arith, count, c.wide-2.ensures, c.if-wide-t.false))
-          (λ q l. sym (byte q) ∙ sym (c.first_other.ensures.before q (omega (arith, l, leb-true (c.args.t.nodes * c.args.t.width) c.first_other.result e)))),
-      λ e x. c.first_other.ensures.here (omega (arith, leb-false n c.first_other.result e)) (named_bytes c.args.p c.args.id c.requires.0 x.count x.same c.first_other.result (omega (arith, leb-false n c.first_other.result e)) ∙ sym (byte c.first_other.result)),
+          (λ q l. sym (byte q) ∙ sym (c.same_part.ensures.0 e q l)),
+      λ e x. unset (sym e ∙ c.same_part.ensures.1 (λ q l. named_bytes c.args.p c.args.id c.requires.0 x.count x.same q l ∙ sym (byte q))),
     )

@@ -20,14 +20,14 @@ pub overflow_mul-i : goal.overflow_mul-i
 overflow_mul-i c =
     omega (arith, slots_upto c.args.p {i = c.loop-i.i} {n = c.args.done} (omega (arith, c.loop-i-test.true)), c.requires.1, c.requires.0.before, c.requires.0.laid.room)
 
-pub first_other-requires : goal.first_other-requires
-first_other-requires c =
+pub same_part-requires : goal.same_part-requires
+same_part-requires c =
     let upto = slots_upto c.args.p {i = c.loop-i.i} {n = c.args.done} (omega (arith, c.loop-i-test.true)) in
     (omega (arith, c.extent-n.ensures, c.requires.0.before, c.requires.0.room, c.requires.0.laid.room), omega (arith, c.extent-n.ensures, upto, c.requires.1, c.requires.0.before, c.requires.0.room, c.requires.0.laid.room))
 
-pub returns-then-n-first_other : goal.returns-then-n-first_other
-returns-then-n-first_other c =
-    (λ e. (c.loop-i.i, c.loop-i-test.true, state_moved c.args.p c.args.work.now c.args.work.now c.args.slot (c.loop-i.i * c.args.p.stride) (λ q l. sym (c.first_other.ensures.before q (omega (arith, l, c.extent-n.ensures, c.if-n-first_other.true))))), λ e. set_not e)
+pub returns-then-same_part : goal.returns-then-same_part
+returns-then-same_part c =
+    (λ e. (c.loop-i.i, c.loop-i-test.true, state_moved c.args.p c.args.work.now c.args.work.now c.args.slot (c.loop-i.i * c.args.p.stride) (λ q l. sym (c.same_part.ensures.0 c.if-same_part.true q (omega (arith, l, c.extent-n.ensures))))), λ e. set_not e)
 
 pub overflow_add-i : goal.overflow_add-i
 overflow_add-i c =
@@ -37,7 +37,7 @@ pub loop-i-preserved : goal.loop-i-preserved
 loop-i-preserved c = (
   omega (arith, c.loop-i-test.true),
   λ j l all. by_cases (ℕ_discrete j c.loop-i.i)
-      (λ z. c.first_other.ensures.here (omega (arith, c.if-n-first_other.false)) (all c.first_other.result (omega (arith, c.if-n-first_other.false)) ∙ ap (λ (j : ℕ). get_or c.args.work.now (j * c.args.p.stride + c.first_other.result) 0) z))
+      (λ z. unset (sym c.if-same_part.false ∙ c.same_part.ensures.1 (λ q h. all q h ∙ ap (λ (j : ℕ). get_or c.args.work.now (j * c.args.p.stride + q) 0) z)))
       (λ z. c.loop-i.invariant.1 j (omega (arith, l, z)) all),
 )
 
