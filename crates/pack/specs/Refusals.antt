@@ -2,6 +2,8 @@
 use Rattle.std.specs.Prelude.{ℕ, ◌+◌}
 use Rattle.pack.specs.declared.refusal.Fault.{Fault}
 use Rattle.pack.specs.declared.refusal.Fault.TheVariants.{Ends, Form, Limit, Absent, Blank, Order, After}
+use Rattle.pack.specs.declared.refusal.Stop.{Stop}
+use Rattle.pack.specs.declared.refusal.Stop.TheVariants.{Condition, Rounds, States}
 use Rattle.pack.specs.declared.refusal.Refusal.{Refusal}
 use Rattle.pack.specs.declared.refusal.Refusal.TheVariants as why
 
@@ -15,15 +17,19 @@ number_of Blank = 5
 number_of Order = 6
 number_of After = 7
 
+-- of what stops an action
+abbrev pub stop_number : Stop → ℕ
+stop_number Condition = 10
+stop_number Rounds = 11
+stop_number States = 12
+
 -- a refusal's number: in a chart a fault's is 20 more
 abbrev pub refusal_number : Refusal → ℕ
 refusal_number (why.Pack flaw) = number_of flaw.fault
 refusal_number (why.Chart flaw) = number_of flaw.fault + 20
 refusal_number why.Short = 8
 refusal_number why.Range = 9
-refusal_number why.Condition = 10
-refusal_number why.Rounds = 11
-refusal_number why.States = 12
+refusal_number (why.Stopped stop) = stop_number stop
 refusal_number why.NoEnding = 13
 
 -- its place: that of the first byte at fault, and else 0

@@ -23,17 +23,23 @@ pub struct Flaw {
     pub at: usize,
 }
 
-// Why a call is refused: by a flaw of its pack or of a chart; as a lent buffer is too short or a number is out of range;
-// as an action's condition fails, a trigger holds after round 16 or there are over 32 states; as there is no ending.
+// What stops an action: its condition fails, a trigger holds after round 16, or there are over 32 states.
+#[derive(Clone, Copy, Debug, PartialEq, Eq)]
+pub enum Stop {
+    Condition,
+    Rounds,
+    States,
+}
+
+// Why a call is refused: a flaw of its pack or of a chart, a lent buffer that is too short, a number out of range, what
+// stops an action, or that there is no ending.
 #[derive(Clone, Copy, Debug, PartialEq, Eq)]
 pub enum Refusal {
     Pack(Flaw),
     Chart(Flaw),
     Short,
     Range,
-    Condition,
-    Rounds,
-    States,
+    Stopped(Stop),
     NoEnding,
 }
 
@@ -71,9 +77,9 @@ impl Refusal {
             Refusal::Chart(flaw) => flaw.fault.number() + 20,
             Refusal::Short => 8,
             Refusal::Range => 9,
-            Refusal::Condition => 10,
-            Refusal::Rounds => 11,
-            Refusal::States => 12,
+            Refusal::Stopped(Stop::Condition) => 10,
+            Refusal::Stopped(Stop::Rounds) => 11,
+            Refusal::Stopped(Stop::States) => 12,
             Refusal::NoEnding => 13,
         }
     }

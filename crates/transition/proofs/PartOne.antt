@@ -11,7 +11,7 @@ use Rattle.pack.specs.State.{meaning}
 use Rattle.pack.specs.Duties.Answer.{dims}
 use Rattle.pack.specs.Duties.Contents.{ActionStands}
 use Rattle.pack.specs.declared.table.Table.{Table}
-use Rattle.transition.specs.declared.stop.Stop.{Stop}
+use Rattle.pack.specs.declared.refusal.Stop.{Stop}
 use Rattle.std.specs.Prelude.{Result}
 use Rattle.transition.specs.declared.change.Change.{Change}
 use Rattle.transition.specs.Happening.{nothing, action_of, observes, act}

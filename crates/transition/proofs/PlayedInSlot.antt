@@ -1,5 +1,5 @@
 -- An action played in a slot: its condition, part 1, and the rounds. Assumes nothing.
-use Prim.Native.Nat.{ℕ, ◌+◌, ◌*◌, ◌<◌, ◌≤◌}
+use Prim.Native.Nat.{ℕ, ◌+◌, ◌*◌, ◌<◌}
 use mathlib.Core.Path.{◌≡◌, refl, sym, ap, ◌∙◌, subst}
 use mathlib.Core.Bool.{Bool, true, false}
 use mathlib.Core.List.{List}
@@ -15,11 +15,12 @@ use Rattle.pack.specs.Duties.Judge.{Over, Judged}
 use Rattle.pack.specs.Duties.Table.{rows_at, state_of}
 use Rattle.pack.specs.declared.table.Table.{Table}
 use Rattle.chart.specs.States.{AtMost}
-use Rattle.transition.specs.declared.stop.Stop.{Stop}
+use Rattle.pack.specs.declared.refusal.Stop.{Stop}
 use Rattle.std.specs.Prelude.{Ok, Err}
 use Rattle.transition.specs.Happening.{nothing, action_of, act, Settles, Stops, Refuses}
 use Rattle.transition.specs.Duties.Stage.{RowsIn}
-use Rattle.transition.specs.Duties.Play.{Setting, Slotted, Acted, SettledIn, PlayedIn, number_of}
+use Rattle.transition.specs.Duties.Play.{Setting, Slotted, Acted, SettledIn, PlayedIn}
+use Rattle.pack.specs.Refusals.{stop_number}
 use Rattle.transition.proofs.Rounds.{only_none, only_then, table_in, slot_small}
 
 module _ {p : Theory} {T : List Node} {pack places : List ℕ} {actions triggers : ℕ} {was : List ℕ} {t : Table} {slot : ℕ} (x : Setting p T pack places actions triggers was t slot) {a : ℕ} (l : a < actions) (root : ℕ) (inside : root < t.nodes) where
@@ -47,8 +48,8 @@ module _ {p : Theory} {T : List Node} {pack places : List ℕ} {actions triggers
     play_forbidden e = record { plays = λ q. absurd (omega arith); refuses = λ q. Refuses.forbidden (may ∙ e); only = only_none was slot }
 
     module _ (e : b ≡ true) {now : List ℕ} where
-      pub play_many : {why : Stop} → Acted (act A z) t was now slot (Err why) → PlayedIn p z a t was now slot (number_of why)
-      play_many {why} y = subst (λ (s : Stop). PlayedIn p z a t was now slot (number_of s)) (sym (y.holds.many why refl).0) (record {
+      pub play_many : {why : Stop} → Acted (act A z) t was now slot (Err why) → PlayedIn p z a t was now slot (stop_number why)
+      play_many {why} y = subst (λ (s : Stop). PlayedIn p z a t was now slot (stop_number s)) (sym (y.holds.many why refl).0) (record {
         plays = λ q. absurd (omega arith);
         refuses = λ q. Refuses.stopped (may ∙ e) (Stops.many (λ m. (y.holds.many why refl).1 (subst (λ (c : ℕ). AtMost 32 c (act A z)) x.tabled.over.characters m)));
         only = y.only;

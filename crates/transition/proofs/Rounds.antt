@@ -3,7 +3,6 @@ use Prim.Native.Nat.{ℕ, suc, ◌+◌, ◌*◌, ◌-◌, ◌<◌, ◌≤◌}
 use mathlib.Core.Path.{◌≡◌, refl, sym, ap, ◌∙◌, subst}
 use mathlib.Core.Bool.{Bool, true, false}
 use mathlib.Core.Option.{Option}
-use mathlib.Core.Logic.{◌≢◌}
 use mathlib.Core.List.{List}
 use native.Mathlib.Nat.{mul-le-mul_right}
 use native.Mathlib.Omega.{arith}
@@ -19,7 +18,7 @@ use Rattle.chart.specs.States.{AtMost}
 use Rattle.chart.specs.Laws.Counted.{counted}
 use Rattle.chart.specs.Laws.Unique.{ordered_reached, some}
 use Rattle.transition.specs.declared.change.Change.{Change}
-use Rattle.transition.specs.declared.stop.Stop.{Stop}
+use Rattle.pack.specs.declared.refusal.Stop.{Stop}
 use Rattle.std.specs.Prelude.{Result, Ok, Err}
 use Rattle.transition.specs.Happening.{Quiet, Settles, Stops, firing, fires, round}
 use Rattle.transition.specs.Laws.Quiet.{quiet}
@@ -28,7 +27,8 @@ use Rattle.transition.specs.Duties.Cause.{Tabled}
 use Rattle.transition.specs.Inner.Change.{Scene, Stands}
 use Rattle.transition.specs.Inner.Fire.{Triggered, Firable, FiredBelow}
 use Rattle.transition.specs.Duties.Stage.{scratch_at, StageRoom, SlotOnly, RowsIn, InSlot, Staged}
-use Rattle.transition.specs.Duties.Play.{Theorized, Setting, Slotted, Left, SettledIn, number_of}
+use Rattle.transition.specs.Duties.Play.{Theorized, Setting, Slotted, Left, SettledIn}
+use Rattle.pack.specs.Refusals.{stop_number}
 use Rattle.transition.specs.Laws.ChangedRows.{small}
 use Rattle.transition.proofs.PartOne.{clash}
 use Rattle.transition.proofs.FiringTriggers.{fires_none}
@@ -191,8 +191,8 @@ module _ {p : Theory} {T : List Node} {pack places : List ℕ} {actions triggers
           unfolding round
           next = subst (λ (z : State). InSlot t (round p.triggers z) then slot r) means (record { rows = λ n e. let g = st.holds.rows n e in record { some = g.some; few = g.few; count = g.count; starts = g.starts }; many = st.holds.many })
 
-          pub round-many : {why : Stop} → r ≡ Err why → SettledIn p s₀ t was then slot (number_of why)
-          round-many {why} e = subst (λ (s : Stop). SettledIn p s₀ t was then slot (number_of s)) (sym (next.many why e).0) (record {
+          pub round-many : {why : Stop} → r ≡ Err why → SettledIn p s₀ t was then slot (stop_number why)
+          round-many {why} e = subst (λ (s : Stop). SettledIn p s₀ t was then slot (stop_number s)) (sym (next.many why e).0) (record {
             settles = λ z. absurd (omega arith);
             stops = λ z. going.stops 12 (Stops.many (λ a. (next.many why e).1 (subst (λ (c : ℕ). AtMost 32 c (round p.triggers g.state)) (sym same_characters) a)));
             only = only_then g.only st.only;

@@ -25,7 +25,7 @@ use Rattle.chart.specs.Laws.Counted.{at_most}
 use Rattle.chart.specs.Laws.Unique.{ordered_reached, some}
 use Rattle.chart.specs.Laws.Cells.{cells_same, row_in, rows_node, rows_same, rows_most}
 use Rattle.chart.specs.Laws.MergedRows.{classed_apart}
-use Rattle.transition.specs.declared.stop.Stop.{Stop}
+use Rattle.pack.specs.declared.refusal.Stop.{Stop}
 use Rattle.std.specs.Prelude.{Result, Ok}
 use Rattle.transition.specs.declared.change.Change.{Change}
 use Rattle.transition.specs.Happening.{change}

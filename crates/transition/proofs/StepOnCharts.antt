@@ -16,7 +16,8 @@ use Rattle.pack.specs.Duties.Copy.{TableCopied}
 use Rattle.pack.specs.declared.table.Table.{Table}
 use Rattle.chart.specs.Call.{work_room, result_after, work_after, cleared}
 use Rattle.chart.specs.Chart.{Starts}
-use Rattle.chart.specs.declared.Charted.TheVariants as charted
+use Rattle.std.specs.Prelude.{Ok, Err}
+use Rattle.pack.specs.declared.refusal.Refusal.TheVariants.{Stopped}
 use Rattle.chart.specs.Duties.Numbers.{Sound}
 use Rattle.chart.specs.Duties.Out.{RowsPut}
 use Rattle.chart.specs.Duties.Put.{Cleared}
@@ -31,14 +32,15 @@ use Rattle.transition.specs.Step.{Outcome, leaves, refused, Steps}
 use Rattle.transition.specs.Answers.{step_table}
 use Rattle.transition.specs.Replies.{outcome_reply}
 use Rattle.transition.specs.Laws.Step.{step_table_lem, step_table_iff}
-use Rattle.transition.specs.declared.stop.Stop.{Stop}
-use Rattle.transition.specs.declared.stop.Stop.TheVariants.{Condition, Rounds, States}
-use Rattle.transition.specs.Duties.Play.{Setting, Left, PlayedIn, number_of}
+use Rattle.pack.specs.declared.refusal.Stop.{Stop}
+use Rattle.pack.specs.declared.refusal.Stop.TheVariants.{Condition, Rounds, States}
+use Rattle.transition.specs.Duties.Play.{Setting, Left, PlayedIn}
+use Rattle.pack.specs.Refusals.{stop_number}
 use Rattle.transition.specs.Laws.Loaded.{read_tabled}
 use Rattle.transition.specs.Inner.Steppable.{Stepping, StepSaid}
 
 -- what stops a step has a number, which is not 0
-pub stops : (why : Stop) → number_of why ≢ 0
+pub stops : (why : Stop) → stop_number why ≢ 0
 stops Condition e = absurd (omega arith)
 stops Rounds e = absurd (omega arith)
 stops States e = absurd (omega arith)
@@ -66,10 +68,13 @@ module _ {p : Theory} {T : List Node} {pack places : List ℕ} {actions triggers
       behind : (q : ℕ) → work_room ≤ q → get_or mid' q 0 ≡ get_or work q 0
       behind q h = z.only.high q (omega arith) ∙ y.above q (omega (arith, read_small x.read))
 
-      pub step_refused : r ≢ 0 → {now : List ℕ} → Cleared mid' now 0 work_room → length now ≡ length work → StepSaid (step_table p T action) out work out now (charted.Refused r 0)
+      pub step_refused : (why : Stop) → r ≡ stop_number why → {now : List ℕ} → Cleared mid' now 0 work_room → length now ≡ length work
+          → StepSaid (step_table p T action) out work out now (Err (Stopped why))
       unfolding result_after
-      step_refused h cl long =
-          let e : step_table p T action ≡ refused r = is (refused r) (Steps.failed (omega (arith, x.there, x.theorized.found.actions)) (subst (λ (s : State). Refuses p s action r) same_state (z.refuses h))) in
+      step_refused why same {now} cl long =
+          let h : r ≢ 0 = λ z. stops why (sym same ∙ z) in
+          let e : step_table p T action ≡ refused (stop_number why) =
+              is (refused r) (Steps.failed (omega (arith, x.there, x.theorized.found.actions)) (subst (λ (s : State). Refuses p s action r) same_state (z.refuses h))) ∙ ap refused same in
           record {
             answer = sym (ap (λ (o : Outcome). told length (outcome_reply o)) e);
             result = sym (ap (λ (o : Outcome). result_after (outcome_reply o) out) e);
@@ -102,7 +107,7 @@ module _ {p : Theory} {T : List Node} {pack places : List ℕ} {actions triggers
             )
 
         pub step_left : {rows : ℕ} → rows ≡ n → {out' now : List ℕ} {m : ℕ} → (m ≡ 1 + rows * (f + c)) × RowsPut mid' (set out 0 rows) out' (f + c) f c 962 1 1 0 rows → length out' ≡ length out
-            → Cleared mid' now 0 work_room → length now ≡ length work → StepSaid (step_table p T action) out work out' now (charted.Chart m)
+            → Cleared mid' now 0 work_room → length now ≡ length work → StepSaid (step_table p T action) out work out' now (Ok m)
         unfolding result_after
         step_left {rows} k {out'} {now} {m} put long cl longer =
             let (size, z) = subst (λ (k : ℕ). (m ≡ 1 + k * (f + c)) × RowsPut mid' (set out 0 k) out' (f + c) f c 962 1 1 0 k) k put in

@@ -6,8 +6,8 @@ ghost use Rattle.transition.specs.Duties.Play.{Untold, Actable, ActsIn};
 use crate::cause::tells;
 use crate::change::Change;
 use crate::stage::stage;
-use crate::stop::Stop;
 use pack::places::{ACTION, EFFECTS, OBSERVED};
+use pack::refusal::Stop;
 use pack::table::Table;
 
 // The lowest character that no effect at a place is meant for, or 7.

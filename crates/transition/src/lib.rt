@@ -12,4 +12,3 @@ pub mod round;
 pub mod settle;
 pub mod stage;
 pub mod step;
-pub mod stop;

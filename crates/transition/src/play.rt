@@ -4,14 +4,14 @@ ghost use Rattle.transition.specs.Inner.Steppable.{Steppable, StepPut};
 
 use crate::regions::{SECOND_ROWS, SLOT};
 use crate::step::{Move, step_slot};
-use chart::Charted;
 use chart::bytes::clear;
-use chart::call::{CHART_ROOM, WORK_ROOM, both_at_most, check_lent, check_under};
+use chart::call::{CHART_ROOM, WORK_ROOM, both_at_most, check_lent};
 use chart::out::write_chart;
 use pack::contents::read_pack;
 use pack::copy::copy_table;
-use pack::number::{Number, wide};
+use pack::node::check_chart;
 use pack::places::PLACES;
+use pack::refusal::Refusal;
 use pack::table::Table;
 
 // How many nodes a chart has, of how many fluents and characters.
@@ -31,7 +31,7 @@ pub fn play(
     n: Size,
     out: &mut [u8],
     work: &mut [u8],
-) -> Charted
+) -> Result<usize, Refusal>
     requires { Steppable pack.now places.now m.triggers m.action chart.now n.nodes n.fluents
         n.characters out.old work.old }
     ensures { StepPut pack.now places.now m.triggers m.action
@@ -49,9 +49,9 @@ pub fn play(
     };
     if let Err(stop) = step_slot(pack, places, m, work, t, 0, SLOT) {
         clear(work, 0, WORK_ROOM);
-        return Charted::Refused(stop.number(), 0);
+        return Err(Refusal::Stopped(stop));
     }
-    let rows = wide(work[SLOT]);
+    let rows = usize::from(work[SLOT]);
     let left = Table {
         rows: SECOND_ROWS,
         nodes: rows,
@@ -61,34 +61,34 @@ pub fn play(
     };
     let length = write_chart(work, left, out);
     clear(work, 0, WORK_ROOM);
-    Charted::Chart(length)
+    Ok(length)
 }
 
 // Step(pack, chart, action, chart out, work): the length of the chart of what the action leaves, which is written, or a
 // refusal's number and place.
-pub fn step(pack: &[u8], chart: &[u8], action: usize, out: &mut [u8], work: &mut [u8]) -> Charted
+pub fn step(
+    pack: &[u8],
+    chart: &[u8],
+    action: usize,
+    out: &mut [u8],
+    work: &mut [u8],
+) -> Result<usize, Refusal>
     ensures { Stepped pack.now chart.now action out.old work.old
         out.new work.new result }
 {
     let mut places = [0u16; PLACES];
-    let p = read_pack(pack, &mut places);
-    let sizes = p.sizes;
-    let answer = p.answer;
-    let nodes = check_under(answer, p.characters, &sizes[..p.fluents], chart);
+    let p = read_pack(pack, &mut places)?;
+    let nodes = check_chart(chart, p.dimensions())?;
     let enough = both_at_most(CHART_ROOM, out.len(), WORK_ROOM, work.len());
-    match check_lent(nodes, enough, action < p.actions) {
-        Number::Refused(k, at) => Charted::Refused(k, at),
-        Number::Is(nodes, _) => {
-            let m = Move {
-                action,
-                triggers: p.triggers,
-            };
-            let n = Size {
-                nodes,
-                fluents: p.fluents,
-                characters: p.characters,
-            };
-            play(pack, &places, m, chart, n, out, work)
-        }
-    }
+    check_lent(enough, action < p.actions)?;
+    let m = Move {
+        action,
+        triggers: p.triggers,
+    };
+    let n = Size {
+        nodes,
+        fluents: p.domains.fluents,
+        characters: p.characters,
+    };
+    play(pack, &places, m, chart, n, out, work)
 }

@@ -12,11 +12,11 @@ use crate::cause::write_told;
 use crate::change::Change;
 use crate::regions::{CLASSES, FIRSTS, LEVEL, MERGED};
 use crate::stage::{put_down, stage};
-use crate::stop::Stop;
 use chart::merge::write_merged;
 use chart::partition::partition;
 use chart::values::Regions;
 use pack::effects::{Wanted, some_effect};
+use pack::refusal::Stop;
 use pack::table::Table;
 
 // Whether the effects at a place are meant for nobody's beliefs.

@@ -4,8 +4,8 @@ ghost use Rattle.transition.specs.Duties.Play.{Settleable, SettlesIn};
 use crate::change::Change;
 use crate::fire::{NOWHERE, fire_all};
 use crate::round::round;
-use crate::stop::Stop;
 use pack::places::PLACES;
+use pack::refusal::Stop;
 use pack::table::Table;
 
 // So many rounds follow an action at most.

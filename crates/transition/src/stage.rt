@@ -7,11 +7,11 @@ ghost use Rattle.transition.specs.Duties.Stage.{StageRoom, Staged, scratch_at};
 
 use crate::change::{Change, change_table};
 use crate::regions::{CLASSES, FIRSTS, LEVEL, MADE, MERGED};
-use crate::stop::Stop;
 use chart::bytes::copy_part;
 use chart::merge::write_merged;
 use chart::partition::partition;
 use chart::values::Regions;
+use pack::refusal::Stop;
 use pack::table::Table;
 
 // Puts n rows of w bytes, which stand from `from` on in the scratch, into the slot at `slot`: their count there and the

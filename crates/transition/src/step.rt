@@ -6,9 +6,9 @@ ghost use Rattle.transition.specs.Duties.Play.{Playable, PlaysIn};
 
 use crate::act::act;
 use crate::settle::settle;
-use crate::stop::Stop;
 use pack::judge::holds;
 use pack::places::ACTION;
+use pack::refusal::Stop;
 use pack::table::Table;
 
 // An action, and how many triggers there are that may fire after it.

@@ -10,8 +10,8 @@ use Rattle.pack.specs.Duties.Places.{places_room}
 use Rattle.pack.specs.Duties.Table.{rows_at}
 use Rattle.pack.specs.declared.table.Table.{Table}
 use Rattle.chart.specs.Chart.{Written, Starts}
-use Rattle.transition.specs.declared.stop.Stop.{Stop}
-use Rattle.transition.specs.declared.stop.Stop.TheVariants.{Condition, Rounds, States}
+use Rattle.pack.specs.Refusals.{stop_number}
+use Rattle.pack.specs.declared.refusal.Stop.{Stop}
 use Rattle.transition.specs.Happening.{act, action_of, Settles, Stops, Plays, Refuses}
 use Rattle.transition.specs.Duties.Cause.{told, Tabled}
 use Rattle.transition.specs.Duties.Stage.{StageRoom, SlotOnly, InSlot}
@@ -75,16 +75,10 @@ pub record Left (s : State) (t : Table) (work : List ℕ) (slot : ℕ) : Type 0 
   pub starts : Starts t.characters s
       (rows_at work t.width t.fluents t.characters (slot + 1) (get_or work slot 0))
 
--- "10 | action's condition fails", "11 | a trigger holds after round 16", "12 | over 32 different states"
-abbrev pub number_of : Stop → ℕ
-number_of Condition = 10
-number_of Rounds = 11
-number_of States = 12
-
 -- the number of what a step hands back: 0 where nothing stops it
 abbrev pub stop_of : Result (Unit {0}) Stop → ℕ
 stop_of (Ok done) = 0
-stop_of (Err why) = number_of why
+stop_of (Err why) = stop_number why
 
 -- it settles in what the slot holds, or stops
 pub record SettledIn (p : Theory) (z : State) (t : Table) (was now : List ℕ) (slot r : ℕ) : Type 0 where

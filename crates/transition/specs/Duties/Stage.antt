@@ -7,8 +7,8 @@ use Rattle.chart.specs.Call.{work_room}
 use Rattle.chart.specs.Chart.{Starts}
 use Rattle.chart.specs.States.{AtMost}
 use Rattle.pack.specs.State.{State}
-use Rattle.transition.specs.declared.stop.Stop.{Stop}
-use Rattle.transition.specs.declared.stop.Stop.TheVariants.{States}
+use Rattle.pack.specs.declared.refusal.Stop.{Stop}
+use Rattle.pack.specs.declared.refusal.Stop.TheVariants.{States}
 use Rattle.transition.specs.Happening.{change}
 use Rattle.transition.specs.Inner.Change.{Scene, at}
 

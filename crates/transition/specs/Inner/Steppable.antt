@@ -1,12 +1,12 @@
 -- Step from a chart's bytes to a chart's bytes: what it is lent, and what it says and leaves. Assumes nothing.
-use Rattle.std.specs.Prelude.{◌≡◌, List, ℕ, ◌<◌, ◌≤◌, length}
+use Rattle.std.specs.Prelude.{◌≡◌, List, ℕ, ◌<◌, ◌≤◌, length, Result}
 use Rattle.pack.specs.Syntax.{Node, Theory}
 use Rattle.pack.specs.Layout.{ChartFits}
 use Rattle.pack.specs.Reading as reading
 use Rattle.chart.specs.Call.{chart_room, work_room, result_after, cleared}
-use Rattle.chart.specs.Promises.{chart_said}
+use Rattle.pack.specs.Duties.Said.{replied}
 use Rattle.chart.specs.Duties.Look.{NodesRead}
-use Rattle.chart.specs.declared.Charted.{Charted}
+use Rattle.pack.specs.declared.refusal.Refusal.{Refusal}
 use Rattle.transition.specs.Step.{Outcome, leaves}
 use Rattle.transition.specs.Answers.{step_table}
 use Rattle.transition.specs.Replies.{outcome_reply}
@@ -33,13 +33,13 @@ Steppable pack places triggers action chart nodes fluents characters out work =
     × ((actions : ℕ) × Stepping p T pack places actions triggers action chart nodes fluents characters out work))
 
 -- the answer and the buffers are what the step's outcome says
-pub record StepSaid (o : Outcome) (out work out' work' : List ℕ) (r : Charted) : Type 0 where
-  pub answer : chart_said r ≡ reading.told length (outcome_reply o)
+pub record StepSaid (o : Outcome) (out work out' work' : List ℕ) (r : Result ℕ Refusal) : Type 0 where
+  pub answer : replied r ≡ reading.told length (outcome_reply o)
   pub result : out' ≡ result_after (outcome_reply o) out
   pub scratch : work' ≡ cleared work
 
 abbrev pub StepPut : (pack places : List ℕ) (triggers action : ℕ) (chart : List ℕ) (nodes fluents characters : ℕ)
-    (out work out' work' : List ℕ) (r : Charted)
+    (out work out' work' : List ℕ) (r : Result ℕ Refusal)
     → Type 0
 StepPut pack places triggers action chart nodes fluents characters out work out' work' r =
     (p : Theory) (T : List Node) (actions : ℕ)

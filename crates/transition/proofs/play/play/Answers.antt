@@ -1,11 +1,9 @@
 -- Loaded, played, written out, cleared. Assumes nothing.
-use Prim.Native.Nat.{ℕ}
-use mathlib.Core.Path.{sym, ap, ◌∙◌, subst}
+use mathlib.Core.Path.{refl, ap, ◌∙◌}
 use native.Mathlib.Omega.{arith}
 use Rattle.chart.specs.Laws.LoadedNodes.{read_copies}
-use Rattle.pack.specs.State.{meaning}
-use Rattle.transition.specs.Duties.Play.{PlayedIn, stop_of}
-use Rattle.transition.proofs.StepOnCharts.{step_from, step_setting, stops, step_refused, step_writes, step_left}
+use Rattle.transition.specs.Duties.Play.{stop_of}
+use Rattle.transition.proofs.StepOnCharts.{step_setting, step_refused, step_writes, step_left}
 use Rattle.transition.proofs.play.play.Goals as goal
 
 pub copy_table-requires : goal.copy_table-requires
@@ -27,7 +25,7 @@ pub returns-in-Err : goal.returns-in-Err
 returns-in-Err c =
     let l = c.copy_table.ensures in
     let s = c.step_slot in
-    λ p T n x. step_refused x l (subst (λ (r : ℕ). PlayedIn p (meaning c.args.n.characters T 0) c.args.m.action (step_from x) c.copy_table.new.buffer s.new.work 961 r) (sym c.number.ensures) (c.in-Err.ensures p T n (step_setting x l) x.there x.read.some)) (λ e. stops c.in-Err.stop (sym c.number.ensures ∙ e)) c.clear.ensures (c.clear.auto.work ∙ s.auto.work ∙ l.long)
+    λ p T n x. step_refused x l (c.in-Err.ensures p T n (step_setting x l) x.there x.read.some) c.in-Err.stop refl c.clear.ensures (c.clear.auto.work ∙ s.auto.work ∙ l.long)
 
 pub bounds-work-961 : goal.bounds-work-961
 bounds-work-961 c =
@@ -39,7 +37,7 @@ write_chart-length-requires c =
     let (p, (T, (n, x))) = c.requires in
     let l = c.copy_table.ensures in
     let s = c.step_slot in
-    let written = step_writes x l (s.ensures p T n (step_setting x l) x.there x.read.some) (ap stop_of c.in_default.is) (sym c.wide-rows.ensures) (s.auto.work ∙ l.long) in
+    let written = step_writes x l (s.ensures p T n (step_setting x l) x.there x.read.some) (ap stop_of c.in_default.is) c.from-rows.ensures (s.auto.work ∙ l.long) in
     record { room = written.0; sound = written.1 }
 
 pub clear-requires-2 : goal.clear-requires-2
@@ -53,4 +51,4 @@ returns c =
     let s = c.step_slot in
     let o = c.write_chart-length in
     let z = c.clear-2 in
-    λ p T n x. step_left x l (s.ensures p T n (step_setting x l) x.there x.read.some) (ap stop_of c.in_default.is) (sym c.wide-rows.ensures) o.ensures o.auto.out z.ensures (z.auto.work ∙ s.auto.work ∙ l.long)
+    λ p T n x. step_left x l (s.ensures p T n (step_setting x l) x.there x.read.some) (ap stop_of c.in_default.is) c.from-rows.ensures o.ensures o.auto.out z.ensures (z.auto.work ∙ s.auto.work ∙ l.long)
