@@ -94,11 +94,13 @@ module _ {A K : Type 0} (w : Run A K) (s : List ℕ) (from : ℕ) where
         sym (left_last (w.part k) s (w.tells k) xs g.end n left y few (e k y.item y.rest (run_here k xs g)) ∙ none k)
 
     -- or the rest does
-    pub run_on : (m : ℕ) → ((k : K) (x : A) (g : Gives (w.part k) s n x) → g.end ≡ m) → ((k : K) (x : A) (rest : List A) → Gives (w.part k) s n x → w.tells k (x ∷ rest) ≡ w.tells k rest) → Rest m (left - 1)
+    pub run_on : (m : ℕ) → ((k : K) (x : A) (g : Gives (w.part k) s n x) → g.end ≡ m) → ((k : K) (x : A) (rest : List A) → Gives (w.part k) s n x → w.tells k (x ∷ rest) ≡ w.tells k rest) → {more : ℕ} → left ≡ more + 1 → Rest m more
     unfolding run_item run_here
-    run_on m ends e k xs g =
+    run_on m ends e {more} is k xs g =
         let y = one k xs g in
-        left_next (w.part k) s (w.tells k) xs g.end n left y m (ends k y.item (run_here k xs g)) (e k y.item y.rest (run_here k xs g))
+        let next = left_next (w.part k) s (w.tells k) xs g.end n left y m (ends k y.item (run_here k xs g)) (e k y.item y.rest (run_here k xs g)) in
+        let fewer : left - 1 ≡ more = omega (arith, is) in
+        subst (λ (k' : ℕ). Left (w.part k) s m k' (w.tells k) xs g.end) fewer next
 
 -- A run over small dimensions
 abbrev pub Tiny : Type 0
@@ -274,13 +276,14 @@ module _ {lows highs : List ℕ} {d : Dimensions} {s : List ℕ} {n left : ℕ} 
   widening_one w h = owed_one (λ (es v : List Effect). es) d s n left [] w.rest end w.reads h
 
   pub widening_next : {lows' highs' : List ℕ} (w : Widening lows highs d s n left xs end) (h : 0 < left) → Small d → Widened effect_at InRange s n lows highs lows' highs'
-      → {m : ℕ} → Ends effect_at s n m → Widening lows' highs' d s m (left - 1) xs end
+      → {m : ℕ} → Ends effect_at s n m → {more : ℕ} → left ≡ more + 1 → Widening lows' highs' d s m more xs end
   unfolding AllInRange widening_one
-  widening_next w h small one ends =
+  widening_next w h small one {m} ends {more} is =
       let x = widening_one w h in
+      let fewer : more ≡ left - 1 = omega (arith, is) in
       record {
         rest = x.rest;
-        reads = record { rest = x.rest; reads = ap (many (effect_at d) (left - 1) s) (ends d small x.item x.place x.here) ∙ x.more; same = refl };
+        reads = record { rest = x.rest; reads = ap (λ (k : ℕ). many (effect_at d) k s m) fewer ∙ ap (many (effect_at d) (left - 1) s) (ends d small x.item x.place x.here) ∙ x.more; same = refl };
         brings = λ A B wider all. w.brings A B (wider_then one.wider wider)
             (subst (AllInRange A B) (sym x.same) (
               λ q. let (l, h) = one.covers d small x.item x.place x.here q in

@@ -67,12 +67,10 @@ pub fn recall_cell(work: &[u8], p: Context, slot: usize, k: Key) -> u8
 {
     let first = bucket_at(work, p, slot, k);
     let size = cell_size(p);
-    let mut i = 0;
-    while i < WAYS {
+    for i in 0..WAYS {
         if cell_has(work, p, slot, first + i * size, k) {
             return work[first + i * size];
         }
-        i += 1;
     }
     0
 }

@@ -287,14 +287,11 @@ pub fn allowed(
 {
     let at = places[ACTION * d.action + CONSENTERS] as usize;
     let count = consenters(pack, at);
-    let mut i = 0;
-    while i < count {
+    for i in 0..count {
         let c = consenter(pack, at, i);
-        let content = fine(pack, places, p, work, slot, c, d);
-        if !content {
+        if !fine(pack, places, p, work, slot, c, d) {
             return false;
         }
-        i += 1;
     }
     true
 }

@@ -41,10 +41,7 @@ pub fn table_in(work: &[u8], p: Context, slot: usize) -> Table
 pub fn is_large(work: &[u8], p: Context) -> bool
     requires { (p.memory ≤ scratch_at) × (work_room ≤ length work.now) }
 {
-    if has_overflowed(work, p) {
-        return true;
-    }
-    ENOUGH <= wide(work[p.memory + TAKEN])
+    has_overflowed(work, p) || ENOUGH <= usize::from(work[p.memory + TAKEN])
 }
 
 // Whether there was once no room, so that all has been forgotten. From then on a search keeps what is worth more than
@@ -70,13 +67,7 @@ pub fn in_cells(work: &[u8], p: Context) -> bool
     requires { (p.memory ≤ scratch_at) × (work_room ≤ length work.now) }
     ensures { (result ≡ true → Spent p work.now) × (result ≡ false → ¬ Spent p work.now) }
 {
-    if !has_overflowed(work, p) {
-        return false;
-    }
-    if work[p.memory + TAKEN] != 0 {
-        return false;
-    }
-    true
+    has_overflowed(work, p) && work[p.memory + TAKEN] == 0
 }
 
 // A number made of n bytes.
@@ -85,10 +76,8 @@ pub fn digest(work: &[u8], from: usize, n: usize) -> usize
     ensures { (result ≡ sum_of 5 work.now from n) × (result < 4294967296) }
 {
     let mut h = 0;
-    let mut i = 0;
-    while i < n {
-        h = (h * 5 + wide(work[from + i])) % 4294967296;
-        i += 1;
+    for byte in &work[from..from + n] {
+        h = (h * 5 + usize::from(*byte)) % 4294967296;
     }
     h
 }

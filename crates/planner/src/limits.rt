@@ -105,20 +105,12 @@ pub fn laid_out(c: Contents, k: Foresight, slots: usize) -> Context
 pub fn explainable(k: Foresight, e: Nesting) -> bool
     ensures { result ≡ (foresight_limit k.0 && nesting_limit e.0) }
 {
-    if both_at_most(1, k.0, k.0, 6) {
-        e.0 <= 3
-    } else {
-        false
-    }
+    both_at_most(1, k.0, k.0, 6) && e.0 <= 3
 }
 
 // Whether T, K and E are.
 pub fn searchable(t: Story, k: Foresight, e: Nesting) -> bool
     ensures { result ≡ (story_limit t.0 && (foresight_limit k.0 && nesting_limit e.0)) }
 {
-    if both_at_most(1, t.0, t.0, 8) {
-        explainable(k, e)
-    } else {
-        false
-    }
+    both_at_most(1, t.0, t.0, 8) && explainable(k, e)
 }

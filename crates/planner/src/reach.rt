@@ -54,10 +54,8 @@ pub fn widen_level(
     ensures { LevelWidened pack.now places.now actions lower.now
         upper.now lows.old highs.old lows.new highs.new }
 {
-    let mut x = 0;
-    while x < actions {
+    for x in 0..actions {
         widen_action(pack, places, x, lower, upper, lows, highs);
-        x += 1;
     }
 }
 

@@ -119,12 +119,10 @@ pub fn repeats(work: &[u8], p: Context, slot: usize, done: usize) -> bool
         × (result ≡ false → ¬ Repeated p work.now slot done) }
 {
     let n = extent(work, p, slot);
-    let mut i = 0;
-    while i < done {
+    for i in 0..done {
         if n <= first_other(work, slot, i * p.stride, n) {
             return true;
         }
-        i += 1;
     }
     false
 }

@@ -27,15 +27,7 @@ pub fn in_range(
     ensures { result
         ≡ (ltb character characters && (ltb action actions && (foresight_limit k.0 && nesting_limit e.0))) }
 {
-    if character < characters {
-        if action < actions {
-            explainable(k, e)
-        } else {
-            false
-        }
-    } else {
-        false
-    }
+    character < characters && action < actions && explainable(k, e)
 }
 
 // The verdict in a chart of so many nodes. The work buffer is cleared.

@@ -16,7 +16,7 @@ pub cell_size-size-requires : goal.cell_size-size-requires
 cell_size-size-requires c = c.requires.laid.narrow
 
 pub loop-i-init : goal.loop-i-init
-loop-i-init c = (omega arith, λ j l. absurd (omega (arith, l)))
+loop-i-init c = λ j l. absurd (omega (arith, l))
 
 pub overflow_mul-i : goal.overflow_mul-i
 overflow_mul-i c =
@@ -51,19 +51,11 @@ returns-then-cell_has c =
       none = λ e. absurd (omega (arith, e, holds.some));
     }
 
-pub overflow_add-i : goal.overflow_add-i
-overflow_add-i c = omega (arith, c.loop-i-test.true)
-
-pub loop-i-smaller : goal.loop-i-smaller
-loop-i-smaller c = omega (arith, c.loop-i-test.true)
-
 pub loop-i-preserved : goal.loop-i-preserved
-loop-i-preserved c = (
-  omega (arith, c.loop-i-test.true),
+loop-i-preserved c =
   λ j g. by_cases (ℕ_discrete j c.loop-i.i)
       (λ e. subst (λ (j : ℕ). ¬ Holds c.args.p c.args.work.now c.args.slot (c.bucket_at-first.result + j * c.cell_size-size.result) c.args.k) (sym e) (c.cell_has.ensures.1 c.if-cell_has.false))
-      (λ n. c.loop-i.invariant.1 j (omega (arith, g, n))),
-)
+      (λ n. c.loop-i.invariant j (omega (arith, g, n)))
 
 pub returns : goal.returns
 returns c =
@@ -71,5 +63,5 @@ returns c =
       found = λ z. absurd (omega (arith, z));
       none = λ _ i few x.
           let here : bucket_at c.args.p c.args.work.now c.args.slot c.args.k + i * cell_size c.args.p ≡ c.bucket_at-first.result + i * c.cell_size-size.result = ap (λ (q : ℕ). q + i * cell_size c.args.p) (sym c.bucket_at-first.ensures.0) ∙ ap (λ (s : ℕ). c.bucket_at-first.result + i * s) (sym c.cell_size-size.ensures) in
-          c.loop-i.invariant.1 i (omega (arith, few, c.loop-i.invariant.0, c.loop-i-test.false)) (subst (λ (q : ℕ). Holds c.args.p c.args.work.now c.args.slot q c.args.k) here x);
+          c.loop-i.invariant i (omega (arith, few, c.loop-i-test.false)) (subst (λ (q : ℕ). Holds c.args.p c.args.work.now c.args.slot q c.args.k) here x);
     }

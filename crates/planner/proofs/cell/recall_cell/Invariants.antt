@@ -5,7 +5,4 @@ use Rattle.planner.proofs.cell.recall_cell.Given as goal
 
 abbrev pub invariant-loop-i : goal.invariant-loop-i
 invariant-loop-i l =
-    (l.i ≤ 4) × ((j : ℕ) → j < l.i → ¬ Holds l.p l.work l.slot (l.first + j * l.size) l.k)
-
-abbrev pub decreases-loop-i : goal.decreases-loop-i
-decreases-loop-i l = 4 - l.i
+    ((j : ℕ) → j < l.i → ¬ Holds l.p l.work l.slot (l.first + j * l.size) l.k)

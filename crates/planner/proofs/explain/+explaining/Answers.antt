@@ -54,39 +54,39 @@ allowed-consenter-c-requires t c =
     let (th, (T, (y, mem))) = c.requires.0 in
     (consent_readable y _ c.requires.1, omega (arith, c.loop-i-test.true, consent_count y _ c.requires.1 c.consenters-count.ensures))
 
-pub allowed-fine-content-requires : goal.allowed-fine-content-requires
-allowed-fine-content-requires t c =
+pub allowed-fine-requires : goal.allowed-fine-requires
+allowed-fine-requires t c =
     let (th, (T, (y, mem))) = c.requires.0 in
     let (long, low, high, rest) = c.loop-i.invariant in
     let count = consent_count y _ c.requires.1 c.consenters-count.ensures in
     let d = consent_each y _ c.requires.1 {i = c.loop-i.i} (omega (arith, count, c.loop-i-test.true)) c.consenter-c.ensures in
     (omega (arith, c.decreases), ((th, (T, (slot_same c.args.slot y low long, (rest th T y mem).0))), d.1, c.requires.1, c.requires.2, c.requires.3, c.requires.4))
 
-pub allowed-returns-then-not-content : goal.allowed-returns-then-not-content
-allowed-returns-then-not-content t c =
+pub allowed-returns-then-not-fine : goal.allowed-returns-then-not-fine
+allowed-returns-then-not-fine t c =
     let (long, low, high, rest) = c.loop-i.invariant in
     λ th T y mem.
-    let told = c.fine-content.ensures th T (slot_same c.args.slot y low long) (rest th T y mem).0 in
+    let told = c.fine.ensures th T (slot_same c.args.slot y low long) (rest th T y mem).0 in
     let count = consent_count y _ c.requires.1 c.consenters-count.ensures in
     let li : c.loop-i.i < length (consenters_of y _ c.requires.1) = omega (arith, count, c.loop-i-test.true) in
     let d = consent_each y _ c.requires.1 li c.consenter-c.ensures in
     told_no (λ q l. told.low q l ∙ low q l) (λ q l. told.high q l ∙ high q l) told.memory
-    (λ agreed. told.complete c.if-not-content.true (content_of th c.args.p.foresight.0 c.args.d.nesting.0 c.args.d.who c.args.d.action (meaning c.args.p.characters T 0) agreed li d.0))
+    (λ agreed. told.complete c.if-not-fine.true (content_of th c.args.p.foresight.0 c.args.d.nesting.0 c.args.d.who c.args.d.action (meaning c.args.p.characters T 0) agreed li d.0))
 
 pub allowed-loop-i-preserved : goal.allowed-loop-i-preserved
 allowed-loop-i-preserved t c =
     let (long, low, high, rest) = c.loop-i.invariant in
     let (th, (T, (y, mem))) = c.requires.0 in
-    let told = c.fine-content.ensures th T (slot_same c.args.slot y low long) (rest th T y mem).0 in (
-      c.fine-content.auto.work ∙ long,
+    let told = c.fine.ensures th T (slot_same c.args.slot y low long) (rest th T y mem).0 in (
+      c.fine.auto.work ∙ long,
       λ q l. told.low q l ∙ low q l,
       λ q l. told.high q l ∙ high q l,
       λ th T y mem.
-          let told = c.fine-content.ensures th T (slot_same c.args.slot y low long) (rest th T y mem).0 in
+          let told = c.fine.ensures th T (slot_same c.args.slot y low long) (rest th T y mem).0 in
           let count = consent_count y _ c.requires.1 c.consenters-count.ensures in
           let li : c.loop-i.i < length (consenters_of y _ c.requires.1) = omega (arith, count, c.loop-i-test.true) in
           let d = consent_each y _ c.requires.1 li c.consenter-c.ensures in
-          (told.memory, content_more th c.args.p.foresight.0 c.args.d.nesting.0 c.args.d.who c.args.d.action (meaning c.args.p.characters T 0) (rest th T y mem).1 d.0 (told.sound c.if-not-content.false)),
+          (told.memory, content_more th c.args.p.foresight.0 c.args.d.nesting.0 c.args.d.who c.args.d.action (meaning c.args.p.characters T 0) (rest th T y mem).1 d.0 (told.sound c.if-not-fine.false)),
     )
 
 pub allowed-returns : goal.allowed-returns

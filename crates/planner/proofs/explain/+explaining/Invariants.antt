@@ -21,9 +21,6 @@ invariant-allowed-loop-i l =
     (length l.work ≡ length l.initial.work) × Below l.initial.work l.work (l.slot + l.p.stride) × Above l.initial.work l.work work_room
     × ((th : Theory) (T : List Node) → Stage th T l.pack l.places l.p l.initial.work (slot_table l.p l.initial.work l.slot) (l.slot + l.p.stride) → Memory th l.p.foresight.0 l.p (l.slot + l.p.stride) l.initial.work → Memory th l.p.foresight.0 l.p (l.slot + l.p.stride) l.work × ((j : ℕ) → j < l.i → Content th l.p.foresight.0 l.d.nesting.0 l.d.who l.d.action (meaning l.p.characters T 0) j))
 
-abbrev pub decreases-allowed-loop-i : goal.decreases-allowed-loop-i
-decreases-allowed-loop-i l = l.count - l.i
-
 abbrev pub decreases-explained : goal.decreases-explained
 decreases-explained l = 1000 * l.d.nesting.0 + 2
 

@@ -13,9 +13,6 @@ widen_action-requires c =
     let (th, (n, y)) = c.requires.0 in
     ((th, (c.args.actions, (n, (y, c.loop-x-test.true)))), c.requires.1, record { lowest = omega (arith, c.loop-x.invariant.0, c.requires.2.lowest); highest = omega (arith, c.loop-x.invariant.1, c.requires.2.highest) })
 
-pub overflow_add-x : goal.overflow_add-x
-overflow_add-x c = omega (arith, level_few c.requires.0, c.loop-x-test.true)
-
 pub loop-x-preserved : goal.loop-x-preserved
 loop-x-preserved c =
     let (long, tall, wider, old) = c.loop-x.invariant in (

@@ -5,7 +5,4 @@ use Rattle.planner.proofs.search.repeats.Given as goal
 
 abbrev pub invariant-loop-i : goal.invariant-loop-i
 invariant-loop-i l =
-    (l.i ≤ l.done) × ((j : ℕ) → j < l.i → ((q : ℕ) → q < l.n → SameByte l.work l.slot (j * l.p.stride) q) → ⊥)
-
-abbrev pub decreases-loop-i : goal.decreases-loop-i
-decreases-loop-i l = l.done - l.i
+    ((j : ℕ) → j < l.i → ((q : ℕ) → q < l.n → SameByte l.work l.slot (j * l.p.stride) q) → ⊥)
