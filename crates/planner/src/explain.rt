@@ -14,6 +14,7 @@ use crate::belief::place_belief;
 use crate::bound::pointless;
 use crate::entry::{Deed, Goal, deed_key, goal_key, recall, remember_worth};
 use crate::intern::table_in;
+use crate::known::Known;
 use crate::limits::{Context, Nesting};
 use crate::prune::{Hope, next_promising};
 use crate::reach::within_reach;
@@ -45,10 +46,7 @@ pub fn explained(
     ensures { Answers pack.now places.now p slot work.old
         work.new result (λ th s. Explained th p.foresight.0 d.nesting.0 d.who d.action s) }
 {
-    if d.nesting.0 == 0 {
-        return false;
-    }
-    if pointless(pack, places, p, work, slot, d) {
+    if d.nesting.0 == 0 || pointless(pack, places, p, work, slot, d) {
         return false;
     }
     let b = place_belief(work, p, slot, d.who);
@@ -74,17 +72,13 @@ pub fn judged(
         work.new result (λ th b. ExplainedBy th p.foresight.0 d.nesting.0 d.who d.action b) }
 {
     let key = deed_key(d, q);
-    let known = recall(work, p, slot, key);
-    if known == 4 {
-        return false;
-    }
-    if known == 5 {
-        return true;
+    if let Some(Known::Explained(verdict)) = recall(work, p, slot, key) {
+        return verdict;
     }
     let since = steps_made(work, p);
-    let found = explains(pack, places, p, work, slot, d, q);
-    remember_worth(work, p, slot, mark_of(found) + 3, key, since);
-    found
+    let verdict = explains(pack, places, p, work, slot, d, q);
+    remember_worth(work, p, slot, Known::Explained(verdict), key, since);
+    verdict
 }
 
 // As `judged`, by the lists that begin with the action in that belief.
@@ -105,8 +99,7 @@ pub fn explains(
     ensures { AnswersOf q pack.now places.now p slot work.old
         work.new result (λ th b. ExplainedBy th p.foresight.0 d.nesting.0 d.who d.action b) }
 {
-    let number = known_step(pack, places, p, d.action, work, slot, q);
-    if number != 0 {
+    if !known_step(pack, places, p, d.action, work, slot, q) {
         return false;
     }
     let next = slot + p.stride;
@@ -174,12 +167,8 @@ pub fn extends(
         return false;
     }
     let key = goal_key(goal, quest.left);
-    let known = recall(work, p, slot, key);
-    if known == 1 {
-        return false;
-    }
-    if known == 2 {
-        return true;
+    if let Some(Known::Reached(found)) = recall(work, p, slot, key) {
+        return found;
     }
     let since = steps_made(work, p);
     let fewer = Quest {
@@ -187,15 +176,8 @@ pub fn extends(
         left: quest.left - 1,
     };
     let found = extends_by(pack, places, p, work, slot, fewer);
-    remember_worth(work, p, slot, mark_of(found), key, since);
+    remember_worth(work, p, slot, Known::Reached(found), key, since);
     found
-}
-
-// How the memory marks whether there is a list.
-pub fn mark_of(found: bool) -> u8
-    ensures { (result ≡ 1 → found ≡ false) × (result ≡ 2 → found ≡ true) × (0 < result) × (result < 3) }
-{
-    if found { 2 } else { 1 }
 }
 
 // Whether some action, and then some list as `extends` looks for, does.
@@ -252,21 +234,16 @@ pub fn via(
         (λ th s. AboveBy th p.foresight.0 quest.goal.nesting.0 quest.goal.who quest.goal.base
         (suc quest.left) x s) }
 {
-    let nesting = quest.goal.nesting;
     let deed = Deed {
         who: quest.goal.who,
-        nesting,
+        nesting: quest.goal.nesting,
         action: x,
     };
-    let agreed = allowed(pack, places, p, work, slot, deed);
-    if !agreed {
+    if !allowed(pack, places, p, work, slot, deed) {
         return false;
     }
-    let number = known_step(pack, places, p, x, work, slot, 0);
-    if number != 0 {
-        return false;
-    }
-    extends(pack, places, p, work, slot + p.stride, quest)
+    known_step(pack, places, p, x, work, slot, 0)
+        && extends(pack, places, p, work, slot + p.stride, quest)
 }
 
 // Whether the deed's action is explained to each of its consenters other than the one whose deed it is.
@@ -314,14 +291,5 @@ pub fn fine(
         work.new result
         (λ th s. Other d.who c → Explained th p.foresight.0 d.nesting.0 c d.action s) }
 {
-    if c == d.who {
-        return true;
-    }
-    let nesting = d.nesting;
-    let deed = Deed {
-        who: c,
-        nesting,
-        action: d.action,
-    };
-    explained(pack, places, p, work, slot, deed)
+    c == d.who || explained(pack, places, p, work, slot, Deed { who: c, ..d })
 }

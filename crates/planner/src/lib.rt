@@ -8,6 +8,7 @@ pub mod cell;
 pub mod entry;
 pub mod explain;
 pub mod intern;
+pub mod known;
 pub mod limits;
 pub mod prune;
 pub mod range;

@@ -19,6 +19,7 @@ use crate::bound::can_exceed;
 use crate::entry::{AUTHOR, Deed, Goal, goal_key, recall, remember_worth};
 use crate::explain::allowed;
 use crate::intern::{extent, table_in};
+use crate::known::Known;
 use crate::limits::{Context, Foresight, Limits, Nesting, SEASON, Story, laid_out, searchable};
 use crate::prune::{Hope, next_promising};
 use crate::reach::{nearest, within_reach};
@@ -94,7 +95,7 @@ pub fn completes(
         return 0;
     }
     let key = goal_key(goal, ahead.left);
-    if recall(work, p, slot, key) == 3 {
+    if let Some(Known::NoEnding) = recall(work, p, slot, key) {
         return 0;
     }
     let since = steps_made(work, p);
@@ -105,7 +106,7 @@ pub fn completes(
     };
     let after = completes_after(pack, places, p, work, list, fewer);
     if after == 0 {
-        remember_worth(work, p, slot, 3, key, since);
+        remember_worth(work, p, slot, Known::NoEnding, key, since);
     }
     after
 }
@@ -196,18 +197,15 @@ pub fn completes_by(
     let done = ahead.done;
     let slot = done * p.stride;
     let goal = ahead.goal;
-    let nesting = goal.nesting;
     let deed = Deed {
         who: p.characters,
-        nesting,
+        nesting: goal.nesting,
         action: x,
     };
-    let agreed = allowed(pack, places, p, work, slot, deed);
-    if !agreed {
+    if !allowed(pack, places, p, work, slot, deed) {
         return 0;
     }
-    let number = known_step(pack, places, p, x, work, slot, 0);
-    if number != 0 {
+    if !known_step(pack, places, p, x, work, slot, 0) {
         return 0;
     }
     let next = Ahead {

@@ -13,7 +13,6 @@ use crate::limits::{Context, remainder};
 use crate::regions::{MADE_SINCE, SLOTS, STEPS};
 use chart::bytes::copy_part;
 use pack::number::wide;
-use pack::refusal::CONDITION;
 use pack::table::Table;
 use transition::step::{Move, step_slot};
 
@@ -66,19 +65,19 @@ pub fn note(work: &mut [u8], p: Context, t: Table, root: usize, action: usize, n
     }
 }
 
-// Copies the table of an id into a slot, or does nothing where it is 0; a refusal's number or 0, as a step.
-pub fn again(work: &mut [u8], p: Context, next: usize, slot: usize) -> u8
+// Copies the table of an id into a slot, or does nothing where it is 0; whether the step plays, as `known_step`.
+pub fn again(work: &mut [u8], p: Context, next: usize, slot: usize) -> bool
     requires { Slot p work.old slot × (next < 256) × (0 < next → Kept p work.old next) }
     ensures { Again p next slot work.old work.new result }
 {
     if next == 0 {
-        return CONDITION;
+        return false;
     }
     let from = p.tables - p.block + p.block * next;
     let nodes = wide(work[from]);
     copy_part(work, from, slot, 1 + nodes * (p.fluents + p.characters));
     work[p.memory + (slot + 1) % SLOTS] = next as u8;
-    0
+    true
 }
 
 // Names what a step has left in a slot, and puts the step down.
@@ -94,7 +93,8 @@ pub fn note_left(work: &mut [u8], p: Context, t: Table, root: usize, action: usi
     }
 }
 
-// As `step_slot`, of what a row of the table in a slot means, into the next slot; it is copied where it is known.
+// Plays an action in what a row of the table in a slot means, into the next slot, and says whether it plays; what it
+// leaves is copied where it is known.
 pub fn kept_step(
     pack: &[u8],
     places: &[u16],
@@ -103,7 +103,7 @@ pub fn kept_step(
     work: &mut [u8],
     slot: usize,
     root: usize,
-) -> u8
+) -> bool
     requires { Steppable pack.now places.now p action work.old (slot_table p work.old slot) root
         (slot + p.stride) }
     ensures { Advances pack.now places.now p action slot root work.old
@@ -122,13 +122,13 @@ pub fn kept_step(
         action,
         triggers: p.triggers,
     };
-    let number = step_slot(pack, places, m, work, t, root, slot + p.stride);
-    if number == 0 {
+    let plays = step_slot(pack, places, m, work, t, root, slot + p.stride) == 0;
+    if plays {
         note_left(work, p, t, root, action, slot + p.stride);
     } else {
         note(work, p, t, root, action, 0);
     }
-    number
+    plays
 }
 
 // How many steps have been made since there was no room; counted from 0 again after
@@ -162,7 +162,7 @@ pub fn plain_step(
     work: &mut [u8],
     slot: usize,
     root: usize,
-) -> u8
+) -> bool
     requires { Steppable pack.now places.now p action work.old (slot_table p work.old slot) root
         (slot + p.stride) }
     ensures { Advances pack.now places.now p action slot root work.old
@@ -175,12 +175,12 @@ pub fn plain_step(
         action,
         triggers: p.triggers,
     };
-    let number = step_slot(pack, places, m, work, t, root, next);
+    let plays = step_slot(pack, places, m, work, t, root, next) == 0;
     work[p.memory + (next + 1) % SLOTS] = 0;
-    number
+    plays
 }
 
-// The step of what a row of the table in a slot means, into the next slot.
+// Plays an action in what a row of the table in a slot means, into the next slot; whether it plays.
 pub fn known_step(
     pack: &[u8],
     places: &[u16],
@@ -189,7 +189,7 @@ pub fn known_step(
     work: &mut [u8],
     slot: usize,
     root: usize,
-) -> u8
+) -> bool
     requires { Steppable pack.now places.now p action work.old (slot_table p work.old slot) root
         (slot + p.stride) }
     ensures { Advances pack.now places.now p action slot root work.old

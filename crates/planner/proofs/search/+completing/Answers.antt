@@ -1,6 +1,7 @@
 -- The author's lists over states in slots. Assumes nothing.
 use Prim.Native.Nat.{ℕ, suc, ◌+◌, ◌*◌, ◌-◌}
 use mathlib.Core.Path.{◌≡◌, refl, sym, ap, ◌∙◌, subst}
+use mathlib.Core.Bool.{true}
 use mathlib.Core.List.{List}
 use native.Mathlib.Omega.{arith}
 use lib.ListN.{length}
@@ -181,30 +182,30 @@ completes_by-overflow_mul-slot t c =
     let (th, (T, (y, mem, trail))) = c.requires.0 in
     omega (arith, c.requires.4, y.laid.room)
 
-pub completes_by-allowed-agreed-requires : goal.completes_by-allowed-agreed-requires
-completes_by-allowed-agreed-requires t c =
+pub completes_by-allowed-requires : goal.completes_by-allowed-requires
+completes_by-allowed-requires t c =
     let (th, (T, (y, mem, trail))) = c.requires.0 in
     ((th, (T, (y, mem))), c.requires.1, c.requires.2, c.requires.3, omega (arith, c.requires.4))
 
-pub completes_by-returns-then-not-agreed : goal.completes_by-returns-then-not-agreed
-completes_by-returns-then-not-agreed t c =
+pub completes_by-returns-then-not-allowed : goal.completes_by-returns-then-not-allowed
+completes_by-returns-then-not-allowed t c =
     λ th T y mem trail.
-    let told = c.allowed-agreed.ensures th T y mem in
-    best_none _ told.low told.high told.memory (λ l v q g. told.complete c.if-not-agreed.true (agreed_to y c.args.p.foresight.0 c.args.ahead.goal.nesting.0 c.args.x c.requires.1 (meaning c.args.p.characters T 0) g.2.2))
+    let told = c.allowed.ensures th T y mem in
+    best_none _ told.low told.high told.memory (λ l v q g. told.complete c.if-not-allowed.true (agreed_to y c.args.p.foresight.0 c.args.ahead.goal.nesting.0 c.args.x c.requires.1 (meaning c.args.p.characters T 0) g.2.2))
 
-pub completes_by-known_step-number-requires : goal.completes_by-known_step-number-requires
-completes_by-known_step-number-requires t c =
+pub completes_by-known_step-requires : goal.completes_by-known_step-requires
+completes_by-known_step-requires t c =
     let (th, (T, (y, mem, trail))) = c.requires.0 in
-    let told = c.allowed-agreed.ensures th T y mem in
-    let z = slot_same (c.args.ahead.done * c.args.p.stride) y told.low c.allowed-agreed.auto.work in
+    let told = c.allowed.ensures th T y mem in
+    let z = slot_same (c.args.ahead.done * c.args.p.stride) y told.low c.allowed.auto.work in
     ((th, (T, (z, told.memory))), c.requires.1, z.tabled.some, omega (arith, c.requires.4))
 
-pub completes_by-returns-then-number-ne0 : goal.completes_by-returns-then-number-ne0
-completes_by-returns-then-number-ne0 t c =
+pub completes_by-returns-then-not-known_step : goal.completes_by-returns-then-not-known_step
+completes_by-returns-then-not-known_step t c =
     λ th T y mem trail.
-    let told = c.allowed-agreed.ensures th T y mem in
-    let played = c.known_step-number.ensures.0 th T (slot_same (c.args.ahead.done * c.args.p.stride) y told.low c.allowed-agreed.auto.work) told.memory in
-    best_none _ (λ q l. played.low q l ∙ told.low q l) (λ q l. played.high q l ∙ told.high q l) played.memory (λ l v q g. played.none c.if-number-ne0.true g.2.0 g.2.1)
+    let told = c.allowed.ensures th T y mem in
+    let played = c.known_step.ensures.0 th T (slot_same (c.args.ahead.done * c.args.p.stride) y told.low c.allowed.auto.work) told.memory in
+    best_none _ (λ q l. played.low q l ∙ told.low q l) (λ q l. played.high q l ∙ told.high q l) played.memory (λ l v q g. played.none c.if-not-known_step.true g.2.0 g.2.1)
 
 pub completes_by-overflow_add-next : goal.completes_by-overflow_add-next
 completes_by-overflow_add-next t c =
@@ -213,16 +214,16 @@ completes_by-overflow_add-next t c =
 pub completes_by-completes-after-requires : goal.completes_by-completes-after-requires
 completes_by-completes-after-requires t c =
     let (th, (T, (y, mem, trail))) = c.requires.0 in
-    let told = c.allowed-agreed.ensures th T y mem in
-    let z' = slot_same (c.args.ahead.done * c.args.p.stride) y told.low c.allowed-agreed.auto.work in
+    let told = c.allowed.ensures th T y mem in
+    let z' = slot_same (c.args.ahead.done * c.args.p.stride) y told.low c.allowed.auto.work in
     let f : Free c.args.p (c.args.ahead.done * c.args.p.stride + c.args.p.stride) 1 = omega (arith, c.requires.4) in
-    let played = c.known_step-number.ensures.0 th T z' told.memory in
-    let zero : c.known_step-number.result ≡ 0 = omega (arith, c.if-number-ne0.false) in
-    let plays = next_plays z' 0 played f c.known_step-number.auto.work zero in
-    let agreed = agreed_from y c.args.p.foresight.0 c.args.ahead.goal.nesting.0 c.args.x c.requires.1 (meaning c.args.p.characters T 0) (told.sound c.if-not-agreed.false) in
-    let next = trail_step (c.args.ahead.done * c.args.p.stride) y c.args.p.foresight.0 c.args.ahead.goal.nesting.0 c.args.ahead.goal.base trail refl c.known_step-number.new.work (λ q l. played.low q l ∙ told.low q l) (c.known_step-number.auto.work ∙ c.allowed-agreed.auto.work) (next_written z' 0 played f c.known_step-number.auto.work zero) (stage_extent (c.args.ahead.done * c.args.p.stride + c.args.p.stride) (next_stage z' 0 played f c.known_step-number.auto.work zero)) plays agreed in
-    let here = on_path c.args.ahead.done (next_stage z' 0 played f c.known_step-number.auto.work zero) (played.further zero) in
-    (omega (arith, c.decreases), ((th, (next_table z' 0 played f c.known_step-number.auto.work zero, (here.0, here.1, next))), c.requires.2, c.requires.3, free_next c.args.p c.args.ahead.done c.args.ahead.left ((1 + c.args.p.foresight.0) * c.args.ahead.goal.nesting.0) c.requires.4, omega (arith, c.requires.5)))
+    let played = c.known_step.ensures.0 th T z' told.memory in
+    let zero : c.known_step.result ≡ true = c.if-not-known_step.false in
+    let plays = next_plays z' 0 played f c.known_step.auto.work zero in
+    let agreed = agreed_from y c.args.p.foresight.0 c.args.ahead.goal.nesting.0 c.args.x c.requires.1 (meaning c.args.p.characters T 0) (told.sound c.if-not-allowed.false) in
+    let next = trail_step (c.args.ahead.done * c.args.p.stride) y c.args.p.foresight.0 c.args.ahead.goal.nesting.0 c.args.ahead.goal.base trail refl c.known_step.new.work (λ q l. played.low q l ∙ told.low q l) (c.known_step.auto.work ∙ c.allowed.auto.work) (next_written z' 0 played f c.known_step.auto.work zero) (stage_extent (c.args.ahead.done * c.args.p.stride + c.args.p.stride) (next_stage z' 0 played f c.known_step.auto.work zero)) plays agreed in
+    let here = on_path c.args.ahead.done (next_stage z' 0 played f c.known_step.auto.work zero) (played.further zero) in
+    (omega (arith, c.decreases), ((th, (next_table z' 0 played f c.known_step.auto.work zero, (here.0, here.1, next))), c.requires.2, c.requires.3, free_next c.args.p c.args.ahead.done c.args.ahead.left ((1 + c.args.p.foresight.0) * c.args.ahead.goal.nesting.0) c.requires.4, omega (arith, c.requires.5)))
 
 pub completes_by-overflow_cast-list : goal.completes_by-overflow_cast-list
 completes_by-overflow_cast-list t c =
@@ -236,28 +237,28 @@ completes_by-bounds-list-done t c =
 pub completes_by-returns-then-after-ne0 : goal.completes_by-returns-then-after-ne0
 completes_by-returns-then-after-ne0 t c =
     λ th T y mem trail.
-    let told = c.allowed-agreed.ensures th T y mem in
-    let z' = slot_same (c.args.ahead.done * c.args.p.stride) y told.low c.allowed-agreed.auto.work in
+    let told = c.allowed.ensures th T y mem in
+    let z' = slot_same (c.args.ahead.done * c.args.p.stride) y told.low c.allowed.auto.work in
     let f : Free c.args.p (c.args.ahead.done * c.args.p.stride + c.args.p.stride) 1 = omega (arith, c.requires.4) in
-    let played = c.known_step-number.ensures.0 th T z' told.memory in
-    let zero : c.known_step-number.result ≡ 0 = omega (arith, c.if-number-ne0.false) in
-    let plays = next_plays z' 0 played f c.known_step-number.auto.work zero in
-    let agreed = agreed_from y c.args.p.foresight.0 c.args.ahead.goal.nesting.0 c.args.x c.requires.1 (meaning c.args.p.characters T 0) (told.sound c.if-not-agreed.false) in
-    let next = trail_step (c.args.ahead.done * c.args.p.stride) y c.args.p.foresight.0 c.args.ahead.goal.nesting.0 c.args.ahead.goal.base trail refl c.known_step-number.new.work (λ q l. played.low q l ∙ told.low q l) (c.known_step-number.auto.work ∙ c.allowed-agreed.auto.work) (next_written z' 0 played f c.known_step-number.auto.work zero) (stage_extent (c.args.ahead.done * c.args.p.stride + c.args.p.stride) (next_stage z' 0 played f c.known_step-number.auto.work zero)) plays agreed in
-    let here = on_path c.args.ahead.done (next_stage z' 0 played f c.known_step-number.auto.work zero) (played.further zero) in
-    best_by th c.args.p.foresight.0 c.args.ahead.goal.nesting.0 c.args.ahead.goal.base (meaning c.args.p.characters T 0) c.args.x plays agreed (omega arith) (memory_fewer c.args.p (omega arith)) (λ q l. played.low q l ∙ told.low q l) (λ q l. played.high q l ∙ told.high q l) (c.completes-after.ensures th (next_table z' 0 played f c.known_step-number.auto.work zero) here.0 here.1 next) (omega (arith, c.if-after-ne0.true))
+    let played = c.known_step.ensures.0 th T z' told.memory in
+    let zero : c.known_step.result ≡ true = c.if-not-known_step.false in
+    let plays = next_plays z' 0 played f c.known_step.auto.work zero in
+    let agreed = agreed_from y c.args.p.foresight.0 c.args.ahead.goal.nesting.0 c.args.x c.requires.1 (meaning c.args.p.characters T 0) (told.sound c.if-not-allowed.false) in
+    let next = trail_step (c.args.ahead.done * c.args.p.stride) y c.args.p.foresight.0 c.args.ahead.goal.nesting.0 c.args.ahead.goal.base trail refl c.known_step.new.work (λ q l. played.low q l ∙ told.low q l) (c.known_step.auto.work ∙ c.allowed.auto.work) (next_written z' 0 played f c.known_step.auto.work zero) (stage_extent (c.args.ahead.done * c.args.p.stride + c.args.p.stride) (next_stage z' 0 played f c.known_step.auto.work zero)) plays agreed in
+    let here = on_path c.args.ahead.done (next_stage z' 0 played f c.known_step.auto.work zero) (played.further zero) in
+    best_by th c.args.p.foresight.0 c.args.ahead.goal.nesting.0 c.args.ahead.goal.base (meaning c.args.p.characters T 0) c.args.x plays agreed (omega arith) (memory_fewer c.args.p (omega arith)) (λ q l. played.low q l ∙ told.low q l) (λ q l. played.high q l ∙ told.high q l) (c.completes-after.ensures th (next_table z' 0 played f c.known_step.auto.work zero) here.0 here.1 next) (omega (arith, c.if-after-ne0.true))
     (get_or-set_same {A = ℕ} c.completes-after.new.list c.args.ahead.done c.args.x 0 (omega (arith, c.requires.5, c.completes-after.auto.list))) (λ q n. get_or-set_other {A = ℕ} c.completes-after.new.list c.args.ahead.done q c.args.x 0 n)
 
 pub completes_by-returns-else-after-ne0 : goal.completes_by-returns-else-after-ne0
 completes_by-returns-else-after-ne0 t c =
     λ th T y mem trail.
-    let told = c.allowed-agreed.ensures th T y mem in
-    let z' = slot_same (c.args.ahead.done * c.args.p.stride) y told.low c.allowed-agreed.auto.work in
+    let told = c.allowed.ensures th T y mem in
+    let z' = slot_same (c.args.ahead.done * c.args.p.stride) y told.low c.allowed.auto.work in
     let f : Free c.args.p (c.args.ahead.done * c.args.p.stride + c.args.p.stride) 1 = omega (arith, c.requires.4) in
-    let played = c.known_step-number.ensures.0 th T z' told.memory in
-    let zero : c.known_step-number.result ≡ 0 = omega (arith, c.if-number-ne0.false) in
-    let plays = next_plays z' 0 played f c.known_step-number.auto.work zero in
-    let agreed = agreed_from y c.args.p.foresight.0 c.args.ahead.goal.nesting.0 c.args.x c.requires.1 (meaning c.args.p.characters T 0) (told.sound c.if-not-agreed.false) in
-    let next = trail_step (c.args.ahead.done * c.args.p.stride) y c.args.p.foresight.0 c.args.ahead.goal.nesting.0 c.args.ahead.goal.base trail refl c.known_step-number.new.work (λ q l. played.low q l ∙ told.low q l) (c.known_step-number.auto.work ∙ c.allowed-agreed.auto.work) (next_written z' 0 played f c.known_step-number.auto.work zero) (stage_extent (c.args.ahead.done * c.args.p.stride + c.args.p.stride) (next_stage z' 0 played f c.known_step-number.auto.work zero)) plays agreed in
-    let here = on_path c.args.ahead.done (next_stage z' 0 played f c.known_step-number.auto.work zero) (played.further zero) in
-    best_by_none th c.args.p.foresight.0 c.args.ahead.goal.nesting.0 c.args.ahead.goal.base (meaning c.args.p.characters T 0) c.args.x plays agreed (omega arith) (memory_fewer c.args.p (omega arith)) (λ q l. played.low q l ∙ told.low q l) (λ q l. played.high q l ∙ told.high q l) (c.completes-after.ensures th (next_table z' 0 played f c.known_step-number.auto.work zero) here.0 here.1 next) (omega (arith, c.if-after-ne0.false))
+    let played = c.known_step.ensures.0 th T z' told.memory in
+    let zero : c.known_step.result ≡ true = c.if-not-known_step.false in
+    let plays = next_plays z' 0 played f c.known_step.auto.work zero in
+    let agreed = agreed_from y c.args.p.foresight.0 c.args.ahead.goal.nesting.0 c.args.x c.requires.1 (meaning c.args.p.characters T 0) (told.sound c.if-not-allowed.false) in
+    let next = trail_step (c.args.ahead.done * c.args.p.stride) y c.args.p.foresight.0 c.args.ahead.goal.nesting.0 c.args.ahead.goal.base trail refl c.known_step.new.work (λ q l. played.low q l ∙ told.low q l) (c.known_step.auto.work ∙ c.allowed.auto.work) (next_written z' 0 played f c.known_step.auto.work zero) (stage_extent (c.args.ahead.done * c.args.p.stride + c.args.p.stride) (next_stage z' 0 played f c.known_step.auto.work zero)) plays agreed in
+    let here = on_path c.args.ahead.done (next_stage z' 0 played f c.known_step.auto.work zero) (played.further zero) in
+    best_by_none th c.args.p.foresight.0 c.args.ahead.goal.nesting.0 c.args.ahead.goal.base (meaning c.args.p.characters T 0) c.args.x plays agreed (omega arith) (memory_fewer c.args.p (omega arith)) (λ q l. played.low q l ∙ told.low q l) (λ q l. played.high q l ∙ told.high q l) (c.completes-after.ensures th (next_table z' 0 played f c.known_step.auto.work zero) here.0 here.1 next) (omega (arith, c.if-after-ne0.false))

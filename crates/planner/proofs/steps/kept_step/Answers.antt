@@ -2,6 +2,8 @@
 use Prim.Native.Nat.{◌+◌, ◌<◌}
 use mathlib.Core.Path.{sym, ◌∙◌, subst}
 use native.Mathlib.Omega.{arith}
+use lib.Dec.{eqb}
+use borrow.Author.Tests.{eq-eqb, ne_eqb}
 use Rattle.pack.specs.State.{meaning}
 use Rattle.pack.specs.declared.table.Table.{Table}
 use Rattle.transition.specs.Laws.ChangedRows.{small}
@@ -65,14 +67,14 @@ overflow_add-slot-2 c =
     let ((th, (T, (x, m))), there, row, free) = c.requires in
     omega (arith, free, x.laid.room)
 
-pub step_slot-number-requires : goal.step_slot-number-requires
-step_slot-number-requires c =
+pub step_slot-plays-requires : goal.step_slot-plays-requires
+step_slot-plays-requires c =
     let ((th, (T, (x, m))), there, row, free) = c.requires in
     let y = table_stage c.table_in-t.ensures x in
     (th, (T, (_, (stage_setting (stage_same y (λ q l. c.id_of-id.ensures.interning.only.low q (omega (arith, l, free))) c.id_of-id.auto.work) free, there, (subst (λ (t : Table). c.args.root < t.nodes) (sym c.table_in-t.ensures) row)))))
 
-pub overflow_add-slot-then-number-eq0 : goal.overflow_add-slot-then-number-eq0
-overflow_add-slot-then-number-eq0 c =
+pub overflow_add-slot-then-plays : goal.overflow_add-slot-then-plays
+overflow_add-slot-then-plays c =
     let ((th, (T, (x, m))), there, row, free) = c.requires in
     omega (arith, free, x.laid.room)
 
@@ -81,39 +83,39 @@ note_left-requires c =
     let ((th, (T, (x, m))), there, row, free) = c.requires in
     let y = table_stage c.table_in-t.ensures x in
     let y' = stage_same y (λ q l. c.id_of-id.ensures.interning.only.low q (omega (arith, l, free))) c.id_of-id.auto.work in
-    let z = c.step_slot-number.ensures th T _ (stage_setting y' free) there (subst (λ (t : Table). c.args.root < t.nodes) (sym c.table_in-t.ensures) row) in
-    let y'' = stage_same y' z.only.low c.step_slot-number.auto.work in
-    (stage_before y'' (omega (arith, free)), omega (arith, row, x.tabled.few), omega (arith, there, x.theorized.found.most_actions), stage_slot y'' free, (z.plays c.if-number-eq0.true).2.few)
+    let z = c.step_slot-plays.ensures th T _ (stage_setting y' free) there (subst (λ (t : Table). c.args.root < t.nodes) (sym c.table_in-t.ensures) row) in
+    let y'' = stage_same y' z.only.low c.step_slot-plays.auto.work in
+    (stage_before y'' (omega (arith, free)), omega (arith, row, x.tabled.few), omega (arith, there, x.theorized.found.most_actions), stage_slot y'' free, (z.plays c.if-plays.true).2.few)
 
 pub note-requires : goal.note-requires
 note-requires c =
     let ((th, (T, (x, m))), there, row, free) = c.requires in
     let y = table_stage c.table_in-t.ensures x in
     let y' = stage_same y (λ q l. c.id_of-id.ensures.interning.only.low q (omega (arith, l, free))) c.id_of-id.auto.work in
-    let z = c.step_slot-number.ensures th T _ (stage_setting y' free) there (subst (λ (t : Table). c.args.root < t.nodes) (sym c.table_in-t.ensures) row) in
-    let y'' = stage_same y' z.only.low c.step_slot-number.auto.work in
+    let z = c.step_slot-plays.ensures th T _ (stage_setting y' free) there (subst (λ (t : Table). c.args.root < t.nodes) (sym c.table_in-t.ensures) row) in
+    let y'' = stage_same y' z.only.low c.step_slot-plays.auto.work in
     (stage_before y'' (omega (arith, free)), omega (arith, row, x.tabled.few), omega (arith, there, x.theorized.found.most_actions), omega arith)
 
-pub returns-then-number-eq0 : goal.returns-then-number-eq0
-returns-then-number-eq0 c =
+pub returns-then-plays : goal.returns-then-plays
+returns-then-plays c =
     let (_, there, row, free) = c.requires in
     let unread = c.step_is.ensures.1 c.if-step_is.false in (
       λ th T x m.
           let y = table_stage c.table_in-t.ensures x in
           let y' = stage_same y (λ q l. c.id_of-id.ensures.interning.only.low q (omega (arith, l, free))) c.id_of-id.auto.work in
-          subst (λ (t : Table). Advanced th c.args.p.foresight.0 c.args.p (meaning t.characters T c.args.root) c.args.action t c.args.work.now c.note_left.new.work (c.args.slot + c.args.p.stride) c.step_slot-number.result) c.table_in-t.ensures
-          (step_left y free c.args.root c.id_of-id.ensures.interning.only (c.id_of-id.ensures.interning.told th c.args.p.foresight.0 (c.args.slot + c.args.p.stride) (omega (arith, free)) x.slotted m).0 (c.step_slot-number.ensures th T _ (stage_setting y' free) there (subst (λ (t : Table). c.args.root < t.nodes) (sym c.table_in-t.ensures) row)) (c.step_slot-number.auto.work ∙ c.id_of-id.auto.work) c.if-number-eq0.true c.note_left.ensures),
-      once_left c.args.p c.id_of-id.ensures c.step_at-at.ensures.0 unread c.if-number-eq0.true (subst (λ (t : Table). LeftNoted c.args.p t c.args.root c.args.action (c.args.slot + c.args.p.stride) c.step_slot-number.new.work c.note_left.new.work) c.table_in-t.ensures c.note_left.ensures),
+          subst (λ (t : Table). Advanced th c.args.p.foresight.0 c.args.p (meaning t.characters T c.args.root) c.args.action t c.args.work.now c.note_left.new.work (c.args.slot + c.args.p.stride) (eqb c.step_slot-plays.result 0)) c.table_in-t.ensures
+          (step_left y free c.args.root c.id_of-id.ensures.interning.only (c.id_of-id.ensures.interning.told th c.args.p.foresight.0 (c.args.slot + c.args.p.stride) (omega (arith, free)) x.slotted m).0 (c.step_slot-plays.ensures th T _ (stage_setting y' free) there (subst (λ (t : Table). c.args.root < t.nodes) (sym c.table_in-t.ensures) row)) (c.step_slot-plays.auto.work ∙ c.id_of-id.auto.work) c.if-plays.true (eq-eqb _ _ c.if-plays.true) c.note_left.ensures),
+      once_left c.args.p c.id_of-id.ensures c.step_at-at.ensures.0 unread (eq-eqb _ _ c.if-plays.true) (subst (λ (t : Table). LeftNoted c.args.p t c.args.root c.args.action (c.args.slot + c.args.p.stride) c.step_slot-plays.new.work c.note_left.new.work) c.table_in-t.ensures c.note_left.ensures),
     )
 
-pub returns-else-number-eq0 : goal.returns-else-number-eq0
-returns-else-number-eq0 c =
+pub returns-else-plays : goal.returns-else-plays
+returns-else-plays c =
     let (_, there, row, free) = c.requires in
     let unread = c.step_is.ensures.1 c.if-step_is.false in (
       λ th T x m.
           let y = table_stage c.table_in-t.ensures x in
           let y' = stage_same y (λ q l. c.id_of-id.ensures.interning.only.low q (omega (arith, l, free))) c.id_of-id.auto.work in
-          subst (λ (t : Table). Advanced th c.args.p.foresight.0 c.args.p (meaning t.characters T c.args.root) c.args.action t c.args.work.now c.note.new.work (c.args.slot + c.args.p.stride) c.step_slot-number.result) c.table_in-t.ensures
-          (step_refused y free c.args.root c.id_of-id.ensures.interning.only (c.id_of-id.ensures.interning.told th c.args.p.foresight.0 (c.args.slot + c.args.p.stride) (omega (arith, free)) x.slotted m).0 (c.step_slot-number.ensures th T _ (stage_setting y' free) there (subst (λ (t : Table). c.args.root < t.nodes) (sym c.table_in-t.ensures) row)) (c.step_slot-number.auto.work ∙ c.id_of-id.auto.work) c.if-number-eq0.false c.note.ensures),
-      once_refused c.args.p c.id_of-id.ensures c.step_at-at.ensures.0 unread c.if-number-eq0.false (subst (λ (t : Table). Noted c.args.p t c.args.root c.args.action 0 c.step_slot-number.new.work c.note.new.work) c.table_in-t.ensures c.note.ensures),
+          subst (λ (t : Table). Advanced th c.args.p.foresight.0 c.args.p (meaning t.characters T c.args.root) c.args.action t c.args.work.now c.note.new.work (c.args.slot + c.args.p.stride) (eqb c.step_slot-plays.result 0)) c.table_in-t.ensures
+          (step_refused y free c.args.root c.id_of-id.ensures.interning.only (c.id_of-id.ensures.interning.told th c.args.p.foresight.0 (c.args.slot + c.args.p.stride) (omega (arith, free)) x.slotted m).0 (c.step_slot-plays.ensures th T _ (stage_setting y' free) there (subst (λ (t : Table). c.args.root < t.nodes) (sym c.table_in-t.ensures) row)) (c.step_slot-plays.auto.work ∙ c.id_of-id.auto.work) c.if-plays.false (ne_eqb _ _ c.if-plays.false) c.note.ensures),
+      once_refused c.args.p c.id_of-id.ensures c.step_at-at.ensures.0 unread (ne_eqb _ _ c.if-plays.false) (subst (λ (t : Table). Noted c.args.p t c.args.root c.args.action 0 c.step_slot-plays.new.work c.note.new.work) c.table_in-t.ensures c.note.ensures),
     )

@@ -2,6 +2,8 @@
 use Prim.Native.Nat.{◌+◌, ◌<◌}
 use mathlib.Core.Path.{sym, ◌∙◌, subst}
 use native.Mathlib.Omega.{arith}
+use lib.Dec.{eqb}
+use borrow.Author.Tests.{eqb-true, eqb-false}
 use lib.ListN.{set, length-set}
 use Rattle.pack.specs.State.{meaning}
 use Rattle.pack.specs.declared.table.Table.{Table}
@@ -27,8 +29,8 @@ overflow_add-next c =
     let ((th, (T, (x, m))), there, row, free) = c.requires in
     omega (arith, free, x.laid.room)
 
-pub step_slot-number-requires : goal.step_slot-number-requires
-step_slot-number-requires c =
+pub step_slot-plays-requires : goal.step_slot-plays-requires
+step_slot-plays-requires c =
     let ((th, (T, (x, m))), there, row, free) = c.requires in
     let y = table_stage c.table_in-t.ensures x in
     let y' = stage_same y (λ q l. c.count_step.ensures.low q (omega (arith, l, free))) c.count_step.auto.work in
@@ -48,11 +50,11 @@ overflow_add-work-2 c =
 pub bounds-work-p : goal.bounds-work-p
 bounds-work-p c =
     let ((th, (T, (x, m))), there, row, free) = c.requires in
-    omega (arith, x.laid.room, x.room, c.step_slot-number.auto.work, c.count_step.auto.work)
+    omega (arith, x.laid.room, x.room, c.step_slot-plays.auto.work, c.count_step.auto.work)
 
 pub shape_of-work : goal.shape_of-work
 shape_of-work c =
-    length-set c.step_slot-number.new.work (id_at c.args.p (c.args.slot + c.args.p.stride + 1)) 0 ∙ c.step_slot-number.auto.work ∙ c.count_step.auto.work
+    length-set c.step_slot-plays.new.work (id_at c.args.p (c.args.slot + c.args.p.stride + 1)) 0 ∙ c.step_slot-plays.auto.work ∙ c.count_step.auto.work
 
 pub returns : goal.returns
 returns c =
@@ -61,7 +63,7 @@ returns c =
     let y = table_stage c.table_in-t.ensures x in
     let y' = stage_same y (λ q l. c.count_step.ensures.low q (omega (arith, l, free))) c.count_step.auto.work in
     let row' = subst (λ (t : Table). c.args.root < t.nodes) (sym c.table_in-t.ensures) row in
-    let z = c.step_slot-number.ensures th T _ (stage_setting y' free) there row' in
-    let after = stage_slot (stage_same y' z.only.low c.step_slot-number.auto.work) free in
-    subst (λ (t : Table). Advanced th c.args.p.foresight.0 c.args.p (meaning t.characters T c.args.root) c.args.action t c.args.work.now (set c.step_slot-number.new.work (id_at c.args.p (c.args.slot + c.args.p.stride + 1)) 0) (c.args.slot + c.args.p.stride) c.step_slot-number.result) c.table_in-t.ensures
-    (step_plain y free c.args.root (unasked_only c.args.p x.laid c.count_step.ensures) (memory_unasked c.args.p c.count_step.ensures (omega (arith, free)) m) z (c.step_slot-number.auto.work ∙ c.count_step.auto.work) after)
+    let z = c.step_slot-plays.ensures th T _ (stage_setting y' free) there row' in
+    let after = stage_slot (stage_same y' z.only.low c.step_slot-plays.auto.work) free in
+    subst (λ (t : Table). Advanced th c.args.p.foresight.0 c.args.p (meaning t.characters T c.args.root) c.args.action t c.args.work.now (set c.step_slot-plays.new.work (id_at c.args.p (c.args.slot + c.args.p.stride + 1)) 0) (c.args.slot + c.args.p.stride) (eqb c.step_slot-plays.result 0)) c.table_in-t.ensures
+    (step_plain y free c.args.root (unasked_only c.args.p x.laid c.count_step.ensures) (memory_unasked c.args.p c.count_step.ensures (omega (arith, free)) m) z (c.step_slot-plays.auto.work ∙ c.count_step.auto.work) (eqb-true _ _) (eqb-false _ _) after)
