@@ -35,9 +35,11 @@ use Rattle.chart.specs.Laws.Checks.{nodes_packed, lent, checks, Accepted, refuse
 use Rattle.chart.specs.Laws.LookedUp.{cleared_all}
 use Rattle.transition.specs.Laws.Loaded.{short-pack}
 use Rattle.planner.specs.declared.Found.{Found}
-use Rattle.planner.specs.declared.Found.TheVariants as found
+use Rattle.planner.specs.declared.Found.TheVariants as answers
 use Rattle.planner.specs.declared.limits.Context.{Context}
 use Rattle.planner.specs.declared.search.Ended.{Ended}
+use Rattle.std.specs.Prelude.{Option, Some, None}
+use Rattle.planner.proofs.EarliestList.{no_some, some_is}
 use Rattle.planner.specs.Ending.{Ending, author_utility}
 use Rattle.planner.specs.Search.{Answer, ending, none, Sought, Searched}
 use Rattle.planner.specs.Answers.{search_table}
@@ -50,7 +52,7 @@ use Rattle.planner.specs.Inner.Memory.{Memory}
 use Rattle.planner.specs.Inner.Layout.{laid_out}
 use Rattle.planner.proofs.TrueMemory.{memory_clear}
 use Rattle.planner.proofs.Slots.{laid_fits, laid_free, first_count}
-use Rattle.planner.specs.Inner.Search.{Laying, LaidStart, Chosen, Best, Shortest, Seeking, Seekable, SearchPut, SearchPutFrom}
+use Rattle.planner.specs.Inner.Search.{Laying, LaidStart, Chosen, Put, Best, Shortest, Seeking, Seekable, SearchPut, SearchPutFrom}
 
 module _ {Good : List ℕ → ℕ → Type 0} where
   -- no list of fewer than n actions, and none of n
@@ -58,22 +60,22 @@ module _ {Good : List ℕ → ℕ → Type 0} where
   shorter {n} f g l v h k = by_cases (ℕ_discrete (length l) n) (λ e. g l v e) (λ e. f l v h (omega (arith, e)))
 
   module _ {h : Context} {story : ℕ} {was work mid : List ℕ} (low : Below work mid (0 + h.stride)) (high : Above work mid work_room) where
-    pub shortest_found : {M : List ℕ → Type 0} {n : ℕ} {work' now : List ℕ} {r : ℕ} → 0 < n → n ≤ story → ((l : List ℕ) (v : ℕ) → 0 < length l → length l < n → ¬ Good l v) → 0 < r → Best M Good n was now 0 (0 + h.stride) mid work' r → Shortest h Good story was now work work' (record { count = n; after = r })
-    shortest_found {M} {n} pos le f l b = record {
-      none = λ e. absurd (omega (arith, e));
-      some = λ h. b.some l;
-      within = le;
-      shortest = f;
+    pub shortest_found : {M : List ℕ → Type 0} {n : ℕ} {work' now : List ℕ} {r : Option ℕ} {v : ℕ} → 0 < n → n ≤ story → ((l : List ℕ) (v : ℕ) → 0 < length l → length l < n → ¬ Good l v) → r ≡ Some v → Best M Good n was now 0 (0 + h.stride) mid work' r → Shortest h Good story was now work work' (Some (record { count = n; after = v }))
+    shortest_found {M} {n} {work'} {now} {r} {v} pos le f is b = record {
+      none = λ e. no_some (sym e);
+      some = λ e same. subst (λ (e : Ended). (list : List ℕ) × Chosen Good e.count list e.after × Put was now 0 list) (some_is same) (b.some v is);
+      within = λ e same. subst (λ (e : Ended). (0 < e.count) × (e.count ≤ story)) (some_is same) (pos, le);
+      shortest = λ e same. subst (λ (e : Ended). (l : List ℕ) (v : ℕ) → 0 < length l → length l < e.count → ¬ Good l v) (some_is same) f;
       low = λ q l. b.low q l ∙ low q l;
       high = λ q l. b.high q l ∙ high q l;
     }
 
-    pub shortest_none : {n : ℕ} {now : List ℕ} → story < n → now ≡ was → ((l : List ℕ) (v : ℕ) → 0 < length l → length l < n → ¬ Good l v) → Shortest h Good story was now work mid (record { count = 0; after = 0 })
+    pub shortest_none : {n : ℕ} {now : List ℕ} → story < n → now ≡ was → ((l : List ℕ) (v : ℕ) → 0 < length l → length l < n → ¬ Good l v) → Shortest h Good story was now work mid None
     shortest_none le same f = record {
       none = λ e. (same, λ l v h k. f l v h (omega (arith, k, le)));
-      some = λ h. absurd (omega arith);
-      within = omega arith;
-      shortest = λ l v h k. absurd (omega (arith, k));
+      some = λ e is. no_some is;
+      within = λ e is. no_some is;
+      shortest = λ e is. no_some is;
       low = low;
       high = high;
     }
@@ -133,10 +135,10 @@ module _ {th : Theory} {T : List Node} {pack places : List ℕ} {h : Context} {f
       pub seek_from : base ≡ author_utility th (meaning C T 0)
       seek_from = is ∙ ap (author_utility th) seek_means
 
-    pub seek_same : {base : ℕ} {list' work' : List ℕ} {r : Ended} → Shortest h (Ends th foresight nesting base (meaning C seek_table 0)) story list list' then work' r → Shortest h (Ends th foresight nesting base (meaning C T 0)) story list list' then work' r
+    pub seek_same : {base : ℕ} {list' work' : List ℕ} {r : Option Ended} → Shortest h (Ends th foresight nesting base (meaning C seek_table 0)) story list list' then work' r → Shortest h (Ends th foresight nesting base (meaning C T 0)) story list list' then work' r
     seek_same {base} {list'} {work'} {r} z = subst (λ (s : State). Shortest h (Ends th foresight nesting base s) story list list' then work' r) seek_means z
 
-    module _ {base : ℕ} (is : base ≡ author_utility th (meaning C T 0)) {list' work' now : List ℕ} {r : Ended} (z : Shortest h (Ends th foresight nesting base (meaning C T 0)) story list list' then work' r) (cl : Cleared work' now 0 work_room) (long' : length now ≡ length work) (listed : length list' ≡ length list) where
+    module _ {base : ℕ} (is : base ≡ author_utility th (meaning C T 0)) {list' work' now : List ℕ} {r : Option Ended} (z : Shortest h (Ends th foresight nesting base (meaning C T 0)) story list list' then work' r) (cl : Cleared work' now 0 work_room) (long' : length now ≡ length work) (listed : length list' ≡ length list) where
       abbrev s : State
       s = meaning C T 0
 
@@ -147,7 +149,7 @@ module _ {th : Theory} {T : List Node} {pack places : List ℕ} {h : Context} {f
       ends : {other : List ℕ} → (e : Ending th story foresight nesting s other) → Ends th foresight nesting base s other (author_utility th e.end)
       ends e = (e.end, e.leads, (refl, omega (arith, is, e.better)))
 
-      pub seek_none : r.count ≡ 0 → SearchPut th story foresight nesting s list list' work now (found.Refused 13 0)
+      pub seek_none : r ≡ None → SearchPut th story foresight nesting s list list' work now (answers.Refused 13 0)
       unfolding result_after
       seek_none e = record {
         answer = none;
@@ -157,21 +159,27 @@ module _ {th : Theory} {T : List Node} {pack places : List ℕ} {h : Context} {f
         scratch = all_clear;
       }
 
-      module _ (pos : 0 < r.count) where
-        abbrev chosen : List ℕ
-        chosen = (z.some pos).0
+      module _ {found : Ended} (is_found : r ≡ Some found) where
+        pos : 0 < found.count
+        pos = (z.within found is_found).0
 
-        abbrev best : Chosen (Ends th foresight nesting base s) r.count chosen r.after
-        best = (z.some pos).1
+        few : found.count ≤ story
+        few = (z.within found is_found).1
+
+        abbrev chosen : List ℕ
+        chosen = (z.some found is_found).0
+
+        abbrev best : Chosen (Ends th foresight nesting base s) found.count chosen found.after
+        best = (z.some found is_found).1
 
         abbrev good : Ending th story foresight nesting s chosen
-        good = let g = best.good in record { some = omega (arith, best.long, pos); within = omega (arith, best.long, z.within); end = g.0; leads = g.1; better = omega (arith, is, g.2) }
+        good = let g = best.good in record { some = omega (arith, best.long, pos); within = omega (arith, best.long, few); end = g.0; leads = g.1; better = omega (arith, is, g.2) }
 
-        sought : Sought th story foresight nesting s chosen base r.after
+        sought : Sought th story foresight nesting s chosen base found.after
         sought = record {
           first = record {
             good = good;
-            shortest = λ other g. by_cases (dec_le (length chosen) (length other)) (λ h. h) (λ h. absurd (z.shortest other _ g.some (omega (arith, h, best.long)) (ends g)));
+            shortest = λ other g. by_cases (dec_le (length chosen) (length other)) (λ h. h) (λ h. absurd (z.shortest found is_found other _ g.some (omega (arith, h, best.long)) (ends g)));
             earliest = λ other g l. best.earliest other _ (l ∙ best.long) (ends g);
           };
           at_start = sym is;
@@ -180,19 +188,19 @@ module _ {th : Theory} {T : List Node} {pack places : List ℕ} {h : Context} {f
 
         put_down : list' ≡ chosen ++ drop (length chosen) list
         put_down =
-            let p = (z.some pos).2 in
-            let short : r.count ≤ length list = omega (arith, z.within, x.storied, x.has_list_room) in
-            front_back list list' r.count short listed (λ q l. p.high q (omega (arith, l, best.long)))
-            ∙ ap₂ (λ (l : List ℕ) (k : ℕ). l ++ drop k list) (ext_get_or 0 (cells list' 0 r.count) chosen (cells-length list' 0 r.count ∙ sym best.long) (λ i l.
-            let z' : i < r.count = omega (arith, l, cells-length list' 0 r.count) in
-            cells_at list' 0 r.count i z' ∙ p.put i (omega (arith, z', best.long)))) (sym best.long)
+            let p = (z.some found is_found).2 in
+            let short : found.count ≤ length list = omega (arith, few, x.storied, x.has_list_room) in
+            front_back list list' found.count short listed (λ q l. p.high q (omega (arith, l, best.long)))
+            ∙ ap₂ (λ (l : List ℕ) (k : ℕ). l ++ drop k list) (ext_get_or 0 (cells list' 0 found.count) chosen (cells-length list' 0 found.count ∙ sym best.long) (λ i l.
+            let z' : i < found.count = omega (arith, l, cells-length list' 0 found.count) in
+            cells_at list' 0 found.count i z' ∙ p.put i (omega (arith, z', best.long)))) (sym best.long)
 
-        pub seek_found : SearchPut th story foresight nesting s list list' work now (found.Ending r.count base r.after)
+        pub seek_found : SearchPut th story foresight nesting s list list' work now (answers.Ending found.count base found.after)
         unfolding result_after
         seek_found = record {
-          answer = ending chosen base r.after;
+          answer = ending chosen base found.after;
           is_so = sought;
-          said = ap (λ (k : ℕ). gives (record { count = k; before = base; after = r.after })) (sym best.long);
+          said = ap (λ (k : ℕ). gives (record { count = k; before = base; after = found.after })) (sym best.long);
           result = put_down;
           scratch = all_clear;
         }
@@ -215,7 +223,7 @@ module _ {pack places : List ℕ} (T K E : ℕ) (list work : List ℕ) {p : Cont
   agrees : replied_count r ≡ told (λ ns. p.nodes) (checks p [] room there)
   agrees = says ∙ ap (λ (y : Reply ℕ). with y (λ v. lent enough there (gives v))) under ∙ check_none p enough there p.nodes ∙ ap (λ (b : Bool). told (λ (ns : List ℕ). p.nodes) (checks p [] b there)) here
 
-  pub search_refused : (k q : ℕ) → r ≡ numbers.Refused k q → Searching pack T K E list work list work (found.Refused k q)
+  pub search_refused : (k q : ℕ) → r ≡ numbers.Refused k q → Searching pack T K E list work list work (answers.Refused k q)
   unfolding search_reply result_after
   search_refused k q e =
       let z = refused_by [] got room there wanted (λ x e. within) plan_of (λ ns. p.nodes) (replied_count r) agrees k q (ap replied_count e) in

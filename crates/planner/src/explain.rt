@@ -16,7 +16,7 @@ use crate::entry::{Deed, Goal, deed_key, goal_key, recall, remember_worth};
 use crate::intern::table_in;
 use crate::known::Known;
 use crate::limits::{Context, Nesting};
-use crate::prune::{Hope, next_promising};
+use crate::prune::{Hope, promising};
 use crate::reach::within_reach;
 use crate::steps::{known_step, steps_made};
 use pack::judge::utility;
@@ -204,13 +204,14 @@ pub fn extends_by(
         left: quest.left,
         base: quest.goal.base,
     };
-    let mut x = next_promising(pack, places, p, work, slot, 0, hope);
-    while x < p.actions {
-        let found = via(pack, places, p, work, slot, x, quest);
-        if found {
+    let t = table_in(work, p, slot);
+    for x in 0..p.actions {
+        if !promising(pack, places, p, work, t, x, hope) {
+            continue;
+        }
+        if via(pack, places, p, work, slot, x, quest) {
             return true;
         }
-        x = next_promising(pack, places, p, work, slot, x + 1, hope);
     }
     false
 }

@@ -2,10 +2,9 @@
 //
 // No step is made for an action whose condition fails, nor for a last one after which no rule above some utility could
 // hold: its effects are written into a copy of the state's own values, and the triggers widen these to ranges.
-ghost use Rattle.std.specs.Prelude.{◌≤◌, ◌≡◌, false};
-ghost use Rattle.planner.specs.Inner.Look.{Tryable, Hopeless, Trying, Skipped};
+ghost use Rattle.std.specs.Prelude.{◌≡◌, false};
+ghost use Rattle.planner.specs.Inner.Look.{Tryable, Hopeless};
 
-use crate::intern::table_in;
 use crate::limits::Context;
 use crate::range::{could_exceed, widen_by_triggers};
 use pack::copy::copy_bytes;
@@ -64,37 +63,8 @@ pub fn promising(
         → Hopeless pack.now places.now p.triggers x work.now t h.whose
         h.left h.base }
 {
-    let may = holds(pack, places[ACTION * x] as usize, work, t, 0);
-    if !may {
+    if !holds(pack, places[ACTION * x] as usize, work, t, 0) {
         return false;
     }
-    if 0 < h.left {
-        return true;
-    }
-    could_leave(pack, places, p, work, t, x, h)
-}
-
-// The first action from x on that is worth a try in the state in a slot, or how many actions there are.
-pub fn next_promising(
-    pack: &[u8],
-    places: &[u16],
-    p: Context,
-    work: &[u8],
-    slot: usize,
-    x: usize,
-    h: Hope,
-) -> usize
-    requires { Trying pack.now places.now p work.now slot h.whose × (x ≤ p.actions) }
-    ensures { Skipped pack.now places.now p
-        work.now slot h.whose h.left h.base x result }
-{
-    let t = table_in(work, p, slot);
-    let mut y = x;
-    while y < p.actions {
-        if promising(pack, places, p, work, t, y, h) {
-            return y;
-        }
-        y += 1;
-    }
-    y
+    0 < h.left || could_leave(pack, places, p, work, t, x, h)
 }

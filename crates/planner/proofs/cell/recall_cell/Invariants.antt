@@ -1,5 +1,5 @@
 -- No cell before the one that is looked at holds it. Assumes nothing.
-use Prim.Native.Nat.{ℕ, ◌+◌, ◌*◌, ◌-◌, ◌<◌, ◌≤◌}
+use Prim.Native.Nat.{ℕ, ◌+◌, ◌*◌, ◌<◌}
 use Rattle.planner.specs.Inner.Memory.{Holds}
 use Rattle.planner.proofs.cell.recall_cell.Given as goal
 

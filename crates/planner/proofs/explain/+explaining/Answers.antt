@@ -14,7 +14,7 @@ use Rattle.planner.specs.Inner.Lists as inner
 use Rattle.planner.specs.Inner.Memory.{deed_key, Memory}
 use Rattle.planner.specs.Inner.Explain.{Stage, Free}
 use Rattle.planner.proofs.TrueMemory.{memory_fewer}
-use Rattle.planner.proofs.Pruning.{below_far, stage_trying, stage_skipped}
+use Rattle.planner.proofs.Pruning.{still_in, tried, tried_not}
 use Rattle.planner.proofs.Reckoning.{free_few, above_beyond}
 use Rattle.planner.proofs.Explanations.{marked_as, told_verdict, told_reached, told_is, told_none, told_by, told_no, told_yes, stage_rules, stage_utility, next_table, next_plays, next_stage, reach_here, reach_no_more, by_hopeless, by_from, by_to, explained_from, explained_to, explained_zero, explained_plays, by_belief, of_belief, agreed_all, content_of, content_more, free_fewer, free_two, free_held, within, held_step, held_rest, consenters_of, consent_place, consent_readable, consent_count, consent_each, slot_same, stage_before, known, note, verdict, extended, noted, rules_in, utility_in}
 use Rattle.planner.proofs.explain.+explaining.Goals as goal
@@ -321,59 +321,60 @@ extends_by-overflow_add-whose t c =
     let (th, (T, (y, mem))) = c.requires.0 in
     omega (arith, c.requires.1, small y.tabled)
 
-pub extends_by-next_promising-x-requires : goal.extends_by-next_promising-x-requires
-extends_by-next_promising-x-requires t c =
+pub extends_by-table_in-t-requires : goal.extends_by-table_in-t-requires
+extends_by-table_in-t-requires t c =
     let (th, (T, (y, mem))) = c.requires.0 in
-    (stage_trying y (omega (arith, c.requires.4)) (omega (arith, c.requires.1)), omega arith)
+    (omega (arith, c.requires.4, y.room), omega (arith, small y.tabled))
 
 pub extends_by-loop-x-init : goal.extends_by-loop-x-init
 extends_by-loop-x-init t c =
-    (refl, λ q l. refl, λ q l. refl, λ th T y mem. (mem, λ j l. by_hopeless th c.args.p.foresight.0 c.args.quest.goal.nesting.0 c.args.quest.goal.who c.args.quest.goal.base c.args.quest.left j (meaning c.args.p.characters T 0) (stage_skipped y (omega (arith, c.requires.4)) c.next_promising-x.ensures j (omega arith) l)))
+    (refl, λ q l. refl, λ q l. refl, λ th T y mem. (mem, λ j l. absurd (omega (arith, l))))
 
-pub extends_by-via-found-requires : goal.extends_by-via-found-requires
-extends_by-via-found-requires t c =
+pub extends_by-promising-requires : goal.extends_by-promising-requires
+extends_by-promising-requires t c =
+    let (th, (T, (y, mem))) = c.requires.0 in
+    let (long, low, high, rest) = c.loop-x.invariant in
+    tried c.args.slot (c.args.quest.goal.who + 1) (slot_same c.args.slot y low long) (omega (arith, c.requires.4)) (still_in c.args.p c.args.slot c.args.work.now c.loop-x.work c.table_in-t.ensures (low c.args.slot (omega (arith, y.laid.some)))) c.loop-x-test.true (omega (arith, c.requires.1))
+
+pub extends_by-via-requires : goal.extends_by-via-requires
+extends_by-via-requires t c =
     let (th, (T, (y, mem))) = c.requires.0 in
     let (long, low, high, rest) = c.loop-x.invariant in
     (omega (arith, c.decreases), ((th, (T, (slot_same c.args.slot y low long, (rest th T y mem).0))), c.requires.1, c.loop-x-test.true, c.requires.2, c.requires.3, omega (arith, c.requires.4)))
 
-pub extends_by-returns-then-found : goal.extends_by-returns-then-found
-extends_by-returns-then-found t c =
+pub extends_by-returns-then-via : goal.extends_by-returns-then-via
+extends_by-returns-then-via t c =
     let (long, low, high, rest) = c.loop-x.invariant in
     λ th T y mem.
-    let told = c.via-found.ensures th T (slot_same c.args.slot y low long) (rest th T y mem).0 in
-    told_yes (λ q l. told.low q l ∙ low q l) (λ q l. told.high q l ∙ high q l) told.memory (c.loop-x.x, told.sound c.if-found.true)
+    let told = c.via.ensures th T (slot_same c.args.slot y low long) (rest th T y mem).0 in
+    told_yes (λ q l. told.low q l ∙ low q l) (λ q l. told.high q l ∙ high q l) told.memory (c.loop-x.x, told.sound c.if-via.true)
 
-pub extends_by-overflow_add-x : goal.extends_by-overflow_add-x
-extends_by-overflow_add-x t c =
-    let (th, (T, (y, mem))) = c.requires.0 in
-    omega (arith, c.loop-x-test.true, y.theorized.found.most_actions)
-
-pub extends_by-next_promising-x-requires-in-loop-x : goal.extends_by-next_promising-x-requires-in-loop-x
-extends_by-next_promising-x-requires-in-loop-x t c =
-    let (long, low, high, rest) = c.loop-x.invariant in
-    let (th, (T, (y, mem))) = c.requires.0 in
-    let told = c.via-found.ensures th T (slot_same c.args.slot y low long) (rest th T y mem).0 in
-    (stage_trying (slot_same c.args.slot y (λ q l. told.low q l ∙ low q l) (c.via-found.auto.work ∙ long)) (omega (arith, c.requires.4)) (omega (arith, c.requires.1)), omega (arith, c.loop-x-test.true))
-
-pub extends_by-loop-x-smaller : goal.extends_by-loop-x-smaller
-extends_by-loop-x-smaller t c =
-    omega (arith, c.next_promising-x-in-loop-x.ensures.from, c.loop-x-test.true)
+pub extends_by-loop-x-preserved-then-not-promising : goal.extends_by-loop-x-preserved-then-not-promising
+extends_by-loop-x-preserved-then-not-promising t c =
+    let (long, low, high, rest) = c.loop-x.invariant in (
+      long,
+      low,
+      high,
+      λ th T y mem.
+          let z = slot_same c.args.slot y low long in
+          let is = still_in c.args.p c.args.slot c.args.work.now c.loop-x.work c.table_in-t.ensures (low c.args.slot (omega (arith, y.laid.some))) in (
+            (rest th T y mem).0,
+            below_more (λ x. AboveBy th c.args.p.foresight.0 c.args.quest.goal.nesting.0 c.args.quest.goal.who c.args.quest.goal.base (suc c.args.quest.left) x (meaning c.args.p.characters T 0) → ⊥) c.loop-x.x (rest th T y mem).1 (by_hopeless th c.args.p.foresight.0 c.args.quest.goal.nesting.0 c.args.quest.goal.who c.args.quest.goal.base c.args.quest.left c.loop-x.x (meaning c.args.p.characters T 0) (tried_not c.args.slot (c.args.quest.goal.who + 1) z (omega (arith, c.requires.4)) is c.loop-x-test.true (c.promising.ensures c.if-not-promising.true))),
+          ),
+    )
 
 pub extends_by-loop-x-preserved : goal.extends_by-loop-x-preserved
 extends_by-loop-x-preserved t c =
     let (long, low, high, rest) = c.loop-x.invariant in
     let (th, (T, (y, mem))) = c.requires.0 in
-    let told = c.via-found.ensures th T (slot_same c.args.slot y low long) (rest th T y mem).0 in (
-      c.via-found.auto.work ∙ long,
+    let told = c.via.ensures th T (slot_same c.args.slot y low long) (rest th T y mem).0 in (
+      c.via.auto.work ∙ long,
       λ q l. told.low q l ∙ low q l,
       λ q l. told.high q l ∙ high q l,
       λ th T y mem.
-          let told = c.via-found.ensures th T (slot_same c.args.slot y low long) (rest th T y mem).0 in
-          let z = slot_same c.args.slot y (λ q l. told.low q l ∙ low q l) (c.via-found.auto.work ∙ long) in (
+          let told = c.via.ensures th T (slot_same c.args.slot y low long) (rest th T y mem).0 in (
             told.memory,
-            below_far (λ x. AboveBy th c.args.p.foresight.0 c.args.quest.goal.nesting.0 c.args.quest.goal.who c.args.quest.goal.base (suc c.args.quest.left) x (meaning c.args.p.characters T 0) → ⊥)
-                (below_more (λ x. AboveBy th c.args.p.foresight.0 c.args.quest.goal.nesting.0 c.args.quest.goal.who c.args.quest.goal.base (suc c.args.quest.left) x (meaning c.args.p.characters T 0) → ⊥) c.loop-x.x (rest th T y mem).1 (told.complete c.if-found.false))
-                (λ j f l. by_hopeless th c.args.p.foresight.0 c.args.quest.goal.nesting.0 c.args.quest.goal.who c.args.quest.goal.base c.args.quest.left j (meaning c.args.p.characters T 0) (stage_skipped z (omega (arith, c.requires.4)) c.next_promising-x-in-loop-x.ensures j f l)),
+            below_more (λ x. AboveBy th c.args.p.foresight.0 c.args.quest.goal.nesting.0 c.args.quest.goal.who c.args.quest.goal.base (suc c.args.quest.left) x (meaning c.args.p.characters T 0) → ⊥) c.loop-x.x (rest th T y mem).1 (told.complete c.if-via.false),
           ),
     )
 

@@ -1,5 +1,5 @@
 -- What the triggers below i write is in range. Assumes nothing.
-use Prim.Native.Nat.{ℕ, ◌-◌}
+use Prim.Native.Nat.{ℕ}
 use mathlib.Core.Path.{◌≡◌}
 use lib.ListN.{length}
 use Rattle.pack.specs.Syntax.{Theory}

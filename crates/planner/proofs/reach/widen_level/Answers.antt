@@ -2,7 +2,7 @@
 use mathlib.Core.Path.{refl, ◌∙◌}
 use native.Mathlib.Omega.{arith}
 use Rattle.planner.specs.Inner.Range.{wider_same, wider_then}
-use Rattle.planner.proofs.Reckoning.{level_few, actions_more}
+use Rattle.planner.proofs.Reckoning.{actions_more}
 use Rattle.planner.proofs.reach.widen_level.Goals as goal
 
 pub loop-x-init : goal.loop-x-init

@@ -1,5 +1,5 @@
 -- What the actions below x write that could be played is in range. Assumes nothing.
-use Prim.Native.Nat.{ℕ, ◌-◌}
+use Prim.Native.Nat.{ℕ}
 use mathlib.Core.Path.{◌≡◌}
 use lib.ListN.{length}
 use Rattle.pack.specs.Syntax.{Theory}

@@ -1,5 +1,5 @@
 -- A state held against those before it. Assumes nothing.
-use Prim.Native.Nat.{ℕ, ◌*◌, ◌-◌, ◌<◌, ◌≤◌}
+use Prim.Native.Nat.{ℕ, ◌*◌, ◌<◌}
 use Rattle.chart.specs.Duties.Level.{SameByte}
 use Rattle.planner.proofs.search.repeats.Given as goal
 
