@@ -22,7 +22,8 @@ use Rattle.planner.specs.declared.limits.Foresight.{Foresight}
 use Rattle.planner.specs.declared.entry.Key.{Key}
 use Rattle.planner.specs.Inner.Layout.{entries, room_behind, laid_out}
 use Rattle.planner.specs.Inner.Lists.{slot_table}
-use Rattle.planner.specs.Inner.Memory.{id_at, steps_at, kept_table, slot_id, HasId, Chained, Memory, entry_at, step_at, Place, Before, InSlot, Fits, Identified, Storable, FactRead, FactKnown, Recalls, Notes, StepRead, StepKnown, Noted, Slot, Again, LeftNoted, StepOnce}
+use Rattle.std.specs.Prelude.{Option, Some}
+use Rattle.planner.specs.Inner.Memory.{id_byte, id_at, steps_at, kept_table, slot_id, HasId, Chained, Memory, entry_at, step_at, Place, Before, InSlot, Fits, Identified, Storable, FactRead, FactKnown, Recalls, Notes, StepRead, StepKnown, Noted, Slot, Again, LeftNoted, StepOnce}
 use Rattle.planner.proofs.Chains.{id_once}
 use Rattle.planner.proofs.Slots.{entries_fit, room_left}
 use Rattle.planner.proofs.TrueMemory.{set_not, table_size, key_same, row_apart, step_here, step_there}
@@ -93,6 +94,11 @@ module _ (h : Context) where
 
       pub last_repeated : r ≡ true → 0 < slot_id h noted (slot_table h noted (slot + h.stride)) → Again h (slot_id h noted (slot_table h noted (slot + h.stride))) (slot + h.stride) noted now r'
       last_repeated e left = let k = x.played e some left in y.again _ (record { entry = k.entry; leaves = k.leaves })
+
+  -- an entry that is another step's, by the byte that keeps the id
+  pub unread_step : {work : List ℕ} {id : Option ℕ} {n at root a : ℕ} → id ≡ Some n → at ≡ step_at h n root a → ¬ StepRead work at n root a → ¬ StepRead work (step_at h (id_byte id) root a) (id_byte id) root a
+  unread_step {work} {n = n} {root = root} {a = a} is here unread =
+      subst (λ (id : Option ℕ). ¬ StepRead work (step_at h (id_byte id) root a) (id_byte id) root a) (sym is) (subst (λ (at : ℕ). ¬ StepRead work at n root a) here unread)
 
   -- a step whose entry is looked up
   module _ {t : Table} {was mid : List ℕ} {id root a at : ℕ} (x : Identified h t was mid id) (here : at ≡ step_at h id root a) where

@@ -106,10 +106,7 @@ pub fn recall(work: &mut [u8], p: Context, slot: usize, k: Key) -> Option<Known>
     if in_cells(work, p) {
         return recall_cell(work, p, slot, k);
     }
-    let id = id_of(work, p, slot);
-    if id == 0 {
-        return None;
-    }
+    let id = id_of(work, p, slot)?;
     let at = entry_at(p, id, k);
     if usize::from(work[at + 6]) != id || !keyed(work, at, k) {
         return None;
@@ -137,7 +134,9 @@ pub fn remember(work: &mut [u8], p: Context, slot: usize, known: Known, k: Key)
     ensures { Remembered p (slot_table p work.old slot) (mark_of known) k work.old work.new
         × Notes p (slot_table p work.old slot) (mark_of known) k work.old work.new }
 {
-    let id = id_of(work, p, slot);
+    let Some(id) = id_of(work, p, slot) else {
+        return;
+    };
     if storable(id, k) {
         let at = entry_at(p, id, k);
         put_key(work, at, known, k);

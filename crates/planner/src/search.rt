@@ -30,7 +30,7 @@ use chart::values::first_other;
 use pack::contents::read_pack;
 use pack::copy::copy_table;
 use pack::judge::utility;
-use pack::number::{Number, wide};
+use pack::number::Number;
 use pack::places::{PLACES, UTILITIES};
 use pack::refusal::NO_ENDING;
 

@@ -3,16 +3,15 @@
 ghost use Rattle.std.specs.Prelude.{◌≡◌, true, false, ◌+◌, ◌*◌, ◌/◌, ◌<◌, ◌≤◌, length, get_or};
 ghost use Rattle.chart.specs.Call.{work_room};
 ghost use Rattle.planner.specs.Inner.Lists.{slot_table};
-ghost use Rattle.planner.specs.Inner.Memory.{Laid, steps_at, step_at, Before, Kept, Place, StepRead, StepPut};
+ghost use Rattle.planner.specs.Inner.Memory.{Laid, id_byte, Names, steps_at, step_at, Before, Kept, Place, StepRead, StepPut};
 ghost use Rattle.planner.specs.Inner.Memory.{Noted, Slot, Again, LeftNoted, StepOnce, Unasked, Roomy};
 ghost use Rattle.planner.specs.Inner.Explain.{Steppable, Advances};
 ghost use Rattle.transition.specs.Duties.Stage.{scratch_at};
 
-use crate::intern::{has_overflowed, id_of, intern_slot, table_in};
+use crate::intern::{has_overflowed, id_byte, id_in, id_of, intern_slot, table_in};
 use crate::limits::{Context, remainder};
 use crate::regions::{MADE_SINCE, SLOTS, STEPS};
 use chart::bytes::copy_part;
-use pack::number::wide;
 use pack::table::Table;
 use transition::step::{Move, step_slot};
 
@@ -30,51 +29,51 @@ pub fn step_is(work: &[u8], at: usize, id: usize, root: usize, action: usize) ->
     ensures { (result ≡ true → StepRead work.now at id root action)
         × (result ≡ false → ¬ StepRead work.now at id root action) }
 {
-    if id == 0 {
-        return false;
-    }
-    if wide(work[at]) != id {
-        return false;
-    }
-    if wide(work[at + 1]) != root {
-        return false;
-    }
-    wide(work[at + 2]) == action
+    id != 0
+        && usize::from(work[at]) == id
+        && usize::from(work[at + 1]) == root
+        && usize::from(work[at + 2]) == action
 }
 
-// Puts down the id of what the action leaves, or 0 where it does not play.
-pub fn store_step(work: &mut [u8], at: usize, id: usize, root: usize, action: usize, next: usize)
-    requires { (at + 4 ≤ length work.old) × (id < 256) × (root < 256) × (action < 256) × (next < 256) }
-    ensures { StepPut work.old work.new at id root action next }
+// Puts down the id of what the action leaves, or none where it does not play.
+pub fn store_step(
+    work: &mut [u8],
+    at: usize,
+    id: usize,
+    root: usize,
+    action: usize,
+    next: Option<usize>,
+)
+    requires { (at + 4 ≤ length work.old) × (id < 256) × (root < 256) × (action < 256) × (id_byte next < 256) }
+    ensures { StepPut work.old work.new at id root action (id_byte next) }
 {
     work[at] = id as u8;
     work[at + 1] = root as u8;
     work[at + 2] = action as u8;
-    work[at + 3] = next as u8;
+    work[at + 3] = id_byte(next);
 }
 
 // The same for a table in a slot that has an id.
-pub fn note(work: &mut [u8], p: Context, t: Table, root: usize, action: usize, next: usize)
-    requires { Before p work.old t × (root < 256) × (action < 256) × (next < 256) }
-    ensures { Noted p t root action next work.old work.new }
+pub fn note(work: &mut [u8], p: Context, t: Table, root: usize, action: usize, next: Option<usize>)
+    requires { Before p work.old t × (root < 256) × (action < 256) × (id_byte next < 256) }
+    ensures { Noted p t root action (id_byte next) work.old work.new }
 {
-    let id = wide(work[p.memory + t.rows % SLOTS]);
-    if id != 0 {
+    if let Some(id) = id_in(work[p.memory + t.rows % SLOTS]) {
         let at = step_at(p, id, root, action);
         store_step(work, at, id, root, action, next);
     }
 }
 
-// Copies the table of an id into a slot, or does nothing where it is 0; whether the step plays, as `known_step`.
-pub fn again(work: &mut [u8], p: Context, next: usize, slot: usize) -> bool
-    requires { Slot p work.old slot × (next < 256) × (0 < next → Kept p work.old next) }
-    ensures { Again p next slot work.old work.new result }
+// Copies the table of an id into a slot, if there is one; whether the step plays, as `known_step`.
+pub fn again(work: &mut [u8], p: Context, next: Option<usize>, slot: usize) -> bool
+    requires { Slot p work.old slot × Names next (λ id. (id < 256) × (0 < id → Kept p work.old id)) }
+    ensures { Again p (id_byte next) slot work.old work.new result }
 {
-    if next == 0 {
+    let Some(next) = next else {
         return false;
-    }
+    };
     let from = p.tables - p.block + p.block * next;
-    let nodes = wide(work[from]);
+    let nodes = usize::from(work[from]);
     copy_part(work, from, slot, 1 + nodes * (p.fluents + p.characters));
     work[p.memory + (slot + 1) % SLOTS] = next as u8;
     true
@@ -87,9 +86,8 @@ pub fn note_left(work: &mut [u8], p: Context, t: Table, root: usize, action: usi
     ensures { LeftNoted p t root action slot work.old work.new }
 {
     work[p.memory + (slot + 1) % SLOTS] = 0;
-    let next = intern_slot(work, p, slot);
-    if next != 0 {
-        note(work, p, t, root, action, next);
+    if let Some(next) = intern_slot(work, p, slot) {
+        note(work, p, t, root, action, Some(next));
     }
 }
 
@@ -112,11 +110,12 @@ pub fn kept_step(
         work.new result }
 {
     let t = table_in(work, p, slot);
-    let id = id_of(work, p, slot);
-    let at = step_at(p, id, root, action);
-    if step_is(work, at, id, root, action) {
-        let next = wide(work[at + 3]);
-        return again(work, p, next, slot + p.stride);
+    if let Some(id) = id_of(work, p, slot) {
+        let at = step_at(p, id, root, action);
+        if step_is(work, at, id, root, action) {
+            let next = id_in(work[at + 3]);
+            return again(work, p, next, slot + p.stride);
+        }
     }
     let m = Move {
         action,
@@ -126,7 +125,7 @@ pub fn kept_step(
     if plays {
         note_left(work, p, t, root, action, slot + p.stride);
     } else {
-        note(work, p, t, root, action, 0);
+        note(work, p, t, root, action, None);
     }
     plays
 }
@@ -138,7 +137,7 @@ pub fn steps_made(work: &[u8], p: Context) -> usize
     ensures { result < 16777216 }
 {
     let at = p.memory + MADE_SINCE;
-    wide(work[at]) + 256 * wide(work[at + 1]) + 65536 * wide(work[at + 2])
+    usize::from(work[at]) + 256 * usize::from(work[at + 1]) + 65536 * usize::from(work[at + 2])
 }
 
 // Counts one more.

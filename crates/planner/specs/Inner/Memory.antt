@@ -1,7 +1,7 @@
 -- What is known of states, behind the slots: tables that are kept, each under a number that is its id, and
 -- what is known of steps and lists by these ids; once there was no room, cells that hold both. Every entry and every
 -- cell is true, whatever it is replaced by. Assumes nothing.
-use Rattle.std.specs.Prelude.{◌≡◌, ◌≢◌, Bool, true, false, ◌⊎◌, List, ℕ, zero, suc, ◌+◌, ◌*◌, ◌-◌, ◌/◌, ◌%◌, ◌<◌, ◌≤◌, length, get_or}
+use Rattle.std.specs.Prelude.{◌≡◌, ◌≢◌, Bool, true, false, Option, Some, None, IfSome, ◌⊎◌, List, ℕ, zero, suc, ◌+◌, ◌*◌, ◌-◌, ◌/◌, ◌%◌, ◌<◌, ◌≤◌, length, get_or}
 use Rattle.pack.specs.Syntax.{Theory}
 use Rattle.pack.specs.State.{State}
 use Rattle.pack.specs.Duties.Table as table
@@ -60,6 +60,15 @@ facts_at h = h.memory + 436 + 2 * h.lists
 
 abbrev pub tables_at : Context → ℕ
 tables_at h = h.memory + 436 + 9 * h.lists
+
+-- the number that a byte keeps an id as, 0 for none
+abbrev pub id_byte : Option ℕ → ℕ
+id_byte None = 0
+id_byte (Some n) = n
+
+-- an id, from 1 on, or none, and what is said of the number that it is kept as
+abbrev pub Names : Option ℕ → (ℕ → Type 0) → Type 0
+Names id P = IfSome id (λ n. 0 < n) × P (id_byte id)
 
 -- the table of an id begins with a block, that of 1 with the first
 abbrev pub kept_at : Context → ℕ → ℕ

@@ -31,9 +31,9 @@ returns-then-n-first_other c =
 
 pub loop-i-preserved : goal.loop-i-preserved
 loop-i-preserved c =
-  λ j l all. by_cases (ℕ_discrete j c.loop-i.i)
-      (λ z. c.first_other.ensures.here (omega (arith, c.if-n-first_other.false)) (all c.first_other.result (omega (arith, c.if-n-first_other.false)) ∙ ap (λ (j : ℕ). get_or c.args.work.now (j * c.args.p.stride + c.first_other.result) 0) z))
-      (λ z. c.loop-i.invariant j (omega (arith, l, z)) all)
+    λ j l all. by_cases (ℕ_discrete j c.loop-i.i)
+    (λ z. c.first_other.ensures.here (omega (arith, c.if-n-first_other.false)) (all c.first_other.result (omega (arith, c.if-n-first_other.false)) ∙ ap (λ (j : ℕ). get_or c.args.work.now (j * c.args.p.stride + c.first_other.result) 0) z))
+    (λ z. c.loop-i.invariant j (omega (arith, l, z)) all)
 
 pub returns : goal.returns
 returns c = (
