@@ -13,18 +13,14 @@ use crate::known::{Known, known_of, mark_of};
 use crate::limits::{Context, Nesting, remainder};
 use crate::regions::{STEPS, WORTH};
 use crate::steps::steps_made;
+use crate::who::{Who, key_of};
 
-// What a list is looked for: whose it is, at which nesting its actions are to be explained, and above which utility it
-// is to end.
+// What a list is looked for: at which nesting its actions are to be explained, and above which utility it is to end.
 #[derive(Clone, Copy)]
 pub struct Goal {
-    pub who: usize,
     pub nesting: Nesting,
     pub base: usize,
 }
-
-// Whose goal the author's is: no character's.
-pub const AUTHOR: usize = 7;
 
 // A character and an action, which is to be explained to it at a nesting.
 #[derive(Clone, Copy)]
@@ -43,12 +39,12 @@ pub struct Key {
     pub base: usize,
 }
 
-// The key of what is known of the lists of so many actions to a goal.
-pub fn goal_key(g: Goal, left: usize) -> Key
-    ensures { result ≡ goal_key g left }
+// The key of what is known of the lists of so many actions to a goal of the author or of a character.
+pub fn goal_key(whose: Who, g: Goal, left: usize) -> Key
+    ensures { result ≡ goal_key whose g left }
 {
     Key {
-        who: g.who,
+        who: key_of(whose),
         nesting: g.nesting.0,
         number: left,
         base: g.base,

@@ -19,13 +19,15 @@ use crate::limits::{Context, Nesting};
 use crate::prune::{Hope, promising};
 use crate::reach::within_reach;
 use crate::steps::{known_step, steps_made};
+use crate::who::Who;
 use pack::judge::utility;
 use pack::places::{ACTION, CHARACTER_UTILITIES, CONSENTERS};
 use pack::write::{consenter, consenters};
 
-// A character's goal, and how many more actions may lead to it.
+// A character, its goal, and how many more actions may lead to it.
 #[derive(Clone, Copy)]
 pub struct Quest {
+    pub who: usize,
     pub goal: Goal,
     pub left: usize,
 }
@@ -112,13 +114,9 @@ pub fn explains(
         q,
     );
     let nesting = Nesting(d.nesting.0 - 1);
-    let goal = Goal {
-        who: d.who,
-        nesting,
-        base,
-    };
     let quest = Quest {
-        goal,
+        who: d.who,
+        goal: Goal { nesting, base },
         left: p.foresight.0 - 1,
     };
     extends(pack, places, p, work, next, quest)
@@ -135,18 +133,18 @@ pub fn extends(
     quest: Quest,
 ) -> bool
     requires { Prepared pack.now places.now p work.old (slot_table p work.old slot) (slot + p.stride)
-        × (quest.goal.who < p.characters) × (0 < p.foresight.0) × (p.foresight.0 ≤ 6)
+        × (quest.who < p.characters) × (0 < p.foresight.0) × (p.foresight.0 ≤ 6)
         × Free p slot (1 + quest.left + (1 + p.foresight.0) * quest.goal.nesting.0) }
     ensures { Answers pack.now places.now p slot work.old
         work.new result
-        (λ th s. Above th p.foresight.0 quest.goal.nesting.0 quest.goal.who quest.goal.base
+        (λ th s. Above th p.foresight.0 quest.goal.nesting.0 quest.who quest.goal.base
         (suc quest.left) s) }
 {
     let goal = quest.goal;
     let t = table_in(work, p, slot);
     let worth = utility(
         pack,
-        places[CHARACTER_UTILITIES + goal.who] as usize,
+        places[CHARACTER_UTILITIES + quest.who] as usize,
         work,
         t,
         0,
@@ -157,7 +155,7 @@ pub fn extends(
     if quest.left == 0 {
         return false;
     }
-    let whose = goal.who + 1;
+    let whose = Who::Character(quest.who);
     let hope = Hope {
         whose,
         left: quest.left,
@@ -166,14 +164,14 @@ pub fn extends(
     if !within_reach(pack, places, p, work, slot, hope) {
         return false;
     }
-    let key = goal_key(goal, quest.left);
+    let key = goal_key(whose, goal, quest.left);
     if let Some(Known::Reached(found)) = recall(work, p, slot, key) {
         return found;
     }
     let since = steps_made(work, p);
     let fewer = Quest {
-        goal,
         left: quest.left - 1,
+        ..quest
     };
     let found = extends_by(pack, places, p, work, slot, fewer);
     remember_worth(work, p, slot, Known::Reached(found), key, since);
@@ -191,16 +189,15 @@ pub fn extends_by(
     quest: Quest,
 ) -> bool
     requires { Prepared pack.now places.now p work.old (slot_table p work.old slot) (slot + p.stride)
-        × (quest.goal.who < p.characters) × (0 < p.foresight.0) × (p.foresight.0 ≤ 6)
+        × (quest.who < p.characters) × (0 < p.foresight.0) × (p.foresight.0 ≤ 6)
         × Free p slot (2 + quest.left + (1 + p.foresight.0) * quest.goal.nesting.0) }
     ensures { Answers pack.now places.now p slot work.old
         work.new result
-        (λ th s. AboveBySome th p.foresight.0 quest.goal.nesting.0 quest.goal.who quest.goal.base
+        (λ th s. AboveBySome th p.foresight.0 quest.goal.nesting.0 quest.who quest.goal.base
         (suc quest.left) s) }
 {
-    let whose = quest.goal.who + 1;
     let hope = Hope {
-        whose,
+        whose: Who::Character(quest.who),
         left: quest.left,
         base: quest.goal.base,
     };
@@ -228,15 +225,15 @@ pub fn via(
     quest: Quest,
 ) -> bool
     requires { Prepared pack.now places.now p work.old (slot_table p work.old slot) (slot + p.stride)
-        × (quest.goal.who < p.characters) × (x < p.actions) × (0 < p.foresight.0) × (p.foresight.0 ≤ 6)
+        × (quest.who < p.characters) × (x < p.actions) × (0 < p.foresight.0) × (p.foresight.0 ≤ 6)
         × Free p slot (2 + quest.left + (1 + p.foresight.0) * quest.goal.nesting.0) }
     ensures { Answers pack.now places.now p slot work.old
         work.new result
-        (λ th s. AboveBy th p.foresight.0 quest.goal.nesting.0 quest.goal.who quest.goal.base
+        (λ th s. AboveBy th p.foresight.0 quest.goal.nesting.0 quest.who quest.goal.base
         (suc quest.left) x s) }
 {
     let deed = Deed {
-        who: quest.goal.who,
+        who: quest.who,
         nesting: quest.goal.nesting,
         action: x,
     };

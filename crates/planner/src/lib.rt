@@ -17,6 +17,7 @@ pub mod regions;
 pub mod search;
 pub mod steps;
 pub mod verdict;
+pub mod who;
 
 // What Explained hands back: yes or no, or a refusal's number and place.
 #[derive(Clone, Copy)]

@@ -3,21 +3,22 @@
 // No step is made for an action whose condition fails, nor for a last one after which no rule above some utility could
 // hold: its effects are written into a copy of the state's own values, and the triggers widen these to ranges.
 ghost use Rattle.std.specs.Prelude.{◌≡◌, false};
+ghost use Rattle.planner.specs.Inner.Who.{rules_of};
 ghost use Rattle.planner.specs.Inner.Look.{Tryable, Hopeless};
 
 use crate::limits::Context;
 use crate::range::{could_exceed, widen_by_triggers};
+use crate::who::{Who, rules_of};
 use pack::copy::copy_bytes;
 use pack::judge::holds;
 use pack::places::{ACTION, EFFECTS, UTILITIES};
 use pack::table::Table;
 use pack::write::write_effects;
 
-// For whose utility actions are tried, 0 for the author and c + 1 for character c; how many more may follow; and above
-// which utility they are to lead.
+// For whose utility actions are tried, how many more may follow, and above which utility they are to lead.
 #[derive(Clone, Copy)]
 pub struct Hope {
-    pub whose: usize,
+    pub whose: Who,
     pub left: usize,
     pub base: usize,
 }
@@ -32,9 +33,9 @@ pub fn could_leave(
     x: usize,
     h: Hope,
 ) -> bool
-    requires { Tryable pack.now places.now p.triggers x work.now t h.whose }
+    requires { Tryable pack.now places.now p.triggers x work.now t (rules_of h.whose) }
     ensures { result ≡ false
-        → Hopeless pack.now places.now p.triggers x work.now t h.whose
+        → Hopeless pack.now places.now p.triggers x work.now t (rules_of h.whose)
         0 h.base }
 {
     let mut lows = [0u8; 24];
@@ -43,7 +44,7 @@ pub fn could_leave(
     write_effects(pack, effects, 0, &mut lows, 0, t.fluents);
     let mut highs = lows;
     widen_by_triggers(pack, places, p.triggers, &mut lows, &mut highs);
-    let rules = places[UTILITIES + h.whose] as usize;
+    let rules = places[UTILITIES + rules_of(h.whose)] as usize;
     could_exceed(pack, rules, &lows, &highs, h.base)
 }
 
@@ -58,9 +59,9 @@ pub fn promising(
     x: usize,
     h: Hope,
 ) -> bool
-    requires { Tryable pack.now places.now p.triggers x work.now t h.whose }
+    requires { Tryable pack.now places.now p.triggers x work.now t (rules_of h.whose) }
     ensures { result ≡ false
-        → Hopeless pack.now places.now p.triggers x work.now t h.whose
+        → Hopeless pack.now places.now p.triggers x work.now t (rules_of h.whose)
         h.left h.base }
 {
     if !holds(pack, places[ACTION * x] as usize, work, t, 0) {

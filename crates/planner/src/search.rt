@@ -15,7 +15,7 @@ ghost use Rattle.planner.specs.Promises.{Searching};
 
 use crate::Found;
 use crate::bound::can_exceed;
-use crate::entry::{AUTHOR, Deed, Goal, goal_key, recall, remember_worth};
+use crate::entry::{Deed, Goal, goal_key, recall, remember_worth};
 use crate::explain::allowed;
 use crate::intern::{extent, table_in};
 use crate::known::Known;
@@ -23,6 +23,7 @@ use crate::limits::{Context, Foresight, Limits, Nesting, SEASON, Story, laid_out
 use crate::prune::{Hope, promising};
 use crate::reach::{nearest, within_reach};
 use crate::steps::{known_step, steps_made};
+use crate::who::Who;
 use chart::bytes::{clear, copy_part};
 use chart::call::{WORK_ROOM, both_at_most, check_lent, unless_refused};
 use chart::start::{MERGED, merge_table};
@@ -85,14 +86,14 @@ pub fn completes(
         return None;
     }
     let hope = Hope {
-        whose: 0,
+        whose: Who::Author,
         left: ahead.left,
         base: goal.base,
     };
     if !within_reach(pack, places, p, work, slot, hope) {
         return None;
     }
-    let key = goal_key(goal, ahead.left);
+    let key = goal_key(Who::Author, goal, ahead.left);
     if let Some(Known::NoEnding) = recall(work, p, slot, key) {
         return None;
     }
@@ -145,7 +146,7 @@ pub fn completes_after(
 {
     let slot = ahead.done * p.stride;
     let hope = Hope {
-        whose: 0,
+        whose: Who::Author,
         left: ahead.left,
         base: ahead.goal.base,
     };
@@ -240,7 +241,7 @@ pub fn first_length(
         return 1;
     }
     let hope = Hope {
-        whose: 0,
+        whose: Who::Author,
         left: most,
         base,
     };
@@ -326,7 +327,6 @@ pub fn search_nodes(
     let t = table_in(work, p, 0);
     let base = utility(pack, places[UTILITIES] as usize, work, t, 0);
     let goal = Goal {
-        who: AUTHOR,
         nesting: limits.nesting,
         base,
     };

@@ -11,6 +11,8 @@ use Rattle.chart.specs.Chart.{Starts}
 use Rattle.chart.specs.Laws.Sums.{sum_of}
 use Rattle.transition.specs.Happening.{Plays}
 use Rattle.planner.specs.declared.limits.Context.{Context}
+use Rattle.planner.specs.declared.who.Who.{Who}
+use Rattle.planner.specs.Inner.Who.{key_of}
 use Rattle.planner.specs.declared.entry.Goal.{Goal}
 use Rattle.planner.specs.declared.entry.Deed.{Deed}
 use Rattle.planner.specs.declared.entry.Key.{Key}
@@ -139,8 +141,8 @@ pub record StepFact (p : Theory) (h : Context) (work : List ℕ) (n root a next 
 
 -- what is known of the lists of so many actions to a goal, and of a deed by the belief that a row means, is found by
 -- these
-abbrev pub goal_key : Goal → ℕ → Key
-goal_key g left = record { who = g.who; nesting = g.nesting.0; number = left; base = g.base }
+abbrev pub goal_key : Who → Goal → ℕ → Key
+goal_key whose g left = record { who = key_of whose; nesting = g.nesting.0; number = left; base = g.base }
 
 abbrev pub deed_key : Deed → (row : ℕ) → Key
 deed_key d row = record { who = d.who; nesting = d.nesting.0; number = d.action; base = row }

@@ -223,18 +223,18 @@ extends-table_in-t-requires t c =
     let (th, (T, (y, mem))) = c.requires.0 in
     (omega (arith, c.requires.4, y.room), omega (arith, small y.tabled))
 
-pub extends-overflow_add-goal : goal.extends-overflow_add-goal
-extends-overflow_add-goal t c =
+pub extends-overflow_add-quest : goal.extends-overflow_add-quest
+extends-overflow_add-quest t c =
     let (th, (T, (y, mem))) = c.requires.0 in
     omega (arith, small y.tabled, c.requires.1)
 
-pub extends-offset_bounds-places-goal : goal.extends-offset_bounds-places-goal
-extends-offset_bounds-places-goal t c =
+pub extends-offset_bounds-places-quest : goal.extends-offset_bounds-places-quest
+extends-offset_bounds-places-quest t c =
     let (th, (T, (y, mem))) = c.requires.0 in
     omega (arith, small y.tabled, c.requires.1)
 
-pub extends-bounds-places-goal : goal.extends-bounds-places-goal
-extends-bounds-places-goal t c =
+pub extends-bounds-places-quest : goal.extends-bounds-places-quest
+extends-bounds-places-quest t c =
     let (th, (T, (y, mem))) = c.requires.0 in
     omega (arith, y.theorized.marked, small y.tabled, c.requires.1)
 
@@ -245,17 +245,12 @@ extends-utility-worth-requires t c =
 
 pub extends-returns-then-goal-worth : goal.extends-returns-then-goal-worth
 extends-returns-then-goal-worth t c =
-    λ th T y mem. told_yes (λ q l. refl) (λ q l. refl) mem (reach_here th c.args.p.foresight.0 c.args.quest.goal.nesting.0 c.args.quest.goal.who c.args.quest.goal.base c.args.quest.left (meaning c.args.p.characters T 0) (omega (arith, stage_utility y c.args.quest.goal.who 0 c.requires.1 (utility_in c.args.pack.now (get_or c.args.places.now (321 + c.args.quest.goal.who) 0) c.args.work.now 0 c.utility-worth.result c.table_in-t.ensures c.utility-worth.ensures), c.if-goal-worth.true)))
+    λ th T y mem. told_yes (λ q l. refl) (λ q l. refl) mem (reach_here th c.args.p.foresight.0 c.args.quest.goal.nesting.0 c.args.quest.who c.args.quest.goal.base c.args.quest.left (meaning c.args.p.characters T 0) (omega (arith, stage_utility y c.args.quest.who 0 c.requires.1 (utility_in c.args.pack.now (get_or c.args.places.now (321 + c.args.quest.who) 0) c.args.work.now 0 c.utility-worth.result c.table_in-t.ensures c.utility-worth.ensures), c.if-goal-worth.true)))
 
 pub extends-returns-then-quest-eq0 : goal.extends-returns-then-quest-eq0
 extends-returns-then-quest-eq0 t c =
     let none : 1 ≡ suc c.args.quest.left = omega (arith, c.if-quest-eq0.true) in
-    λ th T y mem. told_none _ mem (λ z. reach_no_more th c.args.p.foresight.0 c.args.quest.goal.nesting.0 c.args.quest.goal.who c.args.quest.goal.base (meaning c.args.p.characters T 0) (λ b. omega (arith, stage_utility y c.args.quest.goal.who 0 c.requires.1 (utility_in c.args.pack.now (get_or c.args.places.now (321 + c.args.quest.goal.who) 0) c.args.work.now 0 c.utility-worth.result c.table_in-t.ensures c.utility-worth.ensures), c.if-goal-worth.false)) (subst (λ (n : ℕ). inner.Above th c.args.p.foresight.0 c.args.quest.goal.nesting.0 c.args.quest.goal.who c.args.quest.goal.base n (meaning c.args.p.characters T 0)) (sym none) z))
-
-pub extends-overflow_add-whose : goal.extends-overflow_add-whose
-extends-overflow_add-whose t c =
-    let (th, (T, (y, mem))) = c.requires.0 in
-    omega (arith, small y.tabled, c.requires.1)
+    λ th T y mem. told_none _ mem (λ z. reach_no_more th c.args.p.foresight.0 c.args.quest.goal.nesting.0 c.args.quest.who c.args.quest.goal.base (meaning c.args.p.characters T 0) (λ b. omega (arith, stage_utility y c.args.quest.who 0 c.requires.1 (utility_in c.args.pack.now (get_or c.args.places.now (321 + c.args.quest.who) 0) c.args.work.now 0 c.utility-worth.result c.table_in-t.ensures c.utility-worth.ensures), c.if-goal-worth.false)) (subst (λ (n : ℕ). inner.Above th c.args.p.foresight.0 c.args.quest.goal.nesting.0 c.args.quest.who c.args.quest.goal.base n (meaning c.args.p.characters T 0)) (sym none) z))
 
 pub extends-within_reach-requires : goal.extends-within_reach-requires
 extends-within_reach-requires t c =
@@ -266,7 +261,7 @@ extends-within_reach-requires t c =
 
 pub extends-returns-then-not-within_reach : goal.extends-returns-then-not-within_reach
 extends-returns-then-not-within_reach t c =
-    λ th T y mem. told_none _ mem (above_beyond th c.args.p.foresight.0 c.args.quest.goal.nesting.0 c.args.quest.goal.who c.args.quest.goal.base c.args.quest.left (meaning c.args.p.characters T 0) (c.within_reach.ensures c.if-not-within_reach.true th T y))
+    λ th T y mem. told_none _ mem (above_beyond th c.args.p.foresight.0 c.args.quest.goal.nesting.0 c.args.quest.who c.args.quest.goal.base c.args.quest.left (meaning c.args.p.characters T 0) (c.within_reach.ensures c.if-not-within_reach.true th T y))
 
 pub extends-recall-requires : goal.extends-recall-requires
 extends-recall-requires t c =
@@ -305,21 +300,16 @@ extends-returns t c =
     λ th T y mem.
     let s = meaning c.args.p.characters T in
     let told = c.extends_by-found.ensures th T (slot_same c.args.slot y (λ q l. c.recall.ensures.2.only.low q (omega (arith, l, c.requires.4))) c.recall.auto.work) (c.recall.ensures.2.told th c.args.p.foresight.0 (c.args.slot + c.args.p.stride) (omega (arith, c.requires.4)) y.slotted mem).0 in
-    let here : c.args.quest.goal.base < utility_to th c.args.quest.goal.who (s 0) → ⊥ = (λ b. omega (arith, stage_utility y c.args.quest.goal.who 0 c.requires.1 (utility_in c.args.pack.now (get_or c.args.places.now (321 + c.args.quest.goal.who) 0) c.args.work.now 0 c.utility-worth.result c.table_in-t.ensures c.utility-worth.ensures), c.if-goal-worth.false, b)) in
-    let whole = extended th c.args.p.foresight.0 c.args.quest.goal.nesting.0 c.args.quest.goal.who c.args.quest.goal.base c.args.quest.left s some here told in
+    let here : c.args.quest.goal.base < utility_to th c.args.quest.who (s 0) → ⊥ = (λ b. omega (arith, stage_utility y c.args.quest.who 0 c.requires.1 (utility_in c.args.pack.now (get_or c.args.places.now (321 + c.args.quest.who) 0) c.args.work.now 0 c.utility-worth.result c.table_in-t.ensures c.utility-worth.ensures), c.if-goal-worth.false, b)) in
+    let whole = extended th c.args.p.foresight.0 c.args.quest.goal.nesting.0 c.args.quest.who c.args.quest.goal.base c.args.quest.left s some here told in
     let z' = slot_same c.args.slot (slot_same {now = c.recall.new.work} c.args.slot y (λ q l. c.recall.ensures.2.only.low q (omega (arith, l, c.requires.4))) c.recall.auto.work) told.low c.extends_by-found.auto.work in
     record {
       sound = whole.sound;
       complete = whole.complete;
       low = λ q l. c.remember_worth.ensures.0.only.low q (omega (arith, l, c.requires.4)) ∙ told.low q l ∙ c.recall.ensures.2.only.low q (omega (arith, l, c.requires.4));
       high = λ q l. c.remember_worth.ensures.0.only.high q l ∙ told.high q l ∙ c.recall.ensures.2.only.high q l;
-      memory = c.remember_worth.ensures.0.memory th c.args.p.foresight.0 (c.args.slot + c.args.p.stride) (omega (arith, c.requires.4)) z'.slotted told.memory (note z' c.goal_key-key.ensures (noted th c.args.p.foresight.0 c.args.quest.goal.nesting.0 c.args.quest.goal.who c.args.quest.goal.base c.args.quest.left s some here told));
+      memory = c.remember_worth.ensures.0.memory th c.args.p.foresight.0 (c.args.slot + c.args.p.stride) (omega (arith, c.requires.4)) z'.slotted told.memory (note z' c.goal_key-key.ensures (noted th c.args.p.foresight.0 c.args.quest.goal.nesting.0 c.args.quest.who c.args.quest.goal.base c.args.quest.left s some here told));
     }
-
-pub extends_by-overflow_add-whose : goal.extends_by-overflow_add-whose
-extends_by-overflow_add-whose t c =
-    let (th, (T, (y, mem))) = c.requires.0 in
-    omega (arith, c.requires.1, small y.tabled)
 
 pub extends_by-table_in-t-requires : goal.extends_by-table_in-t-requires
 extends_by-table_in-t-requires t c =
@@ -334,7 +324,7 @@ pub extends_by-promising-requires : goal.extends_by-promising-requires
 extends_by-promising-requires t c =
     let (th, (T, (y, mem))) = c.requires.0 in
     let (long, low, high, rest) = c.loop-x.invariant in
-    tried c.args.slot (c.args.quest.goal.who + 1) (slot_same c.args.slot y low long) (omega (arith, c.requires.4)) (still_in c.args.p c.args.slot c.args.work.now c.loop-x.work c.table_in-t.ensures (low c.args.slot (omega (arith, y.laid.some)))) c.loop-x-test.true (omega (arith, c.requires.1))
+    tried c.args.slot (c.args.quest.who + 1) (slot_same c.args.slot y low long) (omega (arith, c.requires.4)) (still_in c.args.p c.args.slot c.args.work.now c.loop-x.work c.table_in-t.ensures (low c.args.slot (omega (arith, y.laid.some)))) c.loop-x-test.true (omega (arith, c.requires.1))
 
 pub extends_by-via-requires : goal.extends_by-via-requires
 extends_by-via-requires t c =
@@ -359,7 +349,7 @@ extends_by-loop-x-preserved-then-not-promising t c =
           let z = slot_same c.args.slot y low long in
           let is = still_in c.args.p c.args.slot c.args.work.now c.loop-x.work c.table_in-t.ensures (low c.args.slot (omega (arith, y.laid.some))) in (
             (rest th T y mem).0,
-            below_more (λ x. AboveBy th c.args.p.foresight.0 c.args.quest.goal.nesting.0 c.args.quest.goal.who c.args.quest.goal.base (suc c.args.quest.left) x (meaning c.args.p.characters T 0) → ⊥) c.loop-x.x (rest th T y mem).1 (by_hopeless th c.args.p.foresight.0 c.args.quest.goal.nesting.0 c.args.quest.goal.who c.args.quest.goal.base c.args.quest.left c.loop-x.x (meaning c.args.p.characters T 0) (tried_not c.args.slot (c.args.quest.goal.who + 1) z (omega (arith, c.requires.4)) is c.loop-x-test.true (c.promising.ensures c.if-not-promising.true))),
+            below_more (λ x. AboveBy th c.args.p.foresight.0 c.args.quest.goal.nesting.0 c.args.quest.who c.args.quest.goal.base (suc c.args.quest.left) x (meaning c.args.p.characters T 0) → ⊥) c.loop-x.x (rest th T y mem).1 (by_hopeless th c.args.p.foresight.0 c.args.quest.goal.nesting.0 c.args.quest.who c.args.quest.goal.base c.args.quest.left c.loop-x.x (meaning c.args.p.characters T 0) (tried_not c.args.slot (c.args.quest.who + 1) z (omega (arith, c.requires.4)) is c.loop-x-test.true (c.promising.ensures c.if-not-promising.true))),
           ),
     )
 
@@ -374,7 +364,7 @@ extends_by-loop-x-preserved t c =
       λ th T y mem.
           let told = c.via.ensures th T (slot_same c.args.slot y low long) (rest th T y mem).0 in (
             told.memory,
-            below_more (λ x. AboveBy th c.args.p.foresight.0 c.args.quest.goal.nesting.0 c.args.quest.goal.who c.args.quest.goal.base (suc c.args.quest.left) x (meaning c.args.p.characters T 0) → ⊥) c.loop-x.x (rest th T y mem).1 (told.complete c.if-via.false),
+            below_more (λ x. AboveBy th c.args.p.foresight.0 c.args.quest.goal.nesting.0 c.args.quest.who c.args.quest.goal.base (suc c.args.quest.left) x (meaning c.args.p.characters T 0) → ⊥) c.loop-x.x (rest th T y mem).1 (told.complete c.if-via.false),
           ),
     )
 
@@ -486,5 +476,5 @@ via-returns-then-known_step t c =
     let played = c.known_step.ensures.0 th T z' told.memory in
     let plays = next_plays z' 0 played f c.known_step.auto.work zero in
     told_by (omega arith) (memory_fewer c.args.p (omega arith)) (λ q l. played.low q l ∙ told.low q l) (λ q l. played.high q l ∙ told.high q l) (c.extends.ensures th (next_table z' 0 played f c.known_step.auto.work zero) (next_stage z' 0 played f c.known_step.auto.work zero) (played.further zero))
-    (λ g. by_from th c.args.p.foresight.0 c.args.quest.goal.nesting.0 c.args.quest.goal.who c.args.quest.goal.base (suc c.args.quest.left) c.args.x (meaning c.args.p.characters T 0) _ plays (told.sound c.if-not-allowed.false) g)
-    (λ g. by_to th c.args.p.foresight.0 c.args.quest.goal.nesting.0 c.args.quest.goal.who c.args.quest.goal.base (suc c.args.quest.left) c.args.x (meaning c.args.p.characters T 0) _ plays g)
+    (λ g. by_from th c.args.p.foresight.0 c.args.quest.goal.nesting.0 c.args.quest.who c.args.quest.goal.base (suc c.args.quest.left) c.args.x (meaning c.args.p.characters T 0) _ plays (told.sound c.if-not-allowed.false) g)
+    (λ g. by_to th c.args.p.foresight.0 c.args.quest.goal.nesting.0 c.args.quest.who c.args.quest.goal.base (suc c.args.quest.left) c.args.x (meaning c.args.p.characters T 0) _ plays g)
