@@ -16,6 +16,9 @@ pub const CHART_ROOM: usize = 961;
 // How long a buffer for a chain must be.
 pub const CHAIN_ROOM: usize = 62;
 
+// How long a buffer for a list must be.
+pub const LIST_ROOM: usize = 8;
+
 // Whether a is at most x and b at most y: two lent buffers are long enough, or a number is within its limits.
 pub fn both_at_most(a: usize, x: usize, b: usize, y: usize) -> bool
     ensures { result ≡ (leb a x && leb b y) }

@@ -24,29 +24,51 @@ use Rattle.transition.specs.Happening.{nothing, Plays, action_of}
 use Rattle.transition.specs.Laws.Settled.{plays_one}
 use Rattle.planner.specs.declared.limits.Context.{Context}
 use Rattle.planner.specs.Ending.{Leads, Explained, author_utility}
+use Rattle.std.specs.Prelude.{Option, Some, None, MatchOption, is_some}
+use mathlib.Core.Bool.{true, false}
 use Rattle.planner.specs.Inner.Lists.{slot_table, Agreed, All, Ends, EndsBy}
 use Rattle.planner.specs.Inner.Memory.{Laid, Fact, Memory}
 use Rattle.planner.specs.Inner.Explain.{Stage, Free}
 use Rattle.planner.specs.Inner.Search.{Dry, Trail, Repeated, Put, Chosen, Best}
 use Rattle.planner.specs.Laws.Explaining.{Agreeing}
 use Rattle.planner.proofs.Chains.{table_moved}
-use Rattle.planner.proofs.TrueMemory.{state_moved}
+use Rattle.planner.proofs.TrueMemory.{unset, state_moved}
 use Rattle.planner.proofs.Explanations.{consenter_below, slot_same, stage_extent, stage_state}
 
+-- none is no value, and a value is one
+pub no_some : {A B : Type 0} {v : A} → None ≡ Some v → B
+no_some {A} {B} e = absurd (subst (λ (o : Option A). MatchOption o (Unit {0}) (λ w. ⊥)) e tt)
+
+pub some_is : {A : Type 0} {v w : A} → Some v ≡ Some w → v ≡ w
+some_is {A} {v} e = subst (λ (o : Option A). MatchOption o ⊥ (λ w. v ≡ w)) e refl
+
+-- by a test
+pub is_none : {A : Type 0} {o : Option A} → is_some o ≡ false → o ≡ None
+is_none {o = None} e = refl
+is_none {o = Some v} e = absurd (unset (sym e))
+
+pub not_none : {A : Type 0} {o : Option A} → is_some o ≡ true → (v : A) × (o ≡ Some v)
+not_none {o = None} e = absurd (unset e)
+not_none {o = Some v} e = (v, refl)
+
 -- none found
-pub best_none : {M : List ℕ → Type 0} {Good : List ℕ → ℕ → Type 0} {n : ℕ} (was : List ℕ) {done slot : ℕ} {work work' : List ℕ} → Below work work' slot → Above work work' work_room → M work' → ((list : List ℕ) (v : ℕ) → length list ≡ n → ¬ Good list v) → Best M Good n was was done slot work work' 0
-best_none was low high m f = record { memory = m; none = λ e. (refl, f); some = λ l. absurd (omega arith); low = low; high = high }
+pub best_none : {M : List ℕ → Type 0} {Good : List ℕ → ℕ → Type 0} {n : ℕ} (was : List ℕ) {done slot : ℕ} {work work' : List ℕ} → Below work work' slot → Above work work' work_room → M work' → ((list : List ℕ) (v : ℕ) → length list ≡ n → ¬ Good list v) → Best M Good n was was done slot work work' None
+best_none was low high m f = record { memory = m; none = λ e. (refl, f); some = λ v e. no_some e; low = low; high = high }
 
 -- after something that changes no slot in use
-pub best_from : {M : List ℕ → Type 0} {Good : List ℕ → ℕ → Type 0} {n : ℕ} {was now : List ℕ} {at slot : ℕ} {work mid work' : List ℕ} {r : ℕ} → Below work mid slot → Above work mid work_room → Best M Good n was now at slot mid work' r → Best M Good n was now at slot work work' r
+pub best_from : {M : List ℕ → Type 0} {Good : List ℕ → ℕ → Type 0} {n : ℕ} {was now : List ℕ} {at slot : ℕ} {work mid work' : List ℕ} {r : Option ℕ} → Below work mid slot → Above work mid work_room → Best M Good n was now at slot mid work' r → Best M Good n was now at slot work work' r
 best_from low high b = record { none = b.none; some = b.some; low = λ q l. b.low q l ∙ low q l; high = λ q l. b.high q l ∙ high q l; memory = b.memory }
 
 -- more is put into the memory
-pub best_noted : {M : List ℕ → Type 0} {Good : List ℕ → ℕ → Type 0} {n : ℕ} {was now : List ℕ} {at slot : ℕ} {work mid work' : List ℕ} {r far : ℕ} → Best M Good n was now at slot work mid r → slot ≤ far → Below mid work' far → Above mid work' work_room → M work' → Best M Good n was now at slot work work' r
+pub best_noted : {M : List ℕ → Type 0} {Good : List ℕ → ℕ → Type 0} {n : ℕ} {was now : List ℕ} {at slot : ℕ} {work mid work' : List ℕ} {r : Option ℕ} {far : ℕ} → Best M Good n was now at slot work mid r → slot ≤ far → Below mid work' far → Above mid work' work_room → M work' → Best M Good n was now at slot work work' r
 best_noted b le low high m = record { none = b.none; some = b.some; low = λ q l. low q (omega arith) ∙ b.low q l; high = λ q l. high q l ∙ b.high q l; memory = m }
 
+-- the same answer, under another name
+pub best_is : {M : List ℕ → Type 0} {Good : List ℕ → ℕ → Type 0} {n : ℕ} {was now : List ℕ} {at slot : ℕ} {work work' : List ℕ} {r r' : Option ℕ} → r ≡ r' → Best M Good n was now at slot work work' r' → Best M Good n was now at slot work work' r
+best_is {M} {Good} {n} {was} {now} {at} {slot} {work} {work'} e b = subst (λ (r : Option ℕ). Best M Good n was now at slot work work' r) (sym e) b
+
 -- one action more than the rest
-pub best_same : {M : List ℕ → Type 0} {Good : List ℕ → ℕ → Type 0} {n n' : ℕ} {was now : List ℕ} {at slot : ℕ} {work work' : List ℕ} {r : ℕ} → n ≡ n' → Best M Good n was now at slot work work' r → Best M Good n' was now at slot work work' r
+pub best_same : {M : List ℕ → Type 0} {Good : List ℕ → ℕ → Type 0} {n n' : ℕ} {was now : List ℕ} {at slot : ℕ} {work work' : List ℕ} {r : Option ℕ} → n ≡ n' → Best M Good n was now at slot work work' r → Best M Good n' was now at slot work work' r
 best_same {M} {Good} {n} {n'} {was} {now} {at} {slot} {work} {work'} {r} e b = subst (λ (n : ℕ). Best M Good n was now at slot work work' r) e b
 
 -- that there is none is a fact
@@ -127,36 +149,37 @@ module _ (th : Theory) (K e base : ℕ) (s : State) where
   U = author_utility th s
 
   -- no action is left
-  pub best_end : {M : List ℕ → Type 0} (was : List ℕ) {at slot : ℕ} (work : List ℕ) {r : ℕ} → M work → (base < U → r ≡ U) → (U ≤ base → r ≡ 0) → Best M (Ends th K e base s) 0 was was at slot work work r
+  pub best_end : {M : List ℕ → Type 0} (was : List ℕ) {at slot : ℕ} (work : List ℕ) {r : Option ℕ} → M work → (base < U → r ≡ Some U) → (U ≤ base → r ≡ None) → Best M (Ends th K e base s) 0 was was at slot work work r
   unfolding Leads Before
   best_end was {at} {slot} work {r} m f g = record {
     memory = m;
     none = λ z. (refl, λ list v l q. not_one z list v l q);
-    some = λ l.
-        let above : base < U = omega (arith, by_cases' l) in
-        ([], record { long = refl; good = (s, refl, (sym (f above), omega (arith, f above))); earliest = λ other v l q b. short other l b }, record { put = λ i l. absurd (omega arith); low = λ q l. refl; high = λ q l. refl });
+    some = λ v e.
+        let above : base < U = by_cases' e in
+        let is : U ≡ v = some_is (sym (f above) ∙ e) in
+        ([], record { long = refl; good = (s, refl, (is, omega (arith, is, above))); earliest = λ other v l q b. short other l b }, record { put = λ i l. absurd (omega arith); low = λ q l. refl; high = λ q l. refl });
     low = λ q l. refl;
     high = λ q l. refl;
   }
     where
-      not_one : r ≡ 0 → (list : List ℕ) (v : ℕ) → length list ≡ 0 → Ends th K e base s list v → ⊥
-      not_one z [] v l (s', q, (w, b)) = let is : author_utility th s ≡ author_utility th s' = ap (author_utility th) q in let above : base < U = omega (arith, is, w, b) in omega (arith, f above, z)
+      not_one : r ≡ None → (list : List ℕ) (v : ℕ) → length list ≡ 0 → Ends th K e base s list v → ⊥
+      not_one z [] v l (s', q, (w, b)) = let is : author_utility th s ≡ author_utility th s' = ap (author_utility th) q in let above : base < U = omega (arith, is, w, b) in no_some (sym z ∙ f above)
       not_one z (x ∷ list) v l q = absurd (omega (arith, l))
 
-      by_cases' : 0 < r → base < U
-      by_cases' l = by_cases (dec_le U base) (λ h. absurd (omega (arith, g h, l))) (λ h. omega (arith, h))
+      by_cases' : {v : ℕ} → r ≡ Some v → base < U
+      by_cases' e = by_cases (dec_le U base) (λ h. no_some (sym (g h) ∙ e)) (λ h. omega (arith, h))
 
       short : (other : List ℕ) → length other ≡ 0 → Before other [] → ⊥
       short other l b = b
 
   -- action x, of none before which a list can begin
-  pub best_first : {M : List ℕ → Type 0} {n x : ℕ} {was now : List ℕ} {at slot : ℕ} {work mid work' : List ℕ} {r : ℕ} → Below work mid slot → Above work mid work_room → ((y : ℕ) → y < x → (list : List ℕ) (v : ℕ) → length list ≡ suc n → ¬ EndsBy th K e base y s list v)
-      → 0 < r → Best M (EndsBy th K e base x s) (suc n) was now at slot mid work' r → Best M (Ends th K e base s) (suc n) was now at slot work work' r
+  pub best_first : {M : List ℕ → Type 0} {n x : ℕ} {was now : List ℕ} {at slot : ℕ} {work mid work' : List ℕ} {r : Option ℕ} {v : ℕ} → Below work mid slot → Above work mid work_room → ((y : ℕ) → y < x → (list : List ℕ) (v : ℕ) → length list ≡ suc n → ¬ EndsBy th K e base y s list v)
+      → r ≡ Some v → Best M (EndsBy th K e base x s) (suc n) was now at slot mid work' r → Best M (Ends th K e base s) (suc n) was now at slot work work' r
   unfolding Leads Before
-  best_first {M} {n} {x} {was} {now} {at} {slot} {work} {mid} {work'} {r} low high f l b = record {
+  best_first {M} {n} {x} {was} {now} {at} {slot} {work} {mid} {work'} {r} low high f is b = record {
     memory = b.memory;
-    none = λ z. absurd (omega arith);
-    some = λ h. let (list, c, put) = b.some h in (list, record { long = c.long; good = whole c.good; earliest = λ other v l q. earlier list c other v l q }, put);
+    none = λ z. no_some (sym z ∙ is);
+    some = λ w e. let (list, c, put) = b.some w e in (list, record { long = c.long; good = whole c.good; earliest = λ other v l q. earlier list c other v l q }, put);
     low = λ q l. b.low q l ∙ low q l;
     high = λ q l. b.high q l ∙ high q l;
   }
@@ -164,7 +187,7 @@ module _ (th : Theory) (K e base : ℕ) (s : State) where
       whole : {list : List ℕ} {v : ℕ} → EndsBy th K e base x s list v → Ends th K e base s list v
       whole {list} {v} (rest, q, (t, plays, agreed, (s', leads, w))) = subst (λ (list : List ℕ). Ends th K e base s list v) (sym q) (s', (t, plays, agreed, leads), w)
 
-      earlier : (list : List ℕ) → Chosen (EndsBy th K e base x s) (suc n) list r → (other : List ℕ) (v : ℕ) → length other ≡ suc n → Ends th K e base s other v → Before other list → ⊥
+      earlier : (list : List ℕ) {r : ℕ} → Chosen (EndsBy th K e base x s) (suc n) list r → (other : List ℕ) (v : ℕ) → length other ≡ suc n → Ends th K e base s other v → Before other list → ⊥
       earlier list c [] v l q b = absurd (omega (arith, l))
       earlier list c (y ∷ other) v l (s', (t, plays, agreed, leads), w) b =
           let (rest, is, more) = c.good in
@@ -189,23 +212,23 @@ module _ (th : Theory) (K e base : ℕ) (s : State) where
     same : {list : List ℕ} {v : ℕ} → EndsBy th K e base x s list v → (rest : List ℕ) × (list ≡ x ∷ rest) × Ends th K e base t rest v
     same {list} {v} (rest, q, (u, p, z, m)) = (rest, q, subst (λ (u : State). Ends th K e base u rest v) (plays_one p plays) m)
 
-    module _ (agreed : Agreeing th All (Explained th K e) s x (action_of th x).consenters) {M M' : List ℕ → Type 0} {n : ℕ} {was now : List ℕ} {at slot slot' : ℕ} {work mid work' : List ℕ} {r : ℕ} (le : slot ≤ slot') (fewer : M' work' → M work') (low : Below work mid slot) (high : Above work mid work_room) (b : Best M' (Ends th K e base t) n was now (at + 1) slot' mid work' r) where
-      pub best_by_none : r ≡ 0 → Best M (EndsBy th K e base x s) (suc n) was now at slot work work' r
+    module _ (agreed : Agreeing th All (Explained th K e) s x (action_of th x).consenters) {M M' : List ℕ → Type 0} {n : ℕ} {was now : List ℕ} {at slot slot' : ℕ} {work mid work' : List ℕ} {r : Option ℕ} (le : slot ≤ slot') (fewer : M' work' → M work') (low : Below work mid slot) (high : Above work mid work_room) (b : Best M' (Ends th K e base t) n was now (at + 1) slot' mid work' r) where
+      pub best_by_none : r ≡ None → Best M (EndsBy th K e base x s) (suc n) was now at slot work work' None
       best_by_none e = record {
         memory = fewer b.memory;
-        none = λ q. ((b.none e).0, λ list v l q. let (rest, is, m) = same q in (b.none e).1 rest v (omega (arith, l, ap length is)) m);
-        some = λ l. absurd (omega (arith, e, l));
+        none = λ _. ((b.none e).0, λ list v l q. let (rest, is, m) = same q in (b.none e).1 rest v (omega (arith, l, ap length is)) m);
+        some = λ v z. no_some z;
         low = λ q l. b.low q (omega arith) ∙ low q l;
         high = λ q l. b.high q l ∙ high q l;
       }
 
-      pub best_by : 0 < r → {then : List ℕ} → get_or then at 0 ≡ x → ((q : ℕ) → q ≢ at → get_or then q 0 ≡ get_or now q 0) → Best M (EndsBy th K e base x s) (suc n) was then at slot work work' r
+      pub best_by : {v : ℕ} → r ≡ Some v → {then : List ℕ} → get_or then at 0 ≡ x → ((q : ℕ) → q ≢ at → get_or then q 0 ≡ get_or now q 0) → Best M (EndsBy th K e base x s) (suc n) was then at slot work work' (Some v)
       unfolding Before
-      best_by l {then} here else = record {
+      best_by {v} is {then} here else = record {
         memory = fewer b.memory;
-        none = λ q. absurd (omega arith);
-        some = λ l.
-            let (list, c, p) = b.some l in (
+        none = λ q. no_some (sym q);
+        some = λ w q. subst (λ (w : ℕ). (list : List ℕ) × Chosen (EndsBy th K e base x s) (suc n) list w × Put was then at list) (some_is q) (
+            let (list, c, p) = b.some v is in (
               x ∷ list,
               record { long = omega (arith, c.long); good = (list, refl, (t, plays, agreed, c.good)); earliest = λ other v l q. earlier list c other v l q },
               record {
@@ -213,7 +236,7 @@ module _ (th : Theory) (K e base : ℕ) (s : State) where
                 low = λ q l. else q (λ z. omega arith) ∙ p.low q (omega arith);
                 high = λ q l. else q (λ z. omega arith) ∙ p.high q (omega arith);
               },
-            );
+            ));
         low = λ q l. b.low q (omega arith) ∙ low q l;
         high = λ q l. b.high q l ∙ high q l;
       }
@@ -222,7 +245,7 @@ module _ (th : Theory) (K e base : ℕ) (s : State) where
           stand list p zero l = let z : at + 0 ≡ at = omega arith in ap (λ (q : ℕ). get_or then q 0) z ∙ here
           stand list p (suc i) l = let z : at + suc i ≡ at + 1 + i = omega arith in ap (λ (q : ℕ). get_or then q 0) z ∙ else (at + 1 + i) (λ w. omega arith) ∙ p.put i (omega arith)
 
-          earlier : (list : List ℕ) → Chosen (Ends th K e base t) n list r → (other : List ℕ) (v : ℕ) → length other ≡ suc n → EndsBy th K e base x s other v → Before other (x ∷ list) → ⊥
+          earlier : (list : List ℕ) {r : ℕ} → Chosen (Ends th K e base t) n list r → (other : List ℕ) (v : ℕ) → length other ≡ suc n → EndsBy th K e base x s other v → Before other (x ∷ list) → ⊥
           earlier list c other v l q b =
               let (rest, is, m) = same q in
               ⊎_elim (λ (h : x < x). omega (arith, h)) (λ (h : (x ≡ x) × Before rest list). c.earliest rest v (omega (arith, l, ap length is)) m h.1) (subst (λ (other : List ℕ). Before other (x ∷ list)) is b)
@@ -284,7 +307,7 @@ module _ {th : Theory} {h : Context} {K : ℕ} where
       → Stage th T pack places h work (slot_table h work (0 * h.stride)) (0 * h.stride + h.stride) × Memory th K h (0 * h.stride + h.stride) work
   at_outset {T} {pack} {places} {work} x m = (subst (λ (s : ℕ). Stage th T pack places h work (slot_table h work s) (s + h.stride)) (sym (outset h)) x, subst (λ (s : ℕ). Memory th K h (s + h.stride) work) (sym (outset h)) m)
 
-  pub best_outset : {Good : List ℕ → ℕ → Type 0} {n : ℕ} {was now work work' : List ℕ} {r : ℕ} → Best (Memory th K h (0 * h.stride + h.stride)) Good n was now 0 (0 * h.stride + h.stride) work work' r → Best (Memory th K h (0 + h.stride)) Good n was now 0 (0 + h.stride) work work' r
+  pub best_outset : {Good : List ℕ → ℕ → Type 0} {n : ℕ} {was now work work' : List ℕ} {r : Option ℕ} → Best (Memory th K h (0 * h.stride + h.stride)) Good n was now 0 (0 * h.stride + h.stride) work work' r → Best (Memory th K h (0 + h.stride)) Good n was now 0 (0 + h.stride) work work' r
   best_outset {Good} {n} {was} {now} {work} {work'} {r} b = subst (λ (s : ℕ). Best (Memory th K h (s + h.stride)) Good n was now 0 (s + h.stride) work work' r) (outset h) b
 
 pub free_outset : (h : Context) (n : ℕ) → Free h 0 n → Free h (0 * h.stride) n

@@ -10,18 +10,20 @@ use lib.Dec.{ltb, leb}
 use borrow.Author.Tests.{ltb-true, leb-true}
 use Rattle.pack.specs.Syntax.{Theory, Node, Pack}
 use Rattle.pack.specs.State.{meaning}
-use Rattle.pack.specs.Reading.{Reply, gives, with, told}
+use Rattle.pack.specs.Reading.{Reply, gives, refuses, with, told}
 use Rattle.pack.specs.Grammar.{pack_of}
 use Rattle.pack.specs.Duties.Copy.{TableCopied}
-use Rattle.pack.specs.Duties.Contents.{PackRead, replied, replied_count}
+use Rattle.pack.specs.Refusals.{refusal_number, place_of}
+use Rattle.pack.specs.Duties.Said.{replied}
+use Rattle.pack.specs.Duties.Contents.{PackRead}
 use Rattle.pack.specs.Duties.Table.{Above}
 use Rattle.pack.specs.Laws.Exact.{Bytes}
 use Rattle.pack.specs.declared.contents.Contents.{Contents}
-use Rattle.pack.specs.declared.number.Number.{Number}
-use Rattle.pack.specs.declared.number.Number.TheVariants as numbers
+use Rattle.std.specs.Prelude.{Result, Ok, Err}
+use Rattle.pack.specs.declared.refusal.Refusal.{Refusal}
 use Rattle.pack.specs.declared.table.Table.{Table}
 use Rattle.pack.specs.Laws.Accepted.{small_pack}
-use Rattle.chart.specs.Call.{fits, work_room, work_after}
+use Rattle.chart.specs.Call.{fits, by_checks, work_room, work_after}
 use Rattle.chart.specs.Replies.{first_of}
 use Rattle.chart.specs.Laws.Answers.{fits_table}
 use Rattle.chart.specs.Laws.Replies.{chart_fits}
@@ -30,10 +32,9 @@ use Rattle.chart.specs.Duties.Put.{Cleared}
 use Rattle.chart.specs.Laws.Arguments.{and_true}
 use Rattle.chart.specs.Laws.LoadedNodes.{read_small}
 use Rattle.chart.specs.Laws.LookedUp.{cleared_all}
-use Rattle.chart.specs.Laws.Checks.{counted, lent, checks, Accepted, FirstRead, first_read, nodes_read, refused_by, accepted_by, left_alone, check_one}
+use Rattle.chart.specs.Laws.Checks.{counted, lent, lent_told, pack_refused, Accepted, FirstRead, first_read, nodes_read, refused_by, accepted_by, left_alone, check_one}
 use Rattle.transition.specs.Laws.Loaded.{read_tabled}
 use Rattle.transition.specs.Laws.Loaded.{short-pack}
-use Rattle.planner.specs.declared.Judged.TheVariants as judged
 use Rattle.planner.specs.declared.limits.Context.{Context}
 use Rattle.planner.specs.Ending.{Explained}
 use Rattle.planner.specs.Answers.{explained_table}
@@ -95,8 +96,7 @@ module _ {th : Theory} {T : List Node} {pack places : List ℕ} {h : Context} {c
     pub judge_verdict : {M : List ℕ → Type 0} {P : Type 0} {then mid' now : List ℕ} {r : Bool} → Above mid then work_room → Told M (0 + h.stride) then mid' r P → Cleared mid' now 0 work_room → length now ≡ length work → Verdict P work now r
     judge_verdict high told cl long = record { sound = told.sound; complete = told.complete; scratch = cleared_all work cl (λ q g. told.high q g ∙ high q g ∙ y.above q (omega (arith, read_small x.read))) long x.room }
 
-module _ {pack places : List ℕ} (chart : List ℕ) (c a K e : ℕ) (work : List ℕ) {p : Contents} (got : PackRead pack places p) (nodes : Number) (under : replied_count nodes ≡ with (replied p.answer) (λ u. counted p chart))
-    (there : Bool) (here : there ≡ (ltb c p.characters && (ltb a p.actions && (foresight_limit K && nesting_limit e)))) (r : Number) (says : replied_count r ≡ with (replied_count nodes) (λ v. lent (fits work_room work) there (gives v))) where
+module _ (pack chart : List ℕ) (c a K e : ℕ) (work : List ℕ) where
   abbrev verdict_of : Pack → List (List Node) → Reply Bool
   verdict_of p tables = gives (explained_table p.theory K e c a (first_of tables))
 
@@ -106,87 +106,112 @@ module _ {pack places : List ℕ} (chart : List ℕ) (c a K e : ℕ) (work : Lis
   abbrev the_reply : Reply Bool
   the_reply = explained_reply pack chart c a K e work
 
-  is_in_range : (x : Pack) → pack_of pack ≡ gives x → there ≡ wanted x.theory
-  is_in_range x q = let g = got.found x q in here ∙ ap₂ (λ (k m : ℕ). ltb c k && (ltb a m && (foresight_limit K && nesting_limit e))) (sym g.characters) (sym g.theory.actions)
+  abbrev room : Bool
+  room = fits work_room work
 
-  agrees : replied_count r ≡ told (λ ns. get_or ns 0 0) (checks p (chart ∷ []) (fits work_room work) there)
-  agrees = says ∙ ap (λ (y : Reply ℕ). with y (λ v. lent (fits work_room work) there (gives v))) under ∙ check_one p (fits work_room work) there chart
+  unjudged : (why : Refusal) → (the_reply ≡ refuses (refusal_number why) (place_of why)) × (by_checks (refusal_number why) ≡ true)
+      → Judgement pack chart c a K e work work (Err why)
+  unjudged why z = record { answer = sym z.0; scratch = left_alone the_reply work (refusal_number why) (place_of why) z }
 
-  pub judge_refused : (k q : ℕ) → r ≡ numbers.Refused k q → Judgement pack chart c a K e work work (judged.Refused k q)
+  pub judge_unread : {places : List ℕ} (why : Refusal) → PackRead pack places (Err why) → Judgement pack chart c a K e work work (Err why)
   unfolding explained_reply
-  judge_refused k q z =
-      let z = refused_by (chart ∷ []) got (fits work_room work) there wanted is_in_range verdict_of (λ ns. get_or ns 0 0) (replied_count r) agrees k q (ap replied_count z) in
-      record { answer = sym z.0; scratch = left_alone the_reply work k q z }
+  judge_unread why read = unjudged why (pack_refused pack (chart ∷ []) room wanted verdict_of (refusal_number why) (place_of why) read.answer)
 
-  module _ (pack-bytes : Bytes pack) (chart-bytes : Bytes chart) (marked : 327 ≤ length places) (n m : ℕ) (q : r ≡ numbers.Is n m) where
-    accepted_now : (ns : List ℕ) × (get_or ns 0 0 ≡ n) × ((x : Accepted pack places (chart ∷ []) p ns (fits work_room work) there) × (the_reply ≡ verdict_of x.the_pack x.tables))
+  module _ {places : List ℕ} {p : Contents} (got : PackRead pack places (Ok p)) (there : Bool) (here : there ≡ (ltb c p.characters && (ltb a p.actions && (foresight_limit K && nesting_limit e)))) where
+    is_in_range : (x : Pack) → pack_of pack ≡ gives x → there ≡ wanted x.theory
+    is_in_range x q =
+        let g = got.found x q in
+        here ∙ ap₂ (λ (k m : ℕ). ltb c k && (ltb a m && (foresight_limit K && nesting_limit e))) (sym g.characters) (sym g.theory.actions)
+
+    abbrev said : Reply ℕ
+    said = with (counted p chart) (λ v. lent room there (gives v))
+
+    refused : (why : Refusal) → said ≡ refuses (refusal_number why) (place_of why) → Judgement pack chart c a K e work work (Err why)
     unfolding explained_reply
-    accepted_now = accepted_by (chart ∷ []) got (fits work_room work) there wanted is_in_range verdict_of (λ ns. get_or ns 0 0) (replied_count r) agrees n (ap replied_count q)
+    refused why z =
+        unjudged why (refused_by (chart ∷ []) got room there wanted is_in_range verdict_of (λ ns. get_or ns 0 0) said (check_one p room there chart) (refusal_number why) (place_of why) z)
 
-    abbrev theory : Theory
-    theory = accepted_now.2.0.the_pack.theory
+    pub judge_chart : (why : Refusal) → counted p chart ≡ refuses (refusal_number why) (place_of why) → Judgement pack chart c a K e work work (Err why)
+    judge_chart why z = refused why (ap (λ (y : Reply ℕ). with y (λ v. lent room there (gives v))) z)
 
-    first : FirstRead theory chart [] accepted_now.2.0.tables
-    first = let x = accepted_now.2.0 in first_read theory chart [] x.tables x.read
+    module _ (n : ℕ) (read_chart : counted p chart ≡ gives n) (r : Result (Unit {0}) Refusal) (says : replied r ≡ lent room there (gives tt)) where
+      agrees : said ≡ told (λ (u : Unit {0}). n) (replied r)
+      agrees = ap (λ (y : Reply ℕ). with y (λ v. lent room there (gives v))) read_chart ∙ lent_told room there n r says
 
-    read : NodesRead chart n p.fluents p.characters first.table
-    read =
-        let (ns, g, (x, replies)) = accepted_now in
-        nodes_read x.accepted x.found first.read (ap (λ (l : List (List Node)). get_or (map length l) 0 0) (sym first.same) ∙ ap (λ (l : List ℕ). get_or l 0 0) x.long ∙ g)
+      pub judge_lent : (why : Refusal) → r ≡ Err why → Judgement pack chart c a K e work work (Err why)
+      judge_lent why q = refused why (agrees ∙ ap (λ (r : Result (Unit {0}) Refusal). told (λ (u : Unit {0}). n) (replied r)) q)
 
-    abbrev pub context : Context
-    context = laid_out p (record { 0 = K }) (1 + (1 + K) * e)
+      module _ (pack-bytes : Bytes pack) (chart-bytes : Bytes chart) (marked : 327 ≤ length places) (q : r ≡ Ok tt) where
+        accepted_now : (ns : List ℕ) × (get_or ns 0 0 ≡ n) × ((x : Accepted pack places (chart ∷ []) p ns room there) × (the_reply ≡ verdict_of x.the_pack x.tables))
+        unfolding explained_reply
+        accepted_now =
+            accepted_by (chart ∷ []) got room there wanted is_in_range verdict_of (λ ns. get_or ns 0 0) said (check_one p room there chart) n
+            (agrees ∙ ap (λ (r : Result (Unit {0}) Refusal). told (λ (u : Unit {0}). n) (replied r)) q)
 
-    -- the numbers are those of something there
-    pub judge_ranges : (c < p.characters) × (a < p.actions) × (0 < K) × (K ≤ 6) × (e ≤ 3)
-    judge_ranges =
-        let (who, rest) = and_true (ltb c p.characters) (ltb a p.actions && (foresight_limit K && nesting_limit e)) (sym here ∙ accepted_now.2.0.is_in_range) in
-        let (what, limits) = and_true (ltb a p.actions) (foresight_limit K && nesting_limit e) rest in
-        let (foresight, nesting) = and_true (foresight_limit K) (nesting_limit e) limits in
-        let (low, high) = and_true (leb 1 K) (leb K 6) foresight in
-        (ltb-true c p.characters who, ltb-true a p.actions what, leb-true 1 K low, leb-true K 6 high, leb-true e 3 nesting)
+        abbrev theory : Theory
+        theory = accepted_now.2.0.the_pack.theory
 
-    -- what the context is made of
-    pub judge_sizes : (p.fluents ≤ 24) × (p.characters ≤ 6) × (1 + (1 + K) * e ≤ 30)
-    judge_sizes =
-        let x = accepted_now.2.0 in
-        let small = small_pack pack x.the_pack x.accepted in
-        let (who, what, low, high, nested) = judge_ranges in
-        (got.few, omega (arith, small.characters, x.found.characters), omega (arith, mul-le-mul_left (1 + K) nested, mul-le-mul_right 3 high))
+        first : FirstRead theory chart [] accepted_now.2.0.tables
+        first = let x = accepted_now.2.0 in first_read theory chart [] x.tables x.read
 
-    ready : Judging theory first.table pack places context chart n c a K e work
-    ready =
-        let x = accepted_now.2.0 in
-        let (who, what, low, high, nested) = judge_ranges in
-        record {
-          theorized = record { small = small_pack pack x.the_pack x.accepted; found = x.found.theory; short = short-pack pack x.the_pack x.accepted; marked = marked };
-          read = read;
-          same_characters = x.found.characters;
-          same_fluents = x.found.fluents;
-          who = who;
-          what = what;
-          foreseen = (low, high);
-          laid = laid_fits p (record { 0 = K }) (1 + (1 + K) * e) (omega (arith, who)) judge_sizes;
-          slots = laid_free p (record { 0 = K }) (1 + (1 + K) * e);
-          room = leb-true work_room (length work) x.enough_there;
-        }
+        read : NodesRead chart n p.domains.fluents p.characters first.table
+        read =
+            let (ns, g, (x, replies)) = accepted_now in
+            nodes_read x.accepted x.found first.read (ap (λ (l : List (List Node)). get_or (map length l) 0 0) (sym first.same) ∙ ap (λ (l : List ℕ). get_or l 0 0) x.long ∙ g)
 
-    pub judge_able : (h : Context) → h ≡ context → Judgeable pack places h chart n c a h.foresight.0 e work
-    judge_able h made = subst (λ (h : Context). Judgeable pack places h chart n c a h.foresight.0 e work) (sym made) (theory, (first.table, ready))
+        abbrev pub context : Context
+        context = laid_out p (record { 0 = K }) (1 + (1 + K) * e)
 
-    pub judge_done : (h : Context) → h ≡ context → (now : List ℕ) (v : Bool) → VerdictOf pack places h chart n c a h.foresight.0 e work now v → Judgement pack chart c a K e work now (judged.Verdict v)
-    unfolding work_after
-    judge_done h made now v put =
-        let (ns, g, (x, replies)) = accepted_now in
-        let z = subst (λ (h : Context). VerdictOf pack places h chart n c a h.foresight.0 e work now v) made put theory first.table ready in
-        let table = fits_table theory.characters theory.domains first.table (chart_fits (record { bytewise = pack-bytes; accepted = x.accepted }) (record { bytewise = chart-bytes; accepted = first.read })) in
-        let same : meaning p.characters first.table 0 ≡ meaning theory.characters first.table 0 = ap (λ (k : ℕ). meaning k first.table 0) (sym x.found.characters) in
-        let iff = explained_table_iff theory first.table table K e c a in
-        let is : v ≡ explained_table theory K e c a first.table = decided v (explained_table theory K e c a first.table) (λ h. iff.1 (subst (Explained theory K e c a) same (z.sound h))) (λ h k. z.complete h (subst (Explained theory K e c a) (sym same) (iff.0 k))) in
-        let gave : the_reply ≡ gives (explained_table theory K e c a first.table) = replies ∙ ap (λ (l : List (List Node)). gives (explained_table theory K e c a (first_of l))) first.same in
-        record { answer = ap gives is ∙ sym gave; scratch = z.scratch ∙ sym (ap (λ (y : Reply Bool). work_after y work) gave) }
-      where
-        decided : (v w : Bool) → (v ≡ true → w ≡ true) → (v ≡ false → w ≡ true → ⊥) → v ≡ w
-        decided true w f g = sym (f refl)
-        decided false true f g = absurd (g refl refl)
-        decided false false f g = refl
+        -- the numbers are those of something there
+        pub judge_ranges : (c < p.characters) × (a < p.actions) × (0 < K) × (K ≤ 6) × (e ≤ 3)
+        judge_ranges =
+            let (who, rest) = and_true (ltb c p.characters) (ltb a p.actions && (foresight_limit K && nesting_limit e)) (sym here ∙ accepted_now.2.0.is_in_range) in
+            let (what, limits) = and_true (ltb a p.actions) (foresight_limit K && nesting_limit e) rest in
+            let (foresight, nesting) = and_true (foresight_limit K) (nesting_limit e) limits in
+            let (low, high) = and_true (leb 1 K) (leb K 6) foresight in
+            (ltb-true c p.characters who, ltb-true a p.actions what, leb-true 1 K low, leb-true K 6 high, leb-true e 3 nesting)
+
+        -- what the context is made of
+        pub judge_sizes : (p.characters ≤ 6) × (1 + (1 + K) * e ≤ 30)
+        judge_sizes =
+            let x = accepted_now.2.0 in
+            let small = small_pack pack x.the_pack x.accepted in
+            let (who, what, low, high, nested) = judge_ranges in
+            (omega (arith, small.characters, x.found.characters), omega (arith, mul-le-mul_left (1 + K) nested, mul-le-mul_right 3 high))
+
+        ready : Judging theory first.table pack places context chart n c a K e work
+        ready =
+            let x = accepted_now.2.0 in
+            let (who, what, low, high, nested) = judge_ranges in
+            record {
+              theorized = record { small = small_pack pack x.the_pack x.accepted; found = x.found.theory; short = short-pack pack x.the_pack x.accepted; marked = marked };
+              read = read;
+              same_characters = x.found.characters;
+              same_fluents = x.found.fluents;
+              who = who;
+              what = what;
+              foreseen = (low, high);
+              laid = laid_fits p (record { 0 = K }) (1 + (1 + K) * e) (omega (arith, who)) judge_sizes;
+              slots = laid_free p (record { 0 = K }) (1 + (1 + K) * e);
+              room = leb-true work_room (length work) x.enough_there;
+            }
+
+        pub judge_able : (h : Context) → h ≡ context → Judgeable pack places h chart n c a h.foresight.0 e work
+        judge_able h made = subst (λ (h : Context). Judgeable pack places h chart n c a h.foresight.0 e work) (sym made) (theory, (first.table, ready))
+
+        pub judge_done : (h : Context) → h ≡ context → (now : List ℕ) (v : Bool) → VerdictOf pack places h chart n c a h.foresight.0 e work now v → Judgement pack chart c a K e work now (Ok v)
+        unfolding work_after
+        judge_done h made now v put =
+            let (ns, g, (x, replies)) = accepted_now in
+            let z = subst (λ (h : Context). VerdictOf pack places h chart n c a h.foresight.0 e work now v) made put theory first.table ready in
+            let table = fits_table theory.characters theory.domains first.table (chart_fits (record { bytewise = pack-bytes; accepted = x.accepted }) (record { bytewise = chart-bytes; accepted = first.read })) in
+            let same : meaning p.characters first.table 0 ≡ meaning theory.characters first.table 0 = ap (λ (k : ℕ). meaning k first.table 0) (sym x.found.characters) in
+            let iff = explained_table_iff theory first.table table K e c a in
+            let is : v ≡ explained_table theory K e c a first.table = decided v (explained_table theory K e c a first.table) (λ h. iff.1 (subst (Explained theory K e c a) same (z.sound h))) (λ h k. z.complete h (subst (Explained theory K e c a) (sym same) (iff.0 k))) in
+            let gave : the_reply ≡ gives (explained_table theory K e c a first.table) = replies ∙ ap (λ (l : List (List Node)). gives (explained_table theory K e c a (first_of l))) first.same in
+            record { answer = ap gives is ∙ sym gave; scratch = z.scratch ∙ sym (ap (λ (y : Reply Bool). work_after y work) gave) }
+          where
+            decided : (v w : Bool) → (v ≡ true → w ≡ true) → (v ≡ false → w ≡ true → ⊥) → v ≡ w
+            decided true w f g = sym (f refl)
+            decided false true f g = absurd (g refl refl)
+            decided false false f g = refl

@@ -41,8 +41,13 @@ use Rattle.planner.specs.Ending.{Leads, Explained, utility_to}
 use Rattle.planner.specs.Inner.Lists.{counted, slot_table, Other, AboveBy, AboveBySome, ExplainedBy, Agreed}
 use Rattle.planner.specs.Inner.Lists as inner
 use Rattle.planner.specs.Inner.Memory.{steps_at, kept_table, HasId, StepFact, StepEntry, Memory, Fact, Place, Before, InSlot, Only, Interning, StepRead, Noted, Slot, Again, LeftNoted}
+use Rattle.std.specs.Prelude.{Option, Some}
+use Rattle.std.proofs.lemmas.Option.{MatchOption-at_some}
+use Rattle.planner.specs.Inner.Known.{mark_of, Marks}
+use Rattle.planner.specs.declared.known.Known.{Known}
+use Rattle.planner.specs.declared.known.Known.TheVariants as knows
 use Rattle.planner.specs.Inner.Explain.{Stage, Free, Told, Advanced}
-use Rattle.planner.proofs.TrueMemory.{unspent, fact_same, rows_mean, before_now, named_state, memory_apart, memory_fewer, nameless, nameless_only, memory_nameless}
+use Rattle.planner.proofs.TrueMemory.{set_not, unspent, fact_same, rows_mean, before_now, named_state, memory_apart, memory_fewer, nameless, nameless_only, memory_nameless}
 
 -- Told: passed on
 pub told_none : {M : List ℕ → Type 0} {slot : ℕ} (was : List ℕ) {P : Type 0} → M was → (P → ⊥) → Told M slot was was false P
@@ -53,6 +58,10 @@ told_by le w low high t f g = record { memory = w t.memory; sound = λ e. f (t.s
 
 pub told_no : {M : List ℕ → Type 0} {slot : ℕ} {was now : List ℕ} {P : Type 0} → Below was now slot → Above was now work_room → M now → (P → ⊥) → Told M slot was now false P
 told_no low high m f = record { memory = m; sound = λ e. let z : ◌≡◌ {A = ℕ} 0 1 = ap (λ (b : Bool). pick b 1 0) e in absurd (omega arith); complete = λ e x. f x; low = low; high = high }
+
+-- the flag that says it, under another name
+pub told_is : {M : List ℕ → Type 0} {slot : ℕ} {was now : List ℕ} {r r' : Bool} {P : Type 0} → r ≡ r' → Told M slot was now r' P → Told M slot was now r P
+told_is {M} {slot} {was} {now} {r} {r'} {P} e told = subst (λ (b : Bool). Told M slot was now b P) (sym e) told
 
 pub told_yes : {M : List ℕ → Type 0} {slot : ℕ} {was now : List ℕ} {P : Type 0} → Below was now slot → Above was now work_room → M now → P → Told M slot was now true P
 told_yes low high m x = record { memory = m; sound = λ e. x; complete = λ e y. let z : ◌≡◌ {A = ℕ} 0 1 = ap (λ (b : Bool). pick b 0 1) e in omega arith; low = low; high = high }
@@ -140,8 +149,8 @@ module _ {th : Theory} {T : List Node} {pack places : List ℕ} {h : Context} {w
       }
 
   -- a step into the first free slot
-  module _ (root : ℕ) {now : List ℕ} {K a r : ℕ} (y : Advanced th K h (meaning C T root) a t was now slot r) (f : Free h slot 1) (long : length now ≡ length was) where
-    module _ (e : r ≡ 0) where
+  module _ (root : ℕ) {now : List ℕ} {K a : ℕ} {r : Bool} (y : Advanced th K h (meaning C T root) a t was now slot r) (f : Free h slot 1) (long : length now ≡ length was) where
+    module _ (e : r ≡ true) where
       abbrev pub next_table : List Node
       next_table = table_of (slot_table h now slot) now
 
@@ -198,7 +207,7 @@ module _ {th : Theory} {T : List Node} {pack places : List ℕ} {h : Context} {w
     known_state : state_of (kept_table h mid id) mid root ≡ meaning t.characters T root
     known_state = named_state h (before_now h long (stage_before x bound)) (mid_memory.1 read.some) root ∙ row-state mid (λ q l. n.only.low q (omega (arith, l, bound)))
 
-    pub step_again : {now : List ℕ} {r : ℕ} → Again h next slot mid now r → Advanced th K h (meaning t.characters T root) a t was now slot r
+    pub step_again : {now : List ℕ} {r : Bool} → Again h next slot mid now r → Advanced th K h (meaning t.characters T root) a t was now slot r
     step_again {now} y = record {
       plays = λ z.
           let (some, table, few) = y.played z in
@@ -239,14 +248,14 @@ module _ {th : Theory} {T : List Node} {pack places : List ℕ} {h : Context} {w
         (s, plays, record { few = omega (arith, count, l.few); starts = subst (Starts t.characters s) (sym same) l.starts })
 
     -- it is noted
-    pub step_left : {now : List ℕ} → r ≡ 0 → LeftNoted h t root a slot left now → Advanced th K h (meaning t.characters T root) a t was now slot r
-    step_left {now} e z =
+    pub step_left : {now : List ℕ} {ok : Bool} → r ≡ 0 → ok ≡ true → LeftNoted h t root a slot left now → Advanced th K h (meaning t.characters T root) a t was now slot ok
+    step_left {now} e is z =
         let (s, plays, l) = y.plays e in
         let starts : Starts h.characters s (table_of (slot_table h left slot) left) = subst (λ (c : ℕ). Starts c s (table_of (slot_table h left slot) left)) (sym x.same_characters) (subst (Starts t.characters s) (sym (same_rows left)) l.starts) in
         let memory = z.memory th K left_in left_memory (s, subst (λ (u : State). Plays th u a s) (sym (row-state left left_low)) plays, starts) in
         record {
-          plays = left_stays z.only;
-          none = λ n. absurd (n e);
+          plays = λ _. left_stays z.only e;
+          none = λ n. set_not (sym is ∙ n);
           low = λ q l. z.only.low q (omega (arith, l, bound)) ∙ left_low q l;
           high = λ q l. z.only.high q l ∙ left_high q l;
           memory = memory_fewer h (omega arith) memory;
@@ -254,10 +263,10 @@ module _ {th : Theory} {T : List Node} {pack places : List ℕ} {h : Context} {w
         }
 
     -- that it does not play is noted
-    pub step_refused : {now : List ℕ} → r ≢ 0 → Noted h t root a 0 left now → Advanced th K h (meaning t.characters T root) a t was now slot r
-    step_refused e z = record {
-      plays = λ g. absurd (e g);
-      none = λ g s plays. plays_refuses plays (y.refuses g);
+    pub step_refused : {now : List ℕ} {ok : Bool} → r ≢ 0 → ok ≡ false → Noted h t root a 0 left now → Advanced th K h (meaning t.characters T root) a t was now slot ok
+    step_refused e is z = record {
+      plays = λ g. set_not (sym g ∙ is);
+      none = λ _ s plays. plays_refuses plays (y.refuses e);
       low = λ q l. z.only.low q (omega (arith, l, bound)) ∙ left_low q l;
       high = λ q l. z.only.high q l ∙ left_high q l;
       memory = z.memory th K slot (omega (arith, bound)) left_in left_memory (λ k named. record {
@@ -265,17 +274,17 @@ module _ {th : Theory} {T : List Node} {pack places : List ℕ} {h : Context} {w
         none = λ _ s plays. plays_refuses (subst (λ (u : State). Plays th u a s) (named_state h (record { laid = x.laid; fluents = x.same_fluents; characters = x.same_characters; wide = x.tabled.fits.wide; narrow = omega (arith, small x.tabled, x.tabled.fits.wide); few = x.tabled.few; before = omega (arith, x.behind, bound); room = omega (arith, long, x.room) }) named root ∙ row-state left left_low) plays) (y.refuses e);
         left = λ g. absurd (omega (arith, g));
       });
-      further = λ g. absurd (e g);
+      further = λ g. set_not (sym g ∙ is);
     }
 
     -- it is not noted
-    pub step_plain : (s : Slot h left slot) → Advanced th K h (meaning t.characters T root) a t was (nameless h s) slot r
-    step_plain s =
+    pub step_plain : {ok : Bool} → (ok ≡ true → r ≡ 0) → (ok ≡ false → r ≢ 0) → (s : Slot h left slot) → Advanced th K h (meaning t.characters T root) a t was (nameless h s) slot ok
+    step_plain yes-is no-is s =
         let only = nameless_only h s in
         let memory = memory_nameless h s left_memory in
         record {
-          plays = left_stays only;
-          none = λ g s plays. plays_refuses plays (y.refuses g);
+          plays = λ e. left_stays only (yes-is e);
+          none = λ e s plays. plays_refuses plays (y.refuses (no-is e));
           low = λ q l. only.low q (omega (arith, l, bound)) ∙ left_low q l;
           high = λ q l. only.high q l ∙ left_high q l;
           memory = memory_fewer h (omega arith) memory;
@@ -496,9 +505,25 @@ module _ {th : Theory} {T : List Node} {pack places : List ℕ} {h : Context} {w
   pub note : {K m : ℕ} {k k' : Key} → k ≡ k' → Fact th K m k' (meaning t.characters T) → Fact th K m k (state_of t work)
   note {K} e f = fact_same th K refl (sym e) (sym here) f
 
--- a verdict, by the mark 3 above that of an answer
-pub verdict : (th : Theory) (K : ℕ) (k : Key) (s : ℕ → State) {m : ℕ} {r : Bool} → (r ≡ true → ExplainedBy th K k.nesting k.who k.number (s k.base)) → (r ≡ false → ExplainedBy th K k.nesting k.who k.number (s k.base) → ⊥) → (m ≡ 1 → r ≡ false) × (m ≡ 2 → r ≡ true) × (0 < m) × (m < 3) → Fact th K (m + 3) k s
-verdict th K k s sound complete (f, g, pos, few) = record { no = λ z. absurd (omega (arith, z)); yes = λ z. absurd (omega (arith, z)); none = λ z. absurd (omega (arith, z, pos)); unexplained = λ z. complete (f (omega (arith, z))); explained = λ z. sound (g (omega (arith, z))) }
+-- what is said of a deed or of lists, as the memory marks it
+pub verdict : (th : Theory) (K : ℕ) (k : Key) (s : ℕ → State) {r : Bool} → (r ≡ true → ExplainedBy th K k.nesting k.who k.number (s k.base)) → (r ≡ false → ExplainedBy th K k.nesting k.who k.number (s k.base) → ⊥) → Fact th K (mark_of (knows.Explained r)) k s
+verdict th K k s {r = true} f g = record { no = λ z. absurd (omega (arith, z)); yes = λ z. absurd (omega (arith, z)); none = λ z. absurd (omega (arith, z)); unexplained = λ z. absurd (omega (arith, z)); explained = λ _. f refl }
+verdict th K k s {r = false} f g = record { no = λ z. absurd (omega (arith, z)); yes = λ z. absurd (omega (arith, z)); none = λ z. absurd (omega (arith, z)); unexplained = λ _. g refl; explained = λ z. absurd (omega (arith, z)) }
+
+pub reached : (th : Theory) (K : ℕ) (k : Key) (s : ℕ → State) {r : Bool} → (r ≡ true → inner.Above th K k.nesting k.who k.base (suc k.number) (s 0)) → (r ≡ false → inner.Above th K k.nesting k.who k.base (suc k.number) (s 0) → ⊥) → Fact th K (mark_of (knows.Reached r)) k s
+reached th K k s {r = true} f g = record { no = λ z. absurd (omega (arith, z)); yes = λ _. f refl; none = λ z. absurd (omega (arith, z)); unexplained = λ z. absurd (omega (arith, z)); explained = λ z. absurd (omega (arith, z)) }
+reached th K k s {r = false} f g = record { no = λ _. g refl; yes = λ z. absurd (omega (arith, z)); none = λ z. absurd (omega (arith, z)); unexplained = λ z. absurd (omega (arith, z)); explained = λ z. absurd (omega (arith, z)) }
+
+-- and read there
+pub marked_as : {m : ℕ} {o : Option Known} {k k' : Known} → o ≡ Some k → k ≡ k' → Marks m o → mark_of k' ≡ m
+marked_as {m} {o} {k} is same marks = ap mark_of (sym same) ∙ MatchOption-at_some ((k : Known) → mark_of k ≢ m) (λ (k : Known). mark_of k ≡ m) k is marks
+
+module _ {th : Theory} {K m : ℕ} {k : Key} {s : ℕ → State} (fact : Fact th K m k s) {M : List ℕ → Type 0} {slot : ℕ} {was now : List ℕ} (low : Below was now slot) (high : Above was now work_room) (memory : M now) where
+  pub told_verdict : {r : Bool} → mark_of (knows.Explained r) ≡ m → Told M slot was now r (ExplainedBy th K k.nesting k.who k.number (s k.base))
+  told_verdict e = record { sound = λ z. fact.explained (sym e ∙ ap (λ (b : Bool). pick b 5 4) z); complete = λ z. fact.unexplained (sym e ∙ ap (λ (b : Bool). pick b 5 4) z); low = low; high = high; memory = memory }
+
+  pub told_reached : {r : Bool} → mark_of (knows.Reached r) ≡ m → Told M slot was now r (inner.Above th K k.nesting k.who k.base (suc k.number) (s 0))
+  told_reached e = record { sound = λ z. fact.yes (sym e ∙ ap (λ (b : Bool). pick b 2 1) z); complete = λ z. fact.no (sym e ∙ ap (λ (b : Bool). pick b 2 1) z); low = low; high = high; memory = memory }
 
 -- a state that is not above itself, by what follows it
 module _ (th : Theory) (K e c base left : ℕ) (s : ℕ → State) (some : 0 < left) (here : base < utility_to th c (s 0) → ⊥) {M : List ℕ → Type 0} {slot : ℕ} {was now : List ℕ} {r : Bool} (told : Told M slot was now r (AboveBySome th K e c base (suc (left - 1)) (s 0))) where
@@ -514,5 +539,5 @@ module _ (th : Theory) (K e c base left : ℕ) (s : ℕ → State) (some : 0 < l
     memory = told.memory;
   }
 
-  pub noted : {m : ℕ} → (m ≡ 1 → r ≡ false) × (m ≡ 2 → r ≡ true) × (0 < m) × (m < 3) → Fact th K m (record { who = c; nesting = e; number = left; base = base }) s
-  noted (f, g, pos, few) = record { no = λ z. extended.complete (f z); yes = λ z. extended.sound (g z); none = λ z. absurd (omega (arith, z, few)); unexplained = λ z. absurd (omega (arith, z, few)); explained = λ z. absurd (omega (arith, z, few)) }
+  pub noted : Fact th K (mark_of (knows.Reached r)) (record { who = c; nesting = e; number = left; base = base }) s
+  noted = reached th K _ s extended.sound extended.complete

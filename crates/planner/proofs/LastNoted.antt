@@ -1,8 +1,9 @@
 -- A table that is kept is found under its id, and what was last noted of it is found again: a fact is recalled, a step
 -- repeated. Assumes nothing.
 use Prim.Native.Nat.{ℕ, ◌+◌, ◌*◌, ◌-◌, ◌/◌, ◌%◌, ◌<◌, ◌≤◌}
+use mathlib.Core.Bool.{Bool, true, false}
 use mathlib.Core.Path.{◌≡◌, sym, ap, ◌∙◌, subst}
-use mathlib.Core.Logic.{◌≢◌, ◌↔◌, by_cases}
+use mathlib.Core.Logic.{◌↔◌, by_cases}
 use mathlib.Core.List.{List}
 use native.Mathlib.Decide.{dec_lt}
 use native.Mathlib.Nat.{div-add-mod, mod-lt, mul-le-mul_left}
@@ -21,19 +22,21 @@ use Rattle.planner.specs.declared.limits.Foresight.{Foresight}
 use Rattle.planner.specs.declared.entry.Key.{Key}
 use Rattle.planner.specs.Inner.Layout.{entries, room_behind, laid_out}
 use Rattle.planner.specs.Inner.Lists.{slot_table}
-use Rattle.planner.specs.Inner.Memory.{id_at, steps_at, kept_table, slot_id, HasId, Chained, Memory, entry_at, step_at, Place, Before, InSlot, Fits, Identified, Storable, FactRead, FactKnown, Recalls, Notes, StepRead, StepKnown, Noted, Slot, Again, LeftNoted, StepOnce}
+use Rattle.std.specs.Prelude.{Option, Some}
+use Rattle.planner.specs.Inner.Memory.{id_byte, id_at, steps_at, kept_table, slot_id, HasId, Chained, Memory, entry_at, step_at, Place, Before, InSlot, Fits, Identified, Storable, FactRead, FactKnown, Recalls, Notes, StepRead, StepKnown, Noted, Slot, Again, LeftNoted, StepOnce}
 use Rattle.planner.proofs.Chains.{id_once}
 use Rattle.planner.proofs.Slots.{entries_fit, room_left}
-use Rattle.planner.proofs.TrueMemory.{table_size, key_same, row_apart, step_here, step_there}
+use Rattle.planner.proofs.TrueMemory.{set_not, table_size, key_same, row_apart, step_here, step_there}
 
 -- as a call lays the work buffer out, every table fits
-pub tables_fit : (c : Contents) (k : Foresight) (slots : ℕ) {work : List ℕ} {t : Table} → (c.fluents ≤ 24) × (c.characters ≤ 6) × (slots ≤ 30) → Before (laid_out c k slots) work t → Fits (laid_out c k slots) t
-tables_fit c k slots {work} {t} (fluents, characters, few) b =
+pub tables_fit : (c : Contents) (k : Foresight) (slots : ℕ) {work : List ℕ} {t : Table} → (c.characters ≤ 6) × (slots ≤ 30) → Before (laid_out c k slots) work t → Fits (laid_out c k slots) t
+tables_fit c k slots {work} {t} (characters, few) b =
+    let fluents = c.domains.few in
     let block = (laid_out c k slots).block in
     let n = t.nodes * t.width in
     let room = room_behind c slots in
     let left = room - 436 - 9 * entries c.actions room in
-    let fits = entries_fit c.actions room (room_left c k slots (fluents, characters, few)) in
+    let fits = entries_fit c.actions room (room_left c k slots (characters, few)) in
     let all = div-add-mod left 255 in
     let rest : left % 255 < 255 = mod-lt left (omega arith) in
     let wide : 4 ≤ block = omega (arith, fits, all, rest) in
@@ -86,12 +89,17 @@ module _ (h : Context) where
         y.found mark (subst (λ (work : List ℕ). FactKnown h work (slot_table h later slot) k mark) (sym (y.same there.some)) there)
 
     -- a step, where nothing has changed since then: it is refused again, or what it left is copied
-    module _ {root a : ℕ} {was noted now : List ℕ} {r r' : ℕ} (x : StepOnce h (slot_table h was slot) root a (slot + h.stride) was noted r) (some : 0 < held noted) (y : StepOnce h (slot_table h noted slot) root a (slot + h.stride) noted now r') where
-      pub last_refused : r ≢ 0 → Again h 0 (slot + h.stride) noted now r'
+    module _ {root a : ℕ} {was noted now : List ℕ} {r r' : Bool} (x : StepOnce h (slot_table h was slot) root a (slot + h.stride) was noted r) (some : 0 < held noted) (y : StepOnce h (slot_table h noted slot) root a (slot + h.stride) noted now r') where
+      pub last_refused : r ≡ false → Again h 0 (slot + h.stride) noted now r'
       last_refused e = let k = x.refused e some in y.again _ (record { entry = k.entry; leaves = k.leaves })
 
-      pub last_repeated : r ≡ 0 → 0 < slot_id h noted (slot_table h noted (slot + h.stride)) → Again h (slot_id h noted (slot_table h noted (slot + h.stride))) (slot + h.stride) noted now r'
+      pub last_repeated : r ≡ true → 0 < slot_id h noted (slot_table h noted (slot + h.stride)) → Again h (slot_id h noted (slot_table h noted (slot + h.stride))) (slot + h.stride) noted now r'
       last_repeated e left = let k = x.played e some left in y.again _ (record { entry = k.entry; leaves = k.leaves })
+
+  -- an entry that is another step's, by the byte that keeps the id
+  pub unread_step : {work : List ℕ} {id : Option ℕ} {n at root a : ℕ} → id ≡ Some n → at ≡ step_at h n root a → ¬ StepRead work at n root a → ¬ StepRead work (step_at h (id_byte id) root a) (id_byte id) root a
+  unread_step {work} {n = n} {root = root} {a = a} is here unread =
+      subst (λ (id : Option ℕ). ¬ StepRead work (step_at h (id_byte id) root a) (id_byte id) root a) (sym is) (subst (λ (at : ℕ). ¬ StepRead work at n root a) here unread)
 
   -- a step whose entry is looked up
   module _ {t : Table} {was mid : List ℕ} {id root a at : ℕ} (x : Identified h t was mid id) (here : at ≡ step_at h id root a) where
@@ -100,7 +108,7 @@ module _ (h : Context) where
     stood {next} k = step_here h x.interning.stands here (subst (λ (work : List ℕ). StepKnown h work t root a next) (sym (x.known k.entry.some)) k)
 
     -- it is there
-    pub once_again : {now : List ℕ} {slot next r : ℕ} → Place (h.lists / 2) (steps_at h) 4 at → Slot h was slot → InSlot h was t slot → StepRead mid at id root a → get_or mid (at + 3) 0 ≡ next → Again h next slot mid now r → StepOnce h t root a slot was now r
+    pub once_again : {now : List ℕ} {slot next : ℕ} {r : Bool} → Place (h.lists / 2) (steps_at h) 4 at → Slot h was slot → InSlot h was t slot → StepRead mid at id root a → get_or mid (at + 3) 0 ≡ next → Again h next slot mid now r → StepOnce h t root a slot was now r
     once_again {now} {slot} {next} {r} place s i read e y =
         let last : (q : ℕ) → at ≤ q → get_or now q 0 ≡ get_or mid q 0 = λ q l. y.others q (omega (arith, l, place.is)) (λ z. omega (arith, z, l, place.is)) in
         let same : slot_id h now t ≡ id = y.others (id_at h t.rows) (omega arith) (row_apart h s i) ∙ x.interning.stands in
@@ -113,9 +121,9 @@ module _ (h : Context) where
         }
 
     -- it is not, and is put down
-    module _ {left now : List ℕ} {slot r : ℕ} (unread : ¬ StepRead mid at id root a) where
-      pub once_refused : r ≢ 0 → Noted h t root a 0 left now → StepOnce h t root a slot was now r
-      once_refused e y = record { kept = λ z. absurd (e z); again = λ n k. absurd (unread (stood k).0); refused = λ _. y.stands; played = λ z. absurd (e z) }
+    module _ {left now : List ℕ} {slot : ℕ} {r : Bool} (unread : ¬ StepRead mid at id root a) where
+      pub once_refused : r ≡ false → Noted h t root a 0 left now → StepOnce h t root a slot was now r
+      once_refused e y = record { kept = λ z. set_not (sym z ∙ e); again = λ n k. absurd (unread (stood k).0); refused = λ _. y.stands; played = λ z. set_not (sym z ∙ e) }
 
-      pub once_left : r ≡ 0 → LeftNoted h t root a slot left now → StepOnce h t root a slot was now r
-      once_left e y = record { kept = λ _. y.kept; again = λ n k. absurd (unread (stood k).0); refused = λ z. absurd (z e); played = λ _. y.stands }
+      pub once_left : r ≡ true → LeftNoted h t root a slot left now → StepOnce h t root a slot was now r
+      once_left e y = record { kept = λ _. y.kept; again = λ n k. absurd (unread (stood k).0); refused = λ z. set_not (sym e ∙ z); played = λ _. y.stands }

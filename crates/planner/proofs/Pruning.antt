@@ -30,12 +30,12 @@ use Rattle.pack.specs.Laws.WrittenValues.{cells-length, Owed, Due, owed_one, owe
 use Rattle.chart.specs.Call.{work_room}
 use Rattle.transition.specs.Happening.{change, act, nothing, action_of, Plays}
 use Rattle.transition.specs.Duties.Play.{Theorized}
-use Rattle.transition.specs.Laws.ChangedRows as changing
 use Rattle.planner.specs.declared.limits.Context.{Context}
 use Rattle.planner.specs.Inner.Lists.{slot_table}
+use Rattle.planner.specs.Inner.Lists as lists
 use Rattle.planner.specs.Inner.Explain.{Stage}
 use Rattle.planner.specs.Inner.Range.{could_meet, could_at, could_pass, could_all, could_hold, could_exceed, Within, InRange, AllInRange, idle, TriggersInRange, Wider, no_exceed, within_barred, within_wider, all_wider, wider_same, wider_then, settles_within}
-use Rattle.planner.specs.Inner.Look.{Widened, Triggered, TriggersWidened, Trial, Tryable, Hopeless, Trying, Skipped}
+use Rattle.planner.specs.Inner.Look.{Widened, Triggered, TriggersWidened, Trial, Tryable, Hopeless}
 
 -- flags
 pub unequal : true ≡ false → ⊥
@@ -94,11 +94,13 @@ module _ {A K : Type 0} (w : Run A K) (s : List ℕ) (from : ℕ) where
         sym (left_last (w.part k) s (w.tells k) xs g.end n left y few (e k y.item y.rest (run_here k xs g)) ∙ none k)
 
     -- or the rest does
-    pub run_on : (m : ℕ) → ((k : K) (x : A) (g : Gives (w.part k) s n x) → g.end ≡ m) → ((k : K) (x : A) (rest : List A) → Gives (w.part k) s n x → w.tells k (x ∷ rest) ≡ w.tells k rest) → Rest m (left - 1)
+    pub run_on : (m : ℕ) → ((k : K) (x : A) (g : Gives (w.part k) s n x) → g.end ≡ m) → ((k : K) (x : A) (rest : List A) → Gives (w.part k) s n x → w.tells k (x ∷ rest) ≡ w.tells k rest) → {more : ℕ} → left ≡ more + 1 → Rest m more
     unfolding run_item run_here
-    run_on m ends e k xs g =
+    run_on m ends e {more} is k xs g =
         let y = one k xs g in
-        left_next (w.part k) s (w.tells k) xs g.end n left y m (ends k y.item (run_here k xs g)) (e k y.item y.rest (run_here k xs g))
+        let next = left_next (w.part k) s (w.tells k) xs g.end n left y m (ends k y.item (run_here k xs g)) (e k y.item y.rest (run_here k xs g)) in
+        let fewer : left - 1 ≡ more = omega (arith, is) in
+        subst (λ (k' : ℕ). Left (w.part k) s m k' (w.tells k) xs g.end) fewer next
 
 -- A run over small dimensions
 abbrev pub Tiny : Type 0
@@ -274,13 +276,14 @@ module _ {lows highs : List ℕ} {d : Dimensions} {s : List ℕ} {n left : ℕ} 
   widening_one w h = owed_one (λ (es v : List Effect). es) d s n left [] w.rest end w.reads h
 
   pub widening_next : {lows' highs' : List ℕ} (w : Widening lows highs d s n left xs end) (h : 0 < left) → Small d → Widened effect_at InRange s n lows highs lows' highs'
-      → {m : ℕ} → Ends effect_at s n m → Widening lows' highs' d s m (left - 1) xs end
+      → {m : ℕ} → Ends effect_at s n m → {more : ℕ} → left ≡ more + 1 → Widening lows' highs' d s m more xs end
   unfolding AllInRange widening_one
-  widening_next w h small one ends =
+  widening_next w h small one {m} ends {more} is =
       let x = widening_one w h in
+      let fewer : more ≡ left - 1 = omega (arith, is) in
       record {
         rest = x.rest;
-        reads = record { rest = x.rest; reads = ap (many (effect_at d) (left - 1) s) (ends d small x.item x.place x.here) ∙ x.more; same = refl };
+        reads = record { rest = x.rest; reads = ap (λ (k : ℕ). many (effect_at d) k s m) fewer ∙ ap (many (effect_at d) (left - 1) s) (ends d small x.item x.place x.here) ∙ x.more; same = refl };
         brings = λ A B wider all. w.brings A B (wider_then one.wider wider)
             (subst (AllInRange A B) (sym x.same) (
               λ q. let (l, h) = one.covers d small x.item x.place x.here q in
@@ -449,25 +452,14 @@ module _ {th : Theory} {T : List Node} {pack places : List ℕ} {h : Context} {w
     pub stage_hopeless : (whose : ℕ) {left base : ℕ} → Hopeless pack places h.triggers a was t whose left base → (s : State) → Plays th (meaning t.characters T 0) a s → (left ≡ 0) × (utility s (get_or th.utilities whose []) ≤ base)
     stage_hopeless whose f s plays = f th stage_trial s (subst (λ (U : List Node). Plays th (meaning t.characters U 0) a s) (sym x.tabled.same) plays)
 
--- The first that is worth a try in the state in a slot
-module _ {pack places : List ℕ} {h : Context} {work : List ℕ} {slot whose left base x : ℕ} where
-  pub skipped_none : x ≤ h.actions → Skipped pack places h work slot whose left base x x
-  skipped_none l = record { from = omega arith; few = l; hopeless = λ a f g. absurd (omega (arith, f, g)) }
+-- a table that was in a slot is in it where its count stays
+pub still_in : (h : Context) (slot : ℕ) (was now : List ℕ) {t : Table} → t ≡ slot_table h was slot → get_or now slot 0 ≡ get_or was slot 0 → t ≡ slot_table h now slot
+still_in h slot was now is same = is ∙ ap (lists.counted h slot) (sym same)
 
-  pub skipped_more : {y : ℕ} → Skipped pack places h work slot whose left base x y → y < h.actions → Hopeless pack places h.triggers y work (slot_table h work slot) whose left base → Skipped pack places h work slot whose left base x (y + 1)
-  skipped_more {y} s l f = record {
-    from = omega (arith, s.from);
-    few = omega (arith, l);
-    hopeless = λ a g u. below_more (λ a. x ≤ a → Hopeless pack places h.triggers a work (slot_table h work slot) whose left base) y (λ a u g. s.hopeless a g u) (λ g. f) a u g;
-  }
+-- an action is tried in the table in a slot
+module _ {th : Theory} {T : List Node} {pack places : List ℕ} {h : Context} {work : List ℕ} (slot whose : ℕ) (x : Stage th T pack places h work (slot_table h work slot) (slot + h.stride)) (before : slot + h.stride ≤ h.memory) {t : Table} (is : t ≡ slot_table h work slot) {a : ℕ} (l : a < h.actions) where
+  pub tried : whose < h.characters + 1 → Tryable pack places h.triggers a work t whose
+  tried w = subst (λ (t : Table). Tryable pack places h.triggers a work t whose) (sym is) (stage_tryable x (omega (arith, before, x.laid.room)) l w)
 
--- what holds below n, and from there on below r, holds below r
-pub below_far : (P : ℕ → Type 0) {n r : ℕ} → ((y : ℕ) → y < n → P y) → ((y : ℕ) → n ≤ y → y < r → P y) → (y : ℕ) → y < r → P y
-below_far P {n} {r} near far y l = elim (dec_lt y n) as (λ d. P y) [ yes h ↦ near y h | no h ↦ far y (omega (arith, h)) l ]
-
-module _ {th : Theory} {T : List Node} {pack places : List ℕ} {h : Context} {work : List ℕ} {slot : ℕ} (x : Stage th T pack places h work (slot_table h work slot) (slot + h.stride)) (before : slot + h.stride ≤ h.memory) where
-  pub stage_trying : {whose : ℕ} → whose < h.characters + 1 → Trying pack places h work slot whose
-  stage_trying l = record { before = before; behind = omega (arith, x.laid.room); some = omega (arith, x.laid.some); room = x.room; narrow = omega (arith, changing.small x.tabled); each = λ a g. stage_tryable x (omega (arith, before, x.laid.room)) g l }
-
-  pub stage_skipped : {whose left base n r : ℕ} → Skipped pack places h work slot whose left base n r → (a : ℕ) → n ≤ a → a < r → (s : State) → Plays th (meaning h.characters T 0) a s → (left ≡ 0) × (utility s (get_or th.utilities whose []) ≤ base)
-  stage_skipped {whose} s a f l = stage_hopeless x (omega (arith, before, x.laid.room)) (omega (arith, l, s.few)) whose (s.hopeless a f l)
+  pub tried_not : {left base : ℕ} → Hopeless pack places h.triggers a work t whose left base → (s : State) → Plays th (meaning h.characters T 0) a s → (left ≡ 0) × (utility s (get_or th.utilities whose []) ≤ base)
+  tried_not {left} {base} f = stage_hopeless x (omega (arith, before, x.laid.room)) l whose (subst (λ (t : Table). Hopeless pack places h.triggers a work t whose left base) is f)

@@ -42,17 +42,18 @@ entries_fit actions room l = fit (ltb actions 12) (ltb room 24000) room l (λ e.
 
 module _ (c : Contents) (k : Foresight) (slots : ℕ) where
   abbrev size : ℕ
-  size = slot_room (c.fluents + c.characters)
+  size = slot_room (c.domains.fluents + c.characters)
 
   -- the slots leave room
-  pub room_left : (c.fluents ≤ 24) × (c.characters ≤ 6) × (slots ≤ 30) → 11474 ≤ room_behind c slots
-  room_left (fluents, characters, few) = omega (arith, mul-le-mul_right size few)
+  pub room_left : (c.characters ≤ 6) × (slots ≤ 30) → 11474 ≤ room_behind c slots
+  room_left (characters, few) = omega (arith, c.domains.few, mul-le-mul_right size few)
 
-  pub laid_fits : 0 < c.characters → (c.fluents ≤ 24) × (c.characters ≤ 6) × (slots ≤ 30) → Laid (laid_out c k slots)
-  laid_fits some (fluents, characters, few) =
+  pub laid_fits : 0 < c.characters → (c.characters ≤ 6) × (slots ≤ 30) → Laid (laid_out c k slots)
+  laid_fits some (characters, few) =
+      let fluents = c.domains.few in
       let most : slots * size ≤ 30 * size = mul-le-mul_right size few in
       let room = room_behind c slots in
-      let fits = entries_fit c.actions room (room_left (fluents, characters, few)) in
+      let fits = entries_fit c.actions room (room_left (characters, few)) in
       let left = room - 436 - 9 * entries c.actions room in
       let all = div-add-mod left 255 in
       let rest : left % 255 < 255 = mod-lt left (omega arith) in

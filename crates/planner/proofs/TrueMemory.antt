@@ -23,7 +23,11 @@ use Rattle.chart.specs.Laws.Cells.{rows_same, rows_most}
 use Rattle.planner.specs.declared.limits.Context.{Context}
 use Rattle.planner.specs.declared.entry.Key.{Key}
 use Rattle.planner.specs.Inner.Lists.{slot_table}
-use Rattle.planner.specs.Inner.Memory.{Laid, id_at, taken_at, heads_at, head_at, steps_at, facts_at, links_at, tables_at, kept_at, kept_table, Behind, OnChain, Kept, Alike, HasId, StepFact, Fact, key_at, SlotEntry, StepEntry, FactEntry, Memory, slot_id, entry_at, step_at, Place, Before, InSlot, Fits, Only, Unasked, FoundOn, Linked, Placed, Stored, Interning, Identified, Storable, Spent, Roomy, CellFact, Cells, cell_at, cell_size, KeyPut, FactRead, FactKnown, Recalls, Notes, Recalled, Remembered, StepRead, StepKnown, StepPut, Noted, Slot, Again, LeftNoted}
+use Rattle.std.specs.Prelude.{Option, Some, None}
+use Rattle.planner.specs.Inner.Known.{Marks}
+use Rattle.planner.specs.declared.known.Known.{Known}
+use Rattle.planner.specs.declared.known.Known.TheVariants as known
+use Rattle.planner.specs.Inner.Memory.{Names, Laid, id_at, taken_at, heads_at, head_at, steps_at, facts_at, links_at, tables_at, kept_at, kept_table, Behind, OnChain, Kept, Alike, HasId, StepFact, Fact, key_at, SlotEntry, StepEntry, FactEntry, Memory, slot_id, entry_at, step_at, Place, Before, InSlot, Fits, Only, Unasked, FoundOn, Linked, Placed, Stored, Interning, Identified, Storable, Spent, Roomy, CellFact, Cells, cell_at, cell_size, KeyPut, FactRead, FactKnown, Recalls, Notes, Recalled, Remembered, StepRead, StepKnown, StepPut, Noted, Slot, Again, LeftNoted}
 use Rattle.planner.proofs.Chains.{Wider, Grown, kept_from, table_moved, inside_count, inside_table, inside_grown, inside_hash, alike_grown, chain_back, chain_none, grown_same, grown_by, chained_none, alike_hash, id_listed, id_once, found_id, found_exact, linked_wider, linked_grown, behind_here}
 
 -- a mark that says nothing
@@ -37,6 +41,27 @@ unset e = let z : ◌≡◌ {A = ℕ} 0 1 = ap (λ (b : Bool). pick b 1 0) e in 
 -- a flag that is
 pub set_not : {A : Type 0} → true ≡ false → A
 set_not e = let z : ◌≡◌ {A = ℕ} 1 0 = ap (λ (b : Bool). pick b 1 0) e in absurd (omega arith)
+
+-- no id is kept as 0
+pub unnamed : (P : ℕ → Type 0) {id : Option ℕ} → id ≡ None → P 0 → Names id P
+unnamed P e x = subst (λ (id : Option ℕ). Names id P) (sym e) (tt, x)
+
+-- one that may be copied, where it is there
+pub again_kept : {h : Context} {work : List ℕ} {id : Option ℕ} {n : ℕ} → id ≡ Some n → Names id (λ id. (id < 256) × (0 < id → Kept h work id)) → (n < 256) × Kept h work n
+again_kept {h} {work} is x =
+    let (some, (small, kept)) = subst (λ (id : Option ℕ). Names id (λ id. (id < 256) × (0 < id → Kept h work id))) is x in
+    (small, kept some)
+
+-- 0 marks nothing
+pub unmarked : Marks 0 None
+unmarked (known.Reached true) e = omega (arith, e)
+unmarked (known.Reached false) e = omega (arith, e)
+unmarked known.NoEnding e = omega (arith, e)
+unmarked (known.Explained true) e = omega (arith, e)
+unmarked (known.Explained false) e = omega (arith, e)
+
+pub marks_none : {o : Option Known} → o ≡ None → Marks 0 o
+marks_none e = subst (Marks 0) (sym e) unmarked
 
 -- keys of the same numbers
 pub key_same : {w w' n n' l l' b b' : ℕ} → w ≡ w' → n ≡ n' → l ≡ l' → b ≡ b' → ◌≡◌ {A = Key} (record { who = w; nesting = n; number = l; base = b }) (record { who = w'; nesting = n'; number = l'; base = b' })
@@ -833,9 +858,9 @@ module _ (h : Context) where
     again_named : HasId h again (slot_table h again slot) next
     again_named = record { kept = kept_grown h again_grown k; count = let c = kept_count h again_grown k in c ∙ sym again_count; same = kept_table_lem h again_grown k ∙ sym again_table }
 
-    pub copied_again : Again h next slot was again 0
+    pub copied_again : Again h next slot was again true
     copied_again = record {
-      refused = λ z. absurd (z refl);
+      refused = λ z. set_not z;
       named = λ _. again_here;
       others = λ q l n. again_other q n ∙ copied.high q (omega (arith, l, s.before, again_size));
       played = λ z. (k.inside.some, again_table, omega (arith, again_count, k.inside.few));
@@ -849,8 +874,8 @@ module _ (h : Context) where
       );
     }
 
-  pub refused_again : {was : List ℕ} {slot next : ℕ} → next ≡ 0 → Again h next slot was was 10
-  refused_again e = record { refused = λ z. e; named = λ z. absurd (omega (arith, z)); others = λ q l n. refl; played = λ z. absurd (omega (arith, z)); low = λ q l. refl; high = λ q l. refl; memory = λ p K m. (m, λ z. absurd (omega (arith, z))) }
+  pub refused_again : {was : List ℕ} {slot next : ℕ} → next ≡ 0 → Again h next slot was was false
+  refused_again e = record { refused = λ z. e; named = unset; others = λ q l n. refl; played = unset; low = λ q l. refl; high = λ q l. refl; memory = λ p K m. (m, unset) }
 
   -- what a step has left is named and put down
   module _ {was : List ℕ} {slot : ℕ} (s : Slot h was slot) (few : get_or was slot 0 ≤ 32) where

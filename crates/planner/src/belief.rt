@@ -9,7 +9,6 @@ use crate::limits::Context;
 use crate::regions::SLOTS;
 use chart::bytes::copy_part;
 use chart::pass::copy_reachable;
-use pack::number::wide;
 use transition::regions::{MADE, NUMBERS};
 
 // A row of the table in a slot.
@@ -37,7 +36,7 @@ pub fn place_belief(work: &mut [u8], p: Context, slot: usize, c: usize) -> Row
     requires { Held p work.old slot × (c < p.characters) × Free p slot 2 }
     ensures { PlacesBelief p slot c work.old work.new result.slot result.row }
 {
-    let row = wide(work[slot + 1 + p.fluents + c]);
+    let row = usize::from(work[slot + 1 + p.fluents + c]);
     if has_overflowed(work, p) {
         lay_belief(work, p, slot, row);
         return Row {

@@ -14,7 +14,7 @@ use crate::entry::Deed;
 use crate::intern::{is_large, table_in};
 use crate::limits::Context;
 use pack::judge::{after_condition, holds, utility};
-use pack::number::{Number, read_number, wide};
+use pack::number::read_number;
 use pack::places::{ACTION, CHARACTER_UTILITIES};
 
 // Whether some rule, of those at a place, is above base.
@@ -23,20 +23,15 @@ pub fn can_exceed(pack: &[u8], at: usize, base: usize) -> bool
     ensures { Tells rules_at (exceeds base) pack.now at result }
 {
     let mut n = at + 1;
-    let mut left = wide(pack[at]);
-    while 0 < left {
-        match read_number(pack, after_condition(pack, n)) {
-            Number::Refused(_, _) => {
-                return false;
-            }
-            Number::Is(value, next) => {
-                if base < value {
-                    return true;
-                }
-                n = next;
-                left = left - 1;
-            }
+    let count = usize::from(pack[at]);
+    for i in 0..count {
+        let Ok((value, next)) = read_number(pack, after_condition(pack, n)) else {
+            return false;
+        };
+        if base < value {
+            return true;
         }
+        n = next;
     }
     false
 }
@@ -52,7 +47,7 @@ pub fn pointless(pack: &[u8], places: &[u16], p: Context, work: &[u8], slot: usi
     if !is_large(work, p) {
         return false;
     }
-    let q = wide(work[slot + 1 + p.fluents + d.who]);
+    let q = usize::from(work[slot + 1 + p.fluents + d.who]);
     let t = table_in(work, p, slot);
     let may = holds(pack, places[ACTION * d.action] as usize, work, t, q);
     if !may {

@@ -1,29 +1,26 @@
 // The entries of the transposition table: what is known of the lists from a state, and of deeds in it, found by the id
 // of its table and a key; one entry for each hash, each true.
-ghost use Rattle.std.specs.Prelude.{◌≡◌, true, false, ◌+◌, ◌*◌, ◌<◌, ◌≤◌, length};
+ghost use Rattle.std.specs.Prelude.{◌≡◌, true, false, ℕ, ◌+◌, ◌*◌, ◌<◌, ◌≤◌, length};
 ghost use Rattle.planner.specs.Inner.Lists.{slot_table};
+ghost use Rattle.planner.specs.Inner.Known.{mark_of, Marks};
 ghost use Rattle.planner.specs.Inner.Memory.{Laid, Before, Place, Storable, KeyPut};
 ghost use Rattle.planner.specs.Inner.Memory.{Recalled, Recalls, Remembered, Notes, Roomy, Spent, FoundIn};
 ghost use Rattle.planner.specs.Inner.Memory.{facts_at, entry_at, goal_key, deed_key, key_at};
 
 use crate::cell::{recall_cell, remember_cell};
 use crate::intern::{id_of, in_cells};
+use crate::known::{Known, known_of, mark_of};
 use crate::limits::{Context, Nesting, remainder};
 use crate::regions::{STEPS, WORTH};
 use crate::steps::steps_made;
-use pack::number::wide;
+use crate::who::{Who, key_of};
 
-// What a list is looked for: whose it is, at which nesting its actions are to be explained, and above which utility it
-// is to end.
+// What a list is looked for: at which nesting its actions are to be explained, and above which utility it is to end.
 #[derive(Clone, Copy)]
 pub struct Goal {
-    pub who: usize,
     pub nesting: Nesting,
     pub base: usize,
 }
-
-// Whose goal the author's is: no character's.
-pub const AUTHOR: usize = 7;
 
 // A character and an action, which is to be explained to it at a nesting.
 #[derive(Clone, Copy)]
@@ -42,12 +39,12 @@ pub struct Key {
     pub base: usize,
 }
 
-// The key of what is known of the lists of so many actions to a goal.
-pub fn goal_key(g: Goal, left: usize) -> Key
-    ensures { result ≡ goal_key g left }
+// The key of what is known of the lists of so many actions to a goal of the author or of a character.
+pub fn goal_key(whose: Who, g: Goal, left: usize) -> Key
+    ensures { result ≡ goal_key whose g left }
 {
     Key {
-        who: g.who,
+        who: key_of(whose),
         nesting: g.nesting.0,
         number: left,
         base: g.base,
@@ -81,69 +78,45 @@ pub fn keyed(work: &[u8], at: usize, k: Key) -> bool
     ensures { (result ≡ true → key_at work.now at ≡ k)
         × (result ≡ false → ¬ (key_at work.now at ≡ k)) }
 {
-    if wide(work[at + 1]) != k.who {
-        return false;
-    }
-    if wide(work[at + 2]) != k.nesting {
-        return false;
-    }
-    if wide(work[at + 3]) != k.number {
-        return false;
-    }
-    wide(work[at + 4]) + 256 * wide(work[at + 5]) == k.base
+    usize::from(work[at + 1]) == k.who
+        && usize::from(work[at + 2]) == k.nesting
+        && usize::from(work[at + 3]) == k.number
+        && usize::from(work[at + 4]) + 256 * usize::from(work[at + 5]) == k.base
 }
 
 // Whether an id is one, and a key's numbers fit their bytes.
 pub fn storable(id: usize, k: Key) -> bool
     ensures { (result ≡ true → Storable id k) × (result ≡ false → ¬ Storable id k) }
 {
-    if id == 0 {
-        return false;
-    }
-    if 255 < k.who {
-        return false;
-    }
-    if 255 < k.nesting {
-        return false;
-    }
-    if 255 < k.number {
-        return false;
-    }
-    k.base < 65536
+    id != 0 && k.who < 256 && k.nesting < 256 && k.number < 256 && k.base < 65536
 }
 
-// The mark of what is known of the table in a slot by this key; 0 where nothing is.
-pub fn recall(work: &mut [u8], p: Context, slot: usize, k: Key) -> u8
+// What is known of the table in a slot by this key, if anything.
+pub fn recall(work: &mut [u8], p: Context, slot: usize, k: Key) -> Option<Known>
     requires { Before p work.old (slot_table p work.old slot) }
-    ensures { Recalled p (slot_table p work.old slot) k work.old work.new result
-        × (Roomy p work.old → Recalls p (slot_table p work.old slot) k work.old
-        work.new result)
-        × (Spent p work.old → FoundIn p work.old slot k result) }
+    ensures { (mark : ℕ) × Marks mark result
+        × Recalled p (slot_table p work.old slot) k work.old work.new mark
+        × (Roomy p work.old → Recalls p (slot_table p work.old slot) k work.old work.new mark)
+        × (Spent p work.old → FoundIn p work.old slot k mark) }
 {
     if in_cells(work, p) {
         return recall_cell(work, p, slot, k);
     }
-    let id = id_of(work, p, slot);
-    if id == 0 {
-        return 0;
-    }
+    let id = id_of(work, p, slot)?;
     let at = entry_at(p, id, k);
-    if wide(work[at + 6]) != id {
-        return 0;
+    if usize::from(work[at + 6]) != id || !keyed(work, at, k) {
+        return None;
     }
-    if !keyed(work, at, k) {
-        return 0;
-    }
-    work[at]
+    known_of(work[at])
 }
 
 // Writes an entry's mark and key.
-pub fn put_key(work: &mut [u8], at: usize, mark: u8, k: Key)
+pub fn put_key(work: &mut [u8], at: usize, known: Known, k: Key)
     requires { (at + 6 ≤ length work.old) × (k.who < 256) × (k.nesting < 256) × (k.number < 256)
         × (k.base < 65536) }
-    ensures { KeyPut work.old work.new at mark k }
+    ensures { KeyPut work.old work.new at (mark_of known) k }
 {
-    work[at] = mark;
+    work[at] = mark_of(known);
     work[at + 1] = k.who as u8;
     work[at + 2] = k.nesting as u8;
     work[at + 3] = k.number as u8;
@@ -152,34 +125,34 @@ pub fn put_key(work: &mut [u8], at: usize, mark: u8, k: Key)
 }
 
 // Puts down what is known of the table in a slot by this key, in the place of what stood there.
-pub fn remember(work: &mut [u8], p: Context, slot: usize, mark: u8, k: Key)
+pub fn remember(work: &mut [u8], p: Context, slot: usize, known: Known, k: Key)
     requires { Before p work.old (slot_table p work.old slot) }
-    ensures { Remembered p (slot_table p work.old slot) mark k work.old work.new
-        × Notes p (slot_table p work.old slot) mark k work.old work.new }
+    ensures { Remembered p (slot_table p work.old slot) (mark_of known) k work.old work.new
+        × Notes p (slot_table p work.old slot) (mark_of known) k work.old work.new }
 {
-    let id = id_of(work, p, slot);
+    let Some(id) = id_of(work, p, slot) else {
+        return;
+    };
     if storable(id, k) {
         let at = entry_at(p, id, k);
-        put_key(work, at, mark, k);
+        put_key(work, at, known, k);
         work[at + 6] = id as u8;
     }
 }
 
 // As `remember`, of what was found out since so many steps had been made: once there was no room it is put into a cell,
 // and what took few steps is found out anew.
-pub fn remember_worth(work: &mut [u8], p: Context, slot: usize, mark: u8, k: Key, since: usize)
+pub fn remember_worth(work: &mut [u8], p: Context, slot: usize, known: Known, k: Key, since: usize)
     requires { Before p work.old (slot_table p work.old slot) × (since < 16777216) }
-    ensures { Remembered p (slot_table p work.old slot) mark k work.old
-        work.new
-        × (Roomy p work.old → Notes p (slot_table p work.old slot) mark k work.old
-        work.new) }
+    ensures { Remembered p (slot_table p work.old slot) (mark_of known) k work.old work.new
+        × (Roomy p work.old → Notes p (slot_table p work.old slot) (mark_of known) k work.old work.new) }
 {
     if in_cells(work, p) {
         let made = steps_made(work, p);
         if made < since + WORTH {
             return;
         }
-        return remember_cell(work, p, slot, mark, k, made - since);
+        return remember_cell(work, p, slot, known, k, made - since);
     }
-    remember(work, p, slot, mark, k)
+    remember(work, p, slot, known, k)
 }

@@ -14,17 +14,20 @@ use crate::belief::place_belief;
 use crate::bound::pointless;
 use crate::entry::{Deed, Goal, deed_key, goal_key, recall, remember_worth};
 use crate::intern::table_in;
+use crate::known::Known;
 use crate::limits::{Context, Nesting};
-use crate::prune::{Hope, next_promising};
+use crate::prune::{Hope, promising};
 use crate::reach::within_reach;
 use crate::steps::{known_step, steps_made};
+use crate::who::Who;
 use pack::judge::utility;
 use pack::places::{ACTION, CHARACTER_UTILITIES, CONSENTERS};
 use pack::write::{consenter, consenters};
 
-// A character's goal, and how many more actions may lead to it.
+// A character, its goal, and how many more actions may lead to it.
 #[derive(Clone, Copy)]
 pub struct Quest {
+    pub who: usize,
     pub goal: Goal,
     pub left: usize,
 }
@@ -45,10 +48,7 @@ pub fn explained(
     ensures { Answers pack.now places.now p slot work.old
         work.new result (λ th s. Explained th p.foresight.0 d.nesting.0 d.who d.action s) }
 {
-    if d.nesting.0 == 0 {
-        return false;
-    }
-    if pointless(pack, places, p, work, slot, d) {
+    if d.nesting.0 == 0 || pointless(pack, places, p, work, slot, d) {
         return false;
     }
     let b = place_belief(work, p, slot, d.who);
@@ -74,17 +74,13 @@ pub fn judged(
         work.new result (λ th b. ExplainedBy th p.foresight.0 d.nesting.0 d.who d.action b) }
 {
     let key = deed_key(d, q);
-    let known = recall(work, p, slot, key);
-    if known == 4 {
-        return false;
-    }
-    if known == 5 {
-        return true;
+    if let Some(Known::Explained(verdict)) = recall(work, p, slot, key) {
+        return verdict;
     }
     let since = steps_made(work, p);
-    let found = explains(pack, places, p, work, slot, d, q);
-    remember_worth(work, p, slot, mark_of(found) + 3, key, since);
-    found
+    let verdict = explains(pack, places, p, work, slot, d, q);
+    remember_worth(work, p, slot, Known::Explained(verdict), key, since);
+    verdict
 }
 
 // As `judged`, by the lists that begin with the action in that belief.
@@ -105,8 +101,7 @@ pub fn explains(
     ensures { AnswersOf q pack.now places.now p slot work.old
         work.new result (λ th b. ExplainedBy th p.foresight.0 d.nesting.0 d.who d.action b) }
 {
-    let number = known_step(pack, places, p, d.action, work, slot, q);
-    if number != 0 {
+    if !known_step(pack, places, p, d.action, work, slot, q) {
         return false;
     }
     let next = slot + p.stride;
@@ -119,13 +114,9 @@ pub fn explains(
         q,
     );
     let nesting = Nesting(d.nesting.0 - 1);
-    let goal = Goal {
-        who: d.who,
-        nesting,
-        base,
-    };
     let quest = Quest {
-        goal,
+        who: d.who,
+        goal: Goal { nesting, base },
         left: p.foresight.0 - 1,
     };
     extends(pack, places, p, work, next, quest)
@@ -142,18 +133,18 @@ pub fn extends(
     quest: Quest,
 ) -> bool
     requires { Prepared pack.now places.now p work.old (slot_table p work.old slot) (slot + p.stride)
-        × (quest.goal.who < p.characters) × (0 < p.foresight.0) × (p.foresight.0 ≤ 6)
+        × (quest.who < p.characters) × (0 < p.foresight.0) × (p.foresight.0 ≤ 6)
         × Free p slot (1 + quest.left + (1 + p.foresight.0) * quest.goal.nesting.0) }
     ensures { Answers pack.now places.now p slot work.old
         work.new result
-        (λ th s. Above th p.foresight.0 quest.goal.nesting.0 quest.goal.who quest.goal.base
+        (λ th s. Above th p.foresight.0 quest.goal.nesting.0 quest.who quest.goal.base
         (suc quest.left) s) }
 {
     let goal = quest.goal;
     let t = table_in(work, p, slot);
     let worth = utility(
         pack,
-        places[CHARACTER_UTILITIES + goal.who] as usize,
+        places[CHARACTER_UTILITIES + quest.who] as usize,
         work,
         t,
         0,
@@ -164,7 +155,7 @@ pub fn extends(
     if quest.left == 0 {
         return false;
     }
-    let whose = goal.who + 1;
+    let whose = Who::Character(quest.who);
     let hope = Hope {
         whose,
         left: quest.left,
@@ -173,29 +164,18 @@ pub fn extends(
     if !within_reach(pack, places, p, work, slot, hope) {
         return false;
     }
-    let key = goal_key(goal, quest.left);
-    let known = recall(work, p, slot, key);
-    if known == 1 {
-        return false;
-    }
-    if known == 2 {
-        return true;
+    let key = goal_key(whose, goal, quest.left);
+    if let Some(Known::Reached(found)) = recall(work, p, slot, key) {
+        return found;
     }
     let since = steps_made(work, p);
     let fewer = Quest {
-        goal,
         left: quest.left - 1,
+        ..quest
     };
     let found = extends_by(pack, places, p, work, slot, fewer);
-    remember_worth(work, p, slot, mark_of(found), key, since);
+    remember_worth(work, p, slot, Known::Reached(found), key, since);
     found
-}
-
-// How the memory marks whether there is a list.
-pub fn mark_of(found: bool) -> u8
-    ensures { (result ≡ 1 → found ≡ false) × (result ≡ 2 → found ≡ true) × (0 < result) × (result < 3) }
-{
-    if found { 2 } else { 1 }
 }
 
 // Whether some action, and then some list as `extends` looks for, does.
@@ -209,26 +189,26 @@ pub fn extends_by(
     quest: Quest,
 ) -> bool
     requires { Prepared pack.now places.now p work.old (slot_table p work.old slot) (slot + p.stride)
-        × (quest.goal.who < p.characters) × (0 < p.foresight.0) × (p.foresight.0 ≤ 6)
+        × (quest.who < p.characters) × (0 < p.foresight.0) × (p.foresight.0 ≤ 6)
         × Free p slot (2 + quest.left + (1 + p.foresight.0) * quest.goal.nesting.0) }
     ensures { Answers pack.now places.now p slot work.old
         work.new result
-        (λ th s. AboveBySome th p.foresight.0 quest.goal.nesting.0 quest.goal.who quest.goal.base
+        (λ th s. AboveBySome th p.foresight.0 quest.goal.nesting.0 quest.who quest.goal.base
         (suc quest.left) s) }
 {
-    let whose = quest.goal.who + 1;
     let hope = Hope {
-        whose,
+        whose: Who::Character(quest.who),
         left: quest.left,
         base: quest.goal.base,
     };
-    let mut x = next_promising(pack, places, p, work, slot, 0, hope);
-    while x < p.actions {
-        let found = via(pack, places, p, work, slot, x, quest);
-        if found {
+    let t = table_in(work, p, slot);
+    for x in 0..p.actions {
+        if !promising(pack, places, p, work, t, x, hope) {
+            continue;
+        }
+        if via(pack, places, p, work, slot, x, quest) {
             return true;
         }
-        x = next_promising(pack, places, p, work, slot, x + 1, hope);
     }
     false
 }
@@ -245,28 +225,23 @@ pub fn via(
     quest: Quest,
 ) -> bool
     requires { Prepared pack.now places.now p work.old (slot_table p work.old slot) (slot + p.stride)
-        × (quest.goal.who < p.characters) × (x < p.actions) × (0 < p.foresight.0) × (p.foresight.0 ≤ 6)
+        × (quest.who < p.characters) × (x < p.actions) × (0 < p.foresight.0) × (p.foresight.0 ≤ 6)
         × Free p slot (2 + quest.left + (1 + p.foresight.0) * quest.goal.nesting.0) }
     ensures { Answers pack.now places.now p slot work.old
         work.new result
-        (λ th s. AboveBy th p.foresight.0 quest.goal.nesting.0 quest.goal.who quest.goal.base
+        (λ th s. AboveBy th p.foresight.0 quest.goal.nesting.0 quest.who quest.goal.base
         (suc quest.left) x s) }
 {
-    let nesting = quest.goal.nesting;
     let deed = Deed {
-        who: quest.goal.who,
-        nesting,
+        who: quest.who,
+        nesting: quest.goal.nesting,
         action: x,
     };
-    let agreed = allowed(pack, places, p, work, slot, deed);
-    if !agreed {
+    if !allowed(pack, places, p, work, slot, deed) {
         return false;
     }
-    let number = known_step(pack, places, p, x, work, slot, 0);
-    if number != 0 {
-        return false;
-    }
-    extends(pack, places, p, work, slot + p.stride, quest)
+    known_step(pack, places, p, x, work, slot, 0)
+        && extends(pack, places, p, work, slot + p.stride, quest)
 }
 
 // Whether the deed's action is explained to each of its consenters other than the one whose deed it is.
@@ -287,14 +262,11 @@ pub fn allowed(
 {
     let at = places[ACTION * d.action + CONSENTERS] as usize;
     let count = consenters(pack, at);
-    let mut i = 0;
-    while i < count {
+    for i in 0..count {
         let c = consenter(pack, at, i);
-        let content = fine(pack, places, p, work, slot, c, d);
-        if !content {
+        if !fine(pack, places, p, work, slot, c, d) {
             return false;
         }
-        i += 1;
     }
     true
 }
@@ -317,14 +289,5 @@ pub fn fine(
         work.new result
         (λ th s. Other d.who c → Explained th p.foresight.0 d.nesting.0 c d.action s) }
 {
-    if c == d.who {
-        return true;
-    }
-    let nesting = d.nesting;
-    let deed = Deed {
-        who: c,
-        nesting,
-        action: d.action,
-    };
-    explained(pack, places, p, work, slot, deed)
+    c == d.who || explained(pack, places, p, work, slot, Deed { who: c, ..d })
 }

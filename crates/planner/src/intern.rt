@@ -10,14 +10,13 @@ ghost use Rattle.chart.specs.Call.{work_room};
 ghost use Rattle.chart.specs.Laws.Sums.{sum_of};
 ghost use Rattle.transition.specs.Duties.Stage.{scratch_at};
 ghost use Rattle.planner.specs.Inner.Lists.{slot_table};
-ghost use Rattle.planner.specs.Inner.Memory.{taken_at, head_at, links_at, slot_id, Roomy, Before, Alike};
-ghost use Rattle.planner.specs.Inner.Memory.{Fits, FoundOn, Linked, Placed, Stored, Interning};
+ghost use Rattle.planner.specs.Inner.Memory.{taken_at, head_at, links_at, slot_id, id_byte, Names};
+ghost use Rattle.planner.specs.Inner.Memory.{Roomy, Before, Alike, Fits, FoundOn, Linked, Placed, Stored, Interning};
 ghost use Rattle.planner.specs.Inner.Memory.{Identified, Spent};
 
 use crate::limits::Context;
 use crate::regions::{BLOCKS, ENOUGH, HEADS, LINKS, OVERFLOWED, SLOTS, TAKEN};
 use chart::bytes::{self, clear, copy_part, same_part};
-use pack::number::wide;
 use pack::table::Table;
 use transition::regions::NUMBERS;
 
@@ -28,7 +27,7 @@ pub fn table_in(work: &[u8], p: Context, slot: usize) -> Table
 {
     Table {
         rows: slot + 1,
-        nodes: wide(work[slot]),
+        nodes: usize::from(work[slot]),
         fluents: p.fluents,
         characters: p.characters,
         width: p.fluents + p.characters,
@@ -40,10 +39,7 @@ pub fn table_in(work: &[u8], p: Context, slot: usize) -> Table
 pub fn is_large(work: &[u8], p: Context) -> bool
     requires { (p.memory ≤ scratch_at) × (work_room ≤ length work.now) }
 {
-    if has_overflowed(work, p) {
-        return true;
-    }
-    ENOUGH <= wide(work[p.memory + TAKEN])
+    has_overflowed(work, p) || ENOUGH <= usize::from(work[p.memory + TAKEN])
 }
 
 // Whether there was once no room, so that all has been forgotten. From then on a search keeps what is worth more than
@@ -60,7 +56,7 @@ pub fn extent(work: &[u8], p: Context, slot: usize) -> usize
     requires { Before p work.now (slot_table p work.now slot) }
     ensures { result ≡ 1 + get_or work.now slot 0 * (p.fluents + p.characters) }
 {
-    let n = wide(work[slot]);
+    let n = usize::from(work[slot]);
     1 + n * (p.fluents + p.characters)
 }
 
@@ -69,13 +65,7 @@ pub fn in_cells(work: &[u8], p: Context) -> bool
     requires { (p.memory ≤ scratch_at) × (work_room ≤ length work.now) }
     ensures { (result ≡ true → Spent p work.now) × (result ≡ false → ¬ Spent p work.now) }
 {
-    if !has_overflowed(work, p) {
-        return false;
-    }
-    if work[p.memory + TAKEN] != 0 {
-        return false;
-    }
-    true
+    has_overflowed(work, p) && work[p.memory + TAKEN] == 0
 }
 
 // A number made of n bytes.
@@ -94,6 +84,25 @@ pub fn hash(work: &[u8], from: usize, n: usize) -> usize
     digest(work, from, n) % 127
 }
 
+// The id that a byte keeps, if it keeps one.
+pub fn id_in(byte: u8) -> Option<usize>
+    ensures { Names result (λ n. n ≡ byte) }
+{
+    if byte == 0 {
+        None
+    } else {
+        Some(usize::from(byte))
+    }
+}
+
+// The byte that keeps it, 0 for none.
+pub fn id_byte(id: Option<usize>) -> u8
+    requires { id_byte id < 256 }
+    ensures { result ≡ id_byte id }
+{
+    id.unwrap_or(0) as u8
+}
+
 // Whether a table is the one at the block of an id.
 pub fn has_id(work: &[u8], p: Context, t: Table, id: usize) -> bool
     requires { Before p work.now t × (id < 256) }
@@ -104,51 +113,49 @@ pub fn has_id(work: &[u8], p: Context, t: Table, id: usize) -> bool
         return false;
     }
     let n = t.nodes * t.width;
-    if p.block * wide(work[p.memory + TAKEN]) + p.block <= p.block * id + n {
+    if p.block * usize::from(work[p.memory + TAKEN]) + p.block <= p.block * id + n {
         return false;
     }
     let at = p.tables - p.block + p.block * id;
-    if wide(work[at]) != t.nodes {
+    if usize::from(work[at]) != t.nodes {
         return false;
     }
     same_part(work, t.rows, at + 1, n)
 }
 
-// Puts a table behind those that are kept, where there is room: its id, or 0.
-pub fn store(work: &mut [u8], p: Context, t: Table) -> usize
+// Puts a table behind those that are kept, where there is room, and names it.
+pub fn store(work: &mut [u8], p: Context, t: Table) -> Option<usize>
     requires { Before p work.old t }
-    ensures { (¬ Spent p work.old → Placed p t work.old work.new result)
-        × (get_or work.old (taken_at p) 0 + t.nodes * t.width / p.block < 255 → 0 < result) }
+    ensures { Names result (λ id. (¬ Spent p work.old → Placed p t work.old work.new id)
+        × (get_or work.old (taken_at p) 0 + t.nodes * t.width / p.block < 255 → 0 < id)) }
 {
     let n = t.nodes * t.width;
-    let taken = wide(work[p.memory + TAKEN]);
+    let taken = usize::from(work[p.memory + TAKEN]);
     let more = n / p.block + 1;
     if BLOCKS < taken + more {
-        return 0;
+        return None;
     }
     let at = p.tables + p.block * taken;
     work[at] = t.nodes as u8;
     copy_part(work, t.rows, at + 1, n);
     work[p.memory + TAKEN] = (taken + more) as u8;
-    taken + 1
+    Some(taken + 1)
 }
 
 // The same; where there is no room, all is forgotten, and no table is kept from then on.
-pub fn keep(work: &mut [u8], p: Context, t: Table) -> usize
+pub fn keep(work: &mut [u8], p: Context, t: Table) -> Option<usize>
     requires { Before p work.old t }
-    ensures { Placed p t work.old work.new result
-        × (Roomy p work.new → Fits p t → 0 < result) }
+    ensures { Names result (λ id. Placed p t work.old work.new id × (Roomy p work.new → Fits p t → 0 < id)) }
 {
     if has_overflowed(work, p) {
-        return 0;
+        return None;
     }
-    let id = store(work, p, t);
-    if id != 0 {
-        return id;
+    if let Some(id) = store(work, p, t) {
+        return Some(id);
     }
     clear(work, p.memory, NUMBERS - p.memory);
     work[p.memory + OVERFLOWED] = 1;
-    0
+    None
 }
 
 // The head of the chain on which a table is looked for.
@@ -159,23 +166,23 @@ pub fn head_of(work: &[u8], p: Context, t: Table) -> usize
     p.memory + HEADS + hash(work, t.rows, t.nodes * t.width)
 }
 
-// The id on the chain from a place on under which a table is kept; or 0. Links lead to lower ids, so it ends.
-pub fn find(work: &[u8], p: Context, t: Table, at: usize) -> usize
+// The id on the chain from a place on under which a table is kept, if it is. Links lead to lower ids, so it ends.
+pub fn find(work: &[u8], p: Context, t: Table, at: usize) -> Option<usize>
     requires { Before p work.now t × (at < length work.now) }
-    ensures { FoundOn p work.now t at result }
+    ensures { Names result (FoundOn p work.now t at) }
 {
-    let mut id = wide(work[at]);
+    let mut id = usize::from(work[at]);
     while 0 < id {
         if has_id(work, p, t, id) {
-            return id;
+            return Some(id);
         }
-        let next = wide(work[p.memory + LINKS + id]);
+        let next = usize::from(work[p.memory + LINKS + id]);
         if id <= next {
-            return 0;
+            return None;
         }
         id = next;
     }
-    0
+    None
 }
 
 // Puts an id in front of the chain at a place.
@@ -187,43 +194,38 @@ pub fn link(work: &mut [u8], p: Context, at: usize, id: usize)
     work[at] = id as u8;
 }
 
-// The id of a table, which is kept if it is not yet; or 0.
-pub fn intern(work: &mut [u8], p: Context, t: Table) -> usize
+// The id of a table, which is kept if it is not yet and there is room.
+pub fn intern(work: &mut [u8], p: Context, t: Table) -> Option<usize>
     requires { Before p work.old t }
-    ensures { Stored p t work.old work.new result
-        × (Roomy p work.new → Fits p t → 0 < result) }
+    ensures { Names result (λ id. Stored p t work.old work.new id × (Roomy p work.new → Fits p t → 0 < id)) }
 {
     let at = head_of(work, p, t);
-    let known = find(work, p, t, at);
-    if known != 0 {
-        return known;
+    if let Some(known) = find(work, p, t, at) {
+        return Some(known);
     }
-    let id = keep(work, p, t);
-    if id != 0 {
-        link(work, p, at, id);
-    }
-    id
+    let id = keep(work, p, t)?;
+    link(work, p, at, id);
+    Some(id)
 }
 
 // As `intern`, of the table in a slot, whose id is known from then on.
-pub fn intern_slot(work: &mut [u8], p: Context, slot: usize) -> usize
+pub fn intern_slot(work: &mut [u8], p: Context, slot: usize) -> Option<usize>
     requires { Before p work.old (slot_table p work.old slot) }
-    ensures { Interning p (slot_table p work.old slot) work.old work.new result }
+    ensures { Names result (Interning p (slot_table p work.old slot) work.old work.new) }
 {
     let t = table_in(work, p, slot);
     let id = intern(work, p, t);
-    work[p.memory + (slot + 1) % SLOTS] = id as u8;
+    work[p.memory + (slot + 1) % SLOTS] = id_byte(id);
     id
 }
 
 // The same where the slot's id is not known yet. It mostly is, so the way there is short.
-pub fn id_of(work: &mut [u8], p: Context, slot: usize) -> usize
+pub fn id_of(work: &mut [u8], p: Context, slot: usize) -> Option<usize>
     requires { Before p work.old (slot_table p work.old slot) }
-    ensures { Identified p (slot_table p work.old slot) work.old work.new result }
+    ensures { Names result (Identified p (slot_table p work.old slot) work.old work.new) }
 {
-    let known = wide(work[p.memory + (slot + 1) % SLOTS]);
-    if known != 0 {
-        return known;
+    if let Some(known) = id_in(work[p.memory + (slot + 1) % SLOTS]) {
+        return Some(known);
     }
     intern_slot(work, p, slot)
 }

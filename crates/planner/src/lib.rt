@@ -1,5 +1,5 @@
-// The planner layer: explanations and endings. What it promises stands in specs/; here are the answers that its public
-// calls hand back.
+// The planner layer: explanations and endings. What it promises stands in specs/; here is what Search hands back of
+// an ending.
 #![tactic(auto)]
 
 pub mod belief;
@@ -8,6 +8,7 @@ pub mod cell;
 pub mod entry;
 pub mod explain;
 pub mod intern;
+pub mod known;
 pub mod limits;
 pub mod prune;
 pub mod range;
@@ -16,18 +17,13 @@ pub mod regions;
 pub mod search;
 pub mod steps;
 pub mod verdict;
+pub mod who;
 
-// What Explained hands back: yes or no, or a refusal's number and place.
-#[derive(Clone, Copy)]
-pub enum Judged {
-    Verdict(bool),
-    Refused(u8, usize),
-}
-
-// What Search hands back: the length of the list and the author's utility ("worth") at the start and at the list's end;
-// 13 is a refusal's number, "no ending".
-#[derive(Clone, Copy)]
-pub enum Found {
-    Ending(usize, usize, usize),
-    Refused(u8, usize),
+// An ending, as Search hands it back: how many actions its list has, and the author's utility ("worth") at the start and
+// at the list's end.
+#[derive(Clone, Copy, Debug, PartialEq, Eq)]
+pub struct Ending {
+    pub length: usize,
+    pub before: usize,
+    pub after: usize,
 }

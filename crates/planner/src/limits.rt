@@ -79,10 +79,11 @@ pub fn remainder(h: usize, count: usize) -> usize
 // The context of a call that wants so many slots: each has room for a count and for 32 rows of the pack's width. The
 // memory takes all behind them, up to the scratch of a step.
 pub fn laid_out(c: Contents, k: Foresight, slots: usize) -> Context
-    requires { (c.fluents ≤ 24) × (c.characters ≤ 6) × (slots ≤ 30) }
+    requires { (c.characters ≤ 6) × (slots ≤ 30) }
     ensures { result ≡ laid_out c k slots }
 {
-    let stride = 1 + 32 * (c.fluents + c.characters);
+    let fluents = c.domains.fluents;
+    let stride = 1 + 32 * (fluents + c.characters);
     let memory = slots * stride;
     let room = NUMBERS - memory;
     let lists = entries(c.actions, room);
@@ -90,7 +91,7 @@ pub fn laid_out(c: Contents, k: Foresight, slots: usize) -> Context
     Context {
         actions: c.actions,
         triggers: c.triggers,
-        fluents: c.fluents,
+        fluents,
         characters: c.characters,
         foresight: k,
         stride,
@@ -105,20 +106,12 @@ pub fn laid_out(c: Contents, k: Foresight, slots: usize) -> Context
 pub fn explainable(k: Foresight, e: Nesting) -> bool
     ensures { result ≡ (foresight_limit k.0 && nesting_limit e.0) }
 {
-    if both_at_most(1, k.0, k.0, 6) {
-        e.0 <= 3
-    } else {
-        false
-    }
+    both_at_most(1, k.0, k.0, 6) && e.0 <= 3
 }
 
 // Whether T, K and E are.
 pub fn searchable(t: Story, k: Foresight, e: Nesting) -> bool
     ensures { result ≡ (story_limit t.0 && (foresight_limit k.0 && nesting_limit e.0)) }
 {
-    if both_at_most(1, t.0, t.0, 8) {
-        explainable(k, e)
-    } else {
-        false
-    }
+    both_at_most(1, t.0, t.0, 8) && explainable(k, e)
 }

@@ -2,23 +2,23 @@
 //
 // No step is made for an action whose condition fails, nor for a last one after which no rule above some utility could
 // hold: its effects are written into a copy of the state's own values, and the triggers widen these to ranges.
-ghost use Rattle.std.specs.Prelude.{◌≤◌, ◌≡◌, false};
-ghost use Rattle.planner.specs.Inner.Look.{Tryable, Hopeless, Trying, Skipped};
+ghost use Rattle.std.specs.Prelude.{◌≡◌, false};
+ghost use Rattle.planner.specs.Inner.Who.{rules_of};
+ghost use Rattle.planner.specs.Inner.Look.{Tryable, Hopeless};
 
-use crate::intern::table_in;
 use crate::limits::Context;
 use crate::range::{could_exceed, widen_by_triggers};
+use crate::who::{Who, rules_of};
 use pack::copy::copy_bytes;
 use pack::judge::holds;
 use pack::places::{ACTION, EFFECTS, UTILITIES};
 use pack::table::Table;
 use pack::write::write_effects;
 
-// For whose utility actions are tried, 0 for the author and c + 1 for character c; how many more may follow; and above
-// which utility they are to lead.
+// For whose utility actions are tried, how many more may follow, and above which utility they are to lead.
 #[derive(Clone, Copy)]
 pub struct Hope {
-    pub whose: usize,
+    pub whose: Who,
     pub left: usize,
     pub base: usize,
 }
@@ -33,9 +33,9 @@ pub fn could_leave(
     x: usize,
     h: Hope,
 ) -> bool
-    requires { Tryable pack.now places.now p.triggers x work.now t h.whose }
+    requires { Tryable pack.now places.now p.triggers x work.now t (rules_of h.whose) }
     ensures { result ≡ false
-        → Hopeless pack.now places.now p.triggers x work.now t h.whose
+        → Hopeless pack.now places.now p.triggers x work.now t (rules_of h.whose)
         0 h.base }
 {
     let mut lows = [0u8; 24];
@@ -44,7 +44,7 @@ pub fn could_leave(
     write_effects(pack, effects, 0, &mut lows, 0, t.fluents);
     let mut highs = lows;
     widen_by_triggers(pack, places, p.triggers, &mut lows, &mut highs);
-    let rules = places[UTILITIES + h.whose] as usize;
+    let rules = places[UTILITIES + rules_of(h.whose)] as usize;
     could_exceed(pack, rules, &lows, &highs, h.base)
 }
 
@@ -59,42 +59,13 @@ pub fn promising(
     x: usize,
     h: Hope,
 ) -> bool
-    requires { Tryable pack.now places.now p.triggers x work.now t h.whose }
+    requires { Tryable pack.now places.now p.triggers x work.now t (rules_of h.whose) }
     ensures { result ≡ false
-        → Hopeless pack.now places.now p.triggers x work.now t h.whose
+        → Hopeless pack.now places.now p.triggers x work.now t (rules_of h.whose)
         h.left h.base }
 {
-    let may = holds(pack, places[ACTION * x] as usize, work, t, 0);
-    if !may {
+    if !holds(pack, places[ACTION * x] as usize, work, t, 0) {
         return false;
     }
-    if 0 < h.left {
-        return true;
-    }
-    could_leave(pack, places, p, work, t, x, h)
-}
-
-// The first action from x on that is worth a try in the state in a slot, or how many actions there are.
-pub fn next_promising(
-    pack: &[u8],
-    places: &[u16],
-    p: Context,
-    work: &[u8],
-    slot: usize,
-    x: usize,
-    h: Hope,
-) -> usize
-    requires { Trying pack.now places.now p work.now slot h.whose × (x ≤ p.actions) }
-    ensures { Skipped pack.now places.now p
-        work.now slot h.whose h.left h.base x result }
-{
-    let t = table_in(work, p, slot);
-    let mut y = x;
-    while y < p.actions {
-        if promising(pack, places, p, work, t, y, h) {
-            return y;
-        }
-        y += 1;
-    }
-    y
+    0 < h.left || could_leave(pack, places, p, work, t, x, h)
 }

@@ -13,7 +13,7 @@ ghost use Rattle.planner.specs.Inner.Look.{Ranged, Judgeable, Widened, Triggered
 
 use pack::effects::{after_effect, whom_of, written_fluent, written_value};
 use pack::judge::{after_alternative, after_condition};
-use pack::number::{Number, read_number, wide};
+use pack::number::read_number;
 use pack::places::{TRIGGER, TRIGGER_EFFECTS};
 use pack::test::{after_test, chain_of, fluent_of, kind_of, tested_value};
 
@@ -22,8 +22,8 @@ pub fn some_relates(kind: u8, low: u8, high: u8, value: u8) -> bool
     ensures { kind < 3 → result ≡ could_meet (kind_of kind) low high value }
 {
     match kind {
-        0 => { if low <= value { value <= high } else { false } }
-        1 => { if low < high { true } else { low != value } }
+        0 => low <= value && value <= high,
+        1 => low < high || low != value,
         2 => value <= high,
         3..=255 => false,
     }
@@ -56,13 +56,12 @@ pub fn could_all(pack: &[u8], at: usize, lows: &[u8], highs: &[u8]) -> bool
         pack.now at result }
 {
     let mut n = at + 1;
-    let mut left = wide(pack[at]);
-    while 0 < left {
+    let count = usize::from(pack[at]);
+    for i in 0..count {
         if !could_pass(pack, n, lows, highs) {
             return false;
         }
         n = after_test(pack, n);
-        left = left - 1;
     }
     true
 }
@@ -74,16 +73,15 @@ pub fn could_hold(pack: &[u8], at: usize, lows: &[u8], highs: &[u8]) -> bool
         pack.now at result }
 {
     let mut n = at + 1;
-    let mut left = wide(pack[at]);
-    while 0 < left {
+    let count = usize::from(pack[at]);
+    for i in 0..count {
         if could_all(pack, n, lows, highs) {
             return true;
         }
-        if left == 1 {
+        if i + 1 == count {
             return false;
         }
         n = after_alternative(pack, n);
-        left = left - 1;
     }
     false
 }
@@ -95,43 +93,21 @@ pub fn could_exceed(pack: &[u8], at: usize, lows: &[u8], highs: &[u8], base: usi
         pack.now at result }
 {
     let mut n = at + 1;
-    let mut left = wide(pack[at]);
-    while 0 < left {
+    let count = usize::from(pack[at]);
+    for i in 0..count {
         let could = could_hold(pack, n, lows, highs);
-        if !could {
-            if left < 2 {
-                return false;
-            }
+        if !could && i + 1 == count {
+            return false;
         }
-        match read_number(pack, after_condition(pack, n)) {
-            Number::Refused(_, _) => {
-                return true;
-            }
-            Number::Is(value, next) => {
-                if base < value {
-                    if could {
-                        return true;
-                    }
-                }
-                n = next;
-                left = left - 1;
-            }
+        let Ok((value, next)) = read_number(pack, after_condition(pack, n)) else {
+            return true;
+        };
+        if could && base < value {
+            return true;
         }
+        n = next;
     }
     false
-}
-
-// The lesser of two values, and the greater.
-pub fn lesser(a: u8, b: u8) -> u8
-    ensures { (result ≤ a) × (result ≤ b) }
-{
-    if a < b { a } else { b }
-}
-
-pub fn greater(a: u8, b: u8) -> u8
-    ensures { (a ≤ result) × (b ≤ result) }
-{
-    if a < b { b } else { a }
 }
 
 // Widens the ranges by the effect at a place, if it writes a fluent of the state itself.
@@ -143,8 +119,8 @@ pub fn widen_one(pack: &[u8], at: usize, lows: &mut [u8], highs: &mut [u8])
     if whom_of(pack, at) == 0 {
         let f = written_fluent(pack, at);
         let value = written_value(pack, at);
-        lows[f] = lesser(lows[f], value);
-        highs[f] = greater(highs[f], value);
+        lows[f] = lows[f].min(value);
+        highs[f] = highs[f].max(value);
     }
 }
 
@@ -155,11 +131,10 @@ pub fn widen(pack: &[u8], at: usize, lows: &mut [u8], highs: &mut [u8])
         lows.new highs.new }
 {
     let mut n = at + 1;
-    let mut left = wide(pack[at]);
-    while 0 < left {
+    let count = usize::from(pack[at]);
+    for i in 0..count {
         widen_one(pack, n, lows, highs);
         n = after_effect(pack, n);
-        left = left - 1;
     }
 }
 
@@ -175,10 +150,8 @@ pub fn widen_by_triggers(
     ensures { TriggersWidened pack.now places.now triggers lows.old
         highs.old lows.new highs.new }
 {
-    let mut i = 0;
-    while i < triggers {
+    for i in 0..triggers {
         let effects = places[TRIGGER_EFFECTS + TRIGGER * i] as usize;
         widen(pack, effects, lows, highs);
-        i += 1;
     }
 }

@@ -5,6 +5,7 @@
 // asked, so where no rule above could hold even so no list of so many actions leads there, and no step is made. Of a
 // pack of a season's size the author's lists are looked for from the length on after which one could (`first_length`).
 ghost use Rattle.std.specs.Prelude.{◌≡◌, false, ◌<◌};
+ghost use Rattle.planner.specs.Inner.Who.{rules_of};
 ghost use Rattle.planner.specs.Inner.Look.{Ranged};
 ghost use Rattle.planner.specs.Inner.Levels.{ActionThere, ActionWidened, Levelable, LevelWidened};
 ghost use Rattle.planner.specs.Inner.Levels.{Reckoned, OutOfReach, Nearest};
@@ -13,6 +14,7 @@ use crate::intern::is_large;
 use crate::limits::Context;
 use crate::prune::Hope;
 use crate::range::{could_exceed, could_hold, widen, widen_by_triggers};
+use crate::who::rules_of;
 use pack::copy::copy_bytes;
 use pack::places::{ACTION, EFFECTS, UTILITIES};
 
@@ -54,21 +56,19 @@ pub fn widen_level(
     ensures { LevelWidened pack.now places.now actions lower.now
         upper.now lows.old highs.old lows.new highs.new }
 {
-    let mut x = 0;
-    while x < actions {
+    for x in 0..actions {
         widen_action(pack, places, x, lower, upper, lows, highs);
-        x += 1;
     }
 }
 
 // After how many actions a utility above another could be had, from the state in a slot; one more than may follow where
 // it could be had after none of those.
 pub fn nearest(pack: &[u8], places: &[u16], p: Context, work: &[u8], slot: usize, h: Hope) -> usize
-    requires { Reckoned pack.now places.now p work.now slot h.whose × (h.left < 256) }
-    ensures { Nearest pack.now places.now p work.now slot h.whose h.left
+    requires { Reckoned pack.now places.now p work.now slot (rules_of h.whose) × (h.left < 256) }
+    ensures { Nearest pack.now places.now p work.now slot (rules_of h.whose) h.left
         h.base result }
 {
-    let rules = places[UTILITIES + h.whose] as usize;
+    let rules = places[UTILITIES + rules_of(h.whose)] as usize;
     let mut lows = [0u8; 24];
     copy_bytes(work, slot + 1, &mut lows, 0, p.fluents, 0);
     let mut highs = lows;
@@ -100,9 +100,9 @@ pub fn within_reach(
     slot: usize,
     h: Hope,
 ) -> bool
-    requires { Reckoned pack.now places.now p work.now slot h.whose × (h.left < 256) }
+    requires { Reckoned pack.now places.now p work.now slot (rules_of h.whose) × (h.left < 256) }
     ensures { result ≡ false
-        → OutOfReach pack.now places.now p work.now slot h.whose h.left
+        → OutOfReach pack.now places.now p work.now slot (rules_of h.whose) h.left
         h.base }
 {
     if h.left < 2 {

@@ -2,8 +2,7 @@
 // slot of the work buffer; the slots behind it are free.
 //
 // Iterative deepening (`deepen`) over a depth-limited search (`completes`). The list is written on the way back from
-// its end, so nothing is put down where there is none; `none` is a utility of 0, since one above another is at least 1.
-// Everybody is asked: the character left out is the number of characters, which no consenter has.
+// its end, so nothing is put down where there is none. Everybody is asked: the character left out is the number of characters, which no consenter has.
 ghost use Rattle.std.specs.Prelude.{◌≡◌, true, false, ◌&&◌, List, ℕ, suc, ◌+◌, ◌*◌, ◌<◌, ◌≤◌, length, get_or};
 ghost use Rattle.pack.specs.Syntax.{Node};
 ghost use Rattle.planner.specs.Inner.Lists.{slot_table, Ends, EndsBy};
@@ -14,27 +13,27 @@ ghost use Rattle.planner.specs.Inner.Search.{Underway, Finds, EndsHere, Outset, 
 ghost use Rattle.planner.specs.Inner.Search.{Layable, LaidStart, ShortestFrom, Seekable, SearchPutFrom};
 ghost use Rattle.planner.specs.Promises.{Searching};
 
-use crate::Found;
+use crate::Ending;
 use crate::bound::can_exceed;
-use crate::entry::{AUTHOR, Deed, Goal, goal_key, recall, remember_worth};
+use crate::entry::{Deed, Goal, goal_key, recall, remember_worth};
 use crate::explain::allowed;
 use crate::intern::{extent, table_in};
+use crate::known::Known;
 use crate::limits::{Context, Foresight, Limits, Nesting, SEASON, Story, laid_out, searchable};
-use crate::prune::{Hope, next_promising};
+use crate::prune::{Hope, promising};
 use crate::reach::{nearest, within_reach};
 use crate::steps::{known_step, steps_made};
+use crate::who::Who;
 use chart::bytes::{clear, copy_part, same_part};
-use chart::call::{WORK_ROOM, both_at_most, check_lent, unless_refused};
+use chart::call::{LIST_ROOM, WORK_ROOM, both_at_most, check_lent};
 use chart::start::{MERGED, merge_table};
 use pack::contents::read_pack;
 use pack::copy::copy_table;
 use pack::judge::utility;
-use pack::number::{Number, wide};
 use pack::places::{PLACES, UTILITIES};
-use pack::refusal::NO_ENDING;
+use pack::refusal::Refusal;
 
-// The list that was found: how many actions it has, and the author's utility at its end; no actions where there is
-// none.
+// The list that was found: how many actions it has, and the author's utility at its end.
 #[derive(Clone, Copy)]
 pub struct Ended {
     pub count: usize,
@@ -58,7 +57,7 @@ pub struct Nodes {
 }
 
 // The author's utility at the end of the earliest list of exactly as many actions as are left, from the state in the
-// slot behind `done` others, that leads to the goal; the list is put down from `done` on. Or 0.
+// slot behind `done` others, that leads to the goal; the list is put down from `done` on.
 #[cycle(completing)]
 pub fn completes(
     pack: &[u8],
@@ -67,7 +66,7 @@ pub fn completes(
     work: &mut [u8],
     list: &mut [u8],
     ahead: Ahead,
-) -> usize
+) -> Option<usize>
     requires { Underway ahead.goal.nesting.0 ahead.goal.base pack.now places.now p work.old
         ahead.done ahead.left × (0 < p.foresight.0) × (p.foresight.0 ≤ 6)
         × Free p (ahead.done * p.stride) (1 + ahead.left + (1 + p.foresight.0) * ahead.goal.nesting.0)
@@ -82,29 +81,28 @@ pub fn completes(
         return ends(pack, places, p, work, slot, goal.base);
     }
     if repeats(work, p, slot, ahead.done) {
-        return 0;
+        return None;
     }
     let hope = Hope {
-        whose: 0,
+        whose: Who::Author,
         left: ahead.left,
         base: goal.base,
     };
     if !within_reach(pack, places, p, work, slot, hope) {
-        return 0;
+        return None;
     }
-    let key = goal_key(goal, ahead.left);
-    if recall(work, p, slot, key) == 3 {
-        return 0;
+    let key = goal_key(Who::Author, goal, ahead.left);
+    if let Some(Known::NoEnding) = recall(work, p, slot, key) {
+        return None;
     }
     let since = steps_made(work, p);
     let fewer = Ahead {
-        done: ahead.done,
         left: ahead.left - 1,
-        goal,
+        ..ahead
     };
     let after = completes_after(pack, places, p, work, list, fewer);
-    if after == 0 {
-        remember_worth(work, p, slot, 3, key, since);
+    if after.is_none() {
+        remember_worth(work, p, slot, Known::NoEnding, key, since);
     }
     after
 }
@@ -118,12 +116,10 @@ pub fn repeats(work: &[u8], p: Context, slot: usize, done: usize) -> bool
         × (result ≡ false → ¬ Repeated p work.now slot done) }
 {
     let n = extent(work, p, slot);
-    let mut i = 0;
-    while i < done {
+    for i in 0..done {
         if same_part(work, slot, i * p.stride, n) {
             return true;
         }
-        i += 1;
     }
     false
 }
@@ -137,7 +133,7 @@ pub fn completes_after(
     work: &mut [u8],
     list: &mut [u8],
     ahead: Ahead,
-) -> usize
+) -> Option<usize>
     requires { Underway ahead.goal.nesting.0 ahead.goal.base pack.now places.now p work.old
         ahead.done (suc ahead.left) × (0 < p.foresight.0) × (p.foresight.0 ≤ 6)
         × Free p (ahead.done * p.stride) (2 + ahead.left + (1 + p.foresight.0) * ahead.goal.nesting.0)
@@ -147,32 +143,40 @@ pub fn completes_after(
         work.new result (λ th. Ends th p.foresight.0 ahead.goal.nesting.0 ahead.goal.base) }
 {
     let slot = ahead.done * p.stride;
-    let actions = p.actions;
     let hope = Hope {
-        whose: 0,
+        whose: Who::Author,
         left: ahead.left,
         base: ahead.goal.base,
     };
-    let mut x = next_promising(pack, places, p, work, slot, 0, hope);
-    while x < actions {
+    let t = table_in(work, p, slot);
+    for x in 0..p.actions {
+        if !promising(pack, places, p, work, t, x, hope) {
+            continue;
+        }
         let after = completes_by(pack, places, p, work, list, ahead, x);
-        if after != 0 {
+        if after.is_some() {
             return after;
         }
-        x = next_promising(pack, places, p, work, slot, x + 1, hope);
     }
-    0
+    None
 }
 
-// The author's utility in the state in a slot where it is above base, or 0.
-pub fn ends(pack: &[u8], places: &[u16], p: Context, work: &[u8], slot: usize, base: usize) -> usize
+// The author's utility in the state in a slot where it is above base.
+pub fn ends(
+    pack: &[u8],
+    places: &[u16],
+    p: Context,
+    work: &[u8],
+    slot: usize,
+    base: usize,
+) -> Option<usize>
     requires { Staged pack.now places.now p work.now (slot_table p work.now slot) (slot + p.stride)
         × Free p slot 1 }
     ensures { EndsHere base pack.now places.now p slot work.now result }
 {
     let t = table_in(work, p, slot);
     let worth = utility(pack, places[UTILITIES] as usize, work, t, 0);
-    if base < worth { worth } else { 0 }
+    if base < worth { Some(worth) } else { None }
 }
 
 // As `completes`, of the lists of one action more that begin with x.
@@ -185,7 +189,7 @@ pub fn completes_by(
     list: &mut [u8],
     ahead: Ahead,
     x: usize,
-) -> usize
+) -> Option<usize>
     requires { Underway ahead.goal.nesting.0 ahead.goal.base pack.now places.now p work.old
         ahead.done (suc ahead.left) × (x < p.actions) × (0 < p.foresight.0) × (p.foresight.0 ≤ 6)
         × Free p (ahead.done * p.stride) (2 + ahead.left + (1 + p.foresight.0) * ahead.goal.nesting.0)
@@ -196,31 +200,24 @@ pub fn completes_by(
 {
     let done = ahead.done;
     let slot = done * p.stride;
-    let goal = ahead.goal;
-    let nesting = goal.nesting;
     let deed = Deed {
         who: p.characters,
-        nesting,
+        nesting: ahead.goal.nesting,
         action: x,
     };
-    let agreed = allowed(pack, places, p, work, slot, deed);
-    if !agreed {
-        return 0;
+    if !allowed(pack, places, p, work, slot, deed) {
+        return None;
     }
-    let number = known_step(pack, places, p, x, work, slot, 0);
-    if number != 0 {
-        return 0;
+    if !known_step(pack, places, p, x, work, slot, 0) {
+        return None;
     }
     let next = Ahead {
         done: done + 1,
-        left: ahead.left,
-        goal,
+        ..ahead
     };
-    let after = completes(pack, places, p, work, list, next);
-    if after != 0 {
-        list[done] = x as u8;
-    }
-    after
+    let after = completes(pack, places, p, work, list, next)?;
+    list[done] = x as u8;
+    Some(after)
 }
 
 // The least length, of 1 to `most` actions, that a list may have which leads the author above base from the state in
@@ -242,15 +239,11 @@ pub fn first_length(
         return 1;
     }
     let hope = Hope {
-        whose: 0,
+        whose: Who::Author,
         left: most,
         base,
     };
-    let near = nearest(pack, places, p, work, 0, hope);
-    if near == 0 {
-        return 1;
-    }
-    near
+    nearest(pack, places, p, work, 0, hope).max(1)
 }
 
 // The shortest list of 1 to `most` actions from the state in the first slot that leads to a goal, and of those the
@@ -264,7 +257,7 @@ pub fn deepen(
     list: &mut [u8],
     g: Goal,
     most: usize,
-) -> Ended
+) -> Option<Ended>
     requires { Outset g.base pack.now places.now p work.old × (0 < p.foresight.0)
         × (p.foresight.0 ≤ 6) × (most ≤ 8) × (8 ≤ length list.old)
         × Free p 0 (1 + most + (1 + p.foresight.0) * g.nesting.0) }
@@ -272,22 +265,20 @@ pub fn deepen(
         list.old list.new work.old work.new result }
 {
     if !can_exceed(pack, places[UTILITIES] as usize, g.base) {
-        return Ended { count: 0, after: 0 };
+        return None;
     }
-    let mut n = first_length(pack, places, p, work, g.base, most);
-    while n <= most {
+    let first = first_length(pack, places, p, work, g.base, most);
+    for n in first..=most {
         let ahead = Ahead {
             done: 0,
             left: n,
             goal: g,
         };
-        let after = completes(pack, places, p, work, list, ahead);
-        if after != 0 {
-            return Ended { count: n, after };
+        if let Some(after) = completes(pack, places, p, work, list, ahead) {
+            return Some(Ended { count: n, after });
         }
-        n += 1;
     }
-    Ended { count: 0, after: 0 }
+    None
 }
 
 // Lays the nodes out in the first slot, merged, and empties the memory behind the slots, in which they may have been
@@ -323,7 +314,7 @@ pub fn search_nodes(
     limits: Limits,
     list: &mut [u8],
     work: &mut [u8],
-) -> Found
+) -> Result<Ending, Refusal>
     requires { Seekable pack.now places.now p nodes.first nodes.count limits.story.0
         p.foresight.0 limits.nesting.0 list.old work.old }
     ensures { SearchPutFrom pack.now places.now p nodes.first nodes.count
@@ -333,18 +324,20 @@ pub fn search_nodes(
     lay_start(pack, nodes, p, work);
     let t = table_in(work, p, 0);
     let base = utility(pack, places[UTILITIES] as usize, work, t, 0);
-    let nesting = limits.nesting;
     let goal = Goal {
-        who: AUTHOR,
-        nesting,
+        nesting: limits.nesting,
         base,
     };
     let found = deepen(pack, places, p, work, list, goal, limits.story.0);
     clear(work, 0, WORK_ROOM);
-    if found.count == 0 {
-        return Found::Refused(NO_ENDING, 0);
+    match found {
+        Some(Ended { count, after }) => Ok(Ending {
+            length: count,
+            before: base,
+            after,
+        }),
+        None => Err(Refusal::NoEnding),
     }
-    Found::Ending(found.count, base, found.after)
 }
 
 // Search(pack, T, K, E, list out, work): the length of the list, which is written, and both utilities, or a refusal's
@@ -356,29 +349,22 @@ pub fn search(
     e: Nesting,
     list: &mut [u8],
     work: &mut [u8],
-) -> Found
+) -> Result<Ending, Refusal>
     ensures { Searching pack.now t.0 k.0 e.0 list.old work.old
         list.new work.new result }
 {
     let mut places = [0u16; PLACES];
-    let p = read_pack(pack, &mut places);
-    let answer = p.answer;
-    let nodes = unless_refused(answer, p.nodes, 0);
-    let enough = both_at_most(8, list.len(), WORK_ROOM, work.len());
-    let there = searchable(t, k, e);
-    match check_lent(nodes, enough, there) {
-        Number::Refused(number, at) => Found::Refused(number, at),
-        Number::Is(_, _) => {
-            let context = laid_out(p, k, 1 + t.0 + (1 + k.0) * e.0);
-            let start = Nodes {
-                first: p.first,
-                count: p.nodes,
-            };
-            let limits = Limits {
-                story: t,
-                nesting: e,
-            };
-            search_nodes(pack, &places, context, start, limits, list, work)
-        }
-    }
+    let p = read_pack(pack, &mut places)?;
+    let enough = both_at_most(LIST_ROOM, list.len(), WORK_ROOM, work.len());
+    check_lent(enough, searchable(t, k, e))?;
+    let context = laid_out(p, k, 1 + t.0 + (1 + k.0) * e.0);
+    let start = Nodes {
+        first: p.first,
+        count: p.nodes,
+    };
+    let limits = Limits {
+        story: t,
+        nesting: e,
+    };
+    search_nodes(pack, &places, context, start, limits, list, work)
 }

@@ -3,21 +3,17 @@
 ghost use Rattle.std.specs.Prelude.{◌≡◌, true, false, ◌+◌, ◌*◌, ◌/◌, ◌<◌, ◌≤◌, length, get_or};
 ghost use Rattle.chart.specs.Call.{work_room};
 ghost use Rattle.planner.specs.Inner.Lists.{slot_table};
-ghost use Rattle.planner.specs.Inner.Memory.{Laid, steps_at, step_at, Before, Kept, Place, StepRead, StepPut};
+ghost use Rattle.planner.specs.Inner.Memory.{Laid, id_byte, Names, steps_at, step_at, Before, Kept, Place, StepRead, StepPut};
 ghost use Rattle.planner.specs.Inner.Memory.{Noted, Slot, Again, LeftNoted, StepOnce, Unasked, Roomy};
 ghost use Rattle.planner.specs.Inner.Explain.{Steppable, Advances};
-ghost use Rattle.transition.specs.Duties.Play.{stop_of};
 ghost use Rattle.transition.specs.Duties.Stage.{scratch_at};
 
-use crate::intern::{has_overflowed, id_of, intern_slot, table_in};
+use crate::intern::{has_overflowed, id_byte, id_in, id_of, intern_slot, table_in};
 use crate::limits::{Context, remainder};
 use crate::regions::{MADE_SINCE, SLOTS, STEPS};
 use chart::bytes::copy_part;
-use pack::number::wide;
-use pack::refusal::CONDITION;
 use pack::table::Table;
 use transition::step::{Move, step_slot};
-use transition::stop::Stop;
 
 // The place of the entry for an action in a row of the table of an id.
 pub fn step_at(p: Context, id: usize, root: usize, action: usize) -> usize
@@ -33,54 +29,54 @@ pub fn step_is(work: &[u8], at: usize, id: usize, root: usize, action: usize) ->
     ensures { (result ≡ true → StepRead work.now at id root action)
         × (result ≡ false → ¬ StepRead work.now at id root action) }
 {
-    if id == 0 {
-        return false;
-    }
-    if wide(work[at]) != id {
-        return false;
-    }
-    if wide(work[at + 1]) != root {
-        return false;
-    }
-    wide(work[at + 2]) == action
+    id != 0
+        && usize::from(work[at]) == id
+        && usize::from(work[at + 1]) == root
+        && usize::from(work[at + 2]) == action
 }
 
-// Puts down the id of what the action leaves, or 0 where it does not play.
-pub fn store_step(work: &mut [u8], at: usize, id: usize, root: usize, action: usize, next: usize)
-    requires { (at + 4 ≤ length work.old) × (id < 256) × (root < 256) × (action < 256) × (next < 256) }
-    ensures { StepPut work.old work.new at id root action next }
+// Puts down the id of what the action leaves, or none where it does not play.
+pub fn store_step(
+    work: &mut [u8],
+    at: usize,
+    id: usize,
+    root: usize,
+    action: usize,
+    next: Option<usize>,
+)
+    requires { (at + 4 ≤ length work.old) × (id < 256) × (root < 256) × (action < 256) × (id_byte next < 256) }
+    ensures { StepPut work.old work.new at id root action (id_byte next) }
 {
     work[at] = id as u8;
     work[at + 1] = root as u8;
     work[at + 2] = action as u8;
-    work[at + 3] = next as u8;
+    work[at + 3] = id_byte(next);
 }
 
 // The same for a table in a slot that has an id.
-pub fn note(work: &mut [u8], p: Context, t: Table, root: usize, action: usize, next: usize)
-    requires { Before p work.old t × (root < 256) × (action < 256) × (next < 256) }
-    ensures { Noted p t root action next work.old work.new }
+pub fn note(work: &mut [u8], p: Context, t: Table, root: usize, action: usize, next: Option<usize>)
+    requires { Before p work.old t × (root < 256) × (action < 256) × (id_byte next < 256) }
+    ensures { Noted p t root action (id_byte next) work.old work.new }
 {
-    let id = wide(work[p.memory + t.rows % SLOTS]);
-    if id != 0 {
+    if let Some(id) = id_in(work[p.memory + t.rows % SLOTS]) {
         let at = step_at(p, id, root, action);
         store_step(work, at, id, root, action, next);
     }
 }
 
-// Copies the table of an id into a slot, or does nothing where it is 0; a refusal's number or 0, as a step.
-pub fn again(work: &mut [u8], p: Context, next: usize, slot: usize) -> u8
-    requires { Slot p work.old slot × (next < 256) × (0 < next → Kept p work.old next) }
-    ensures { Again p next slot work.old work.new result }
+// Copies the table of an id into a slot, if there is one; whether the step plays, as `known_step`.
+pub fn again(work: &mut [u8], p: Context, next: Option<usize>, slot: usize) -> bool
+    requires { Slot p work.old slot × Names next (λ id. (id < 256) × (0 < id → Kept p work.old id)) }
+    ensures { Again p (id_byte next) slot work.old work.new result }
 {
-    if next == 0 {
-        return CONDITION;
-    }
+    let Some(next) = next else {
+        return false;
+    };
     let from = p.tables - p.block + p.block * next;
-    let nodes = wide(work[from]);
+    let nodes = usize::from(work[from]);
     copy_part(work, from, slot, 1 + nodes * (p.fluents + p.characters));
     work[p.memory + (slot + 1) % SLOTS] = next as u8;
-    0
+    true
 }
 
 // Names what a step has left in a slot, and puts the step down.
@@ -90,23 +86,13 @@ pub fn note_left(work: &mut [u8], p: Context, t: Table, root: usize, action: usi
     ensures { LeftNoted p t root action slot work.old work.new }
 {
     work[p.memory + (slot + 1) % SLOTS] = 0;
-    let next = intern_slot(work, p, slot);
-    if next != 0 {
-        note(work, p, t, root, action, next);
+    if let Some(next) = intern_slot(work, p, slot) {
+        note(work, p, t, root, action, Some(next));
     }
 }
 
-// The number of what a step hands back: 0 where nothing stops it.
-fn number_of(step: Result<(), Stop>) -> u8
-    ensures { stop_of step ≡ result }
-{
-    match step {
-        Ok(()) => 0,
-        Err(stop) => stop.number(),
-    }
-}
-
-// As `step_slot`, of what a row of the table in a slot means, into the next slot; it is copied where it is known.
+// Plays an action in what a row of the table in a slot means, into the next slot, and says whether it plays; what it
+// leaves is copied where it is known.
 pub fn kept_step(
     pack: &[u8],
     places: &[u16],
@@ -115,7 +101,7 @@ pub fn kept_step(
     work: &mut [u8],
     slot: usize,
     root: usize,
-) -> u8
+) -> bool
     requires { Steppable pack.now places.now p action work.old (slot_table p work.old slot) root
         (slot + p.stride) }
     ensures { Advances pack.now places.now p action slot root work.old
@@ -124,23 +110,24 @@ pub fn kept_step(
         work.new result }
 {
     let t = table_in(work, p, slot);
-    let id = id_of(work, p, slot);
-    let at = step_at(p, id, root, action);
-    if step_is(work, at, id, root, action) {
-        let next = wide(work[at + 3]);
-        return again(work, p, next, slot + p.stride);
+    if let Some(id) = id_of(work, p, slot) {
+        let at = step_at(p, id, root, action);
+        if step_is(work, at, id, root, action) {
+            let next = id_in(work[at + 3]);
+            return again(work, p, next, slot + p.stride);
+        }
     }
     let m = Move {
         action,
         triggers: p.triggers,
     };
-    let number = number_of(step_slot(pack, places, m, work, t, root, slot + p.stride));
-    if number == 0 {
+    let plays = step_slot(pack, places, m, work, t, root, slot + p.stride).is_ok();
+    if plays {
         note_left(work, p, t, root, action, slot + p.stride);
     } else {
-        note(work, p, t, root, action, 0);
+        note(work, p, t, root, action, None);
     }
-    number
+    plays
 }
 
 // How many steps have been made since there was no room; counted from 0 again after
@@ -150,7 +137,7 @@ pub fn steps_made(work: &[u8], p: Context) -> usize
     ensures { result < 16777216 }
 {
     let at = p.memory + MADE_SINCE;
-    wide(work[at]) + 256 * wide(work[at + 1]) + 65536 * wide(work[at + 2])
+    usize::from(work[at]) + 256 * usize::from(work[at + 1]) + 65536 * usize::from(work[at + 2])
 }
 
 // Counts one more.
@@ -174,7 +161,7 @@ pub fn plain_step(
     work: &mut [u8],
     slot: usize,
     root: usize,
-) -> u8
+) -> bool
     requires { Steppable pack.now places.now p action work.old (slot_table p work.old slot) root
         (slot + p.stride) }
     ensures { Advances pack.now places.now p action slot root work.old
@@ -187,12 +174,12 @@ pub fn plain_step(
         action,
         triggers: p.triggers,
     };
-    let number = number_of(step_slot(pack, places, m, work, t, root, next));
+    let plays = step_slot(pack, places, m, work, t, root, next).is_ok();
     work[p.memory + (next + 1) % SLOTS] = 0;
-    number
+    plays
 }
 
-// The step of what a row of the table in a slot means, into the next slot.
+// Plays an action in what a row of the table in a slot means, into the next slot; whether it plays.
 pub fn known_step(
     pack: &[u8],
     places: &[u16],
@@ -201,7 +188,7 @@ pub fn known_step(
     work: &mut [u8],
     slot: usize,
     root: usize,
-) -> u8
+) -> bool
     requires { Steppable pack.now places.now p action work.old (slot_table p work.old slot) root
         (slot + p.stride) }
     ensures { Advances pack.now places.now p action slot root work.old

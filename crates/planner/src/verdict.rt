@@ -4,16 +4,16 @@ ghost use Rattle.planner.specs.Replies.{foresight_limit, nesting_limit};
 ghost use Rattle.planner.specs.Promises.{Judgement};
 ghost use Rattle.planner.specs.Inner.Explain.{Judgeable, VerdictOf};
 
-use crate::Judged;
 use crate::entry::Deed;
 use crate::explain::explained;
 use crate::limits::{Context, Foresight, Nesting, explainable, laid_out};
 use chart::bytes::clear;
-use chart::call::{WORK_ROOM, check_lent, check_under};
+use chart::call::{WORK_ROOM, check_lent};
 use pack::contents::read_pack;
 use pack::copy::copy_table;
-use pack::number::Number;
+use pack::node::check_chart;
 use pack::places::PLACES;
+use pack::refusal::Refusal;
 
 // Whether the numbers handed to Explained are those of something there.
 pub fn in_range(
@@ -27,15 +27,7 @@ pub fn in_range(
     ensures { result
         ≡ (ltb character characters && (ltb action actions && (foresight_limit k.0 && nesting_limit e.0))) }
 {
-    if character < characters {
-        if action < actions {
-            explainable(k, e)
-        } else {
-            false
-        }
-    } else {
-        false
-    }
+    character < characters && action < actions && explainable(k, e)
 }
 
 // The verdict in a chart of so many nodes. The work buffer is cleared.
@@ -69,27 +61,21 @@ pub fn verdict(
     k: Foresight,
     e: Nesting,
     work: &mut [u8],
-) -> Judged
+) -> Result<bool, Refusal>
     ensures { Judgement pack.now chart.now character action k.0 e.0
         work.old work.new result }
 {
     let mut places = [0u16; PLACES];
-    let p = read_pack(pack, &mut places);
-    let sizes = p.sizes;
-    let answer = p.answer;
-    let nodes = check_under(answer, p.characters, &sizes[..p.fluents], chart);
+    let p = read_pack(pack, &mut places)?;
+    let nodes = check_chart(chart, p.dimensions())?;
     let there = in_range(character, p.characters, action, p.actions, k, e);
-    match check_lent(nodes, WORK_ROOM <= work.len(), there) {
-        Number::Refused(number, at) => Judged::Refused(number, at),
-        Number::Is(n, _) => {
-            let context = laid_out(p, k, 1 + (1 + k.0) * e.0);
-            let deed = Deed {
-                who: character,
-                nesting: e,
-                action,
-            };
-            let verdict = verdict_in(pack, &places, context, chart, n, deed, work);
-            Judged::Verdict(verdict)
-        }
-    }
+    check_lent(WORK_ROOM <= work.len(), there)?;
+    let context = laid_out(p, k, 1 + (1 + k.0) * e.0);
+    let deed = Deed {
+        who: character,
+        nesting: e,
+        action,
+    };
+    let verdict = verdict_in(pack, &places, context, chart, nodes, deed, work);
+    Ok(verdict)
 }

@@ -33,17 +33,11 @@ use Rattle.transition.specs.Answers.{step_table}
 use Rattle.transition.specs.Replies.{outcome_reply}
 use Rattle.transition.specs.Laws.Step.{step_table_lem, step_table_iff}
 use Rattle.pack.specs.declared.refusal.Stop.{Stop}
-use Rattle.pack.specs.declared.refusal.Stop.TheVariants.{Condition, Rounds, States}
 use Rattle.transition.specs.Duties.Play.{Setting, Left, PlayedIn}
 use Rattle.pack.specs.Refusals.{stop_number}
 use Rattle.transition.specs.Laws.Loaded.{read_tabled}
+use Rattle.transition.specs.Laws.Stopped.{stops}
 use Rattle.transition.specs.Inner.Steppable.{Stepping, StepSaid}
-
--- what stops a step has a number, which is not 0
-pub stops : (why : Stop) → stop_number why ≢ 0
-stops Condition e = absurd (omega arith)
-stops Rounds e = absurd (omega arith)
-stops States e = absurd (omega arith)
 
 module _ {p : Theory} {T : List Node} {pack places : List ℕ} {actions triggers action : ℕ} {chart : List ℕ} {nodes f c : ℕ} {out work : List ℕ} (x : Stepping p T pack places actions triggers action chart nodes f c out work) where
   abbrev pub step_from : Table

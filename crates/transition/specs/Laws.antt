@@ -11,3 +11,4 @@ pub mod Missing
 pub mod Met
 pub mod ChangedRows
 pub mod Loaded
+pub mod Stopped

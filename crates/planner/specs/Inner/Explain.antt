@@ -1,5 +1,5 @@
 -- Where the state stands that is asked about, and what is told of it. Assumes nothing.
-use Rattle.std.specs.Prelude.{◌≡◌, Bool, true, false, ◌≢◌, List, ℕ, ◌+◌, ◌*◌, ◌<◌, ◌≤◌, length, get_or}
+use Rattle.std.specs.Prelude.{◌≡◌, Bool, true, false, List, ℕ, ◌+◌, ◌*◌, ◌<◌, ◌≤◌, length, get_or}
 use Rattle.pack.specs.Syntax.{Node, Theory}
 use Rattle.pack.specs.State.{State, meaning, belief}
 use Rattle.pack.specs.Duties.Answer.{dims}
@@ -71,18 +71,18 @@ abbrev pub Steppable : (pack places : List ℕ) (h : Context) (a : ℕ) (work : 
 Steppable pack places h a work t root slot =
     Prepared pack places h work t slot × (a < h.actions) × (root < t.nodes) × Free h slot 1
 
--- a step into the first free slot: what it leaves stands there, or it does not play
+-- a step into the first free slot, and the flag r that it plays: what it leaves stands there, or it does not play
 pub record Advanced (p : Theory) (foresight : ℕ) (h : Context) (z : State) (a : ℕ) (t : Table) (was now : List ℕ)
-    (slot r : ℕ) : Type 0 where
-  pub plays : r ≡ 0 → (s : State) × Plays p z a s × Left s t now slot
-  pub none : r ≢ 0 → (s : State) → Plays p z a s → ⊥
+    (slot : ℕ) (r : Bool) : Type 0 where
+  pub plays : r ≡ true → (s : State) × Plays p z a s × Left s t now slot
+  pub none : r ≡ false → (s : State) → Plays p z a s → ⊥
   pub low : table.Below was now slot
   pub high : table.Above was now work_room
   pub memory : Memory p foresight h slot now
-  pub further : r ≡ 0 → Memory p foresight h (slot + h.stride) now
+  pub further : r ≡ true → Memory p foresight h (slot + h.stride) now
 
 -- a step of what row `root` of the table in a slot means, into the slot behind it
-abbrev pub Advances : (pack places : List ℕ) (h : Context) (a slot root : ℕ) (work work' : List ℕ) (r : ℕ) → Type 0
+abbrev pub Advances : (pack places : List ℕ) (h : Context) (a slot root : ℕ) (work work' : List ℕ) (r : Bool) → Type 0
 Advances pack places h a slot root work work' r =
     (th : Theory) (T : List Node) → Stage th T pack places h work (slot_table h work slot) (slot + h.stride)
     → Memory th h.foresight.0 h (slot + h.stride) work

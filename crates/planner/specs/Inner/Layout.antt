@@ -14,7 +14,7 @@ entries actions room = pick (ltb actions 12) 256 (pick (ltb room 24000) 512 1024
 
 -- the room behind so many slots
 abbrev pub room_behind : Contents → (slots : ℕ) → ℕ
-room_behind c slots = scratch_at - slots * slot_room (c.fluents + c.characters)
+room_behind c slots = scratch_at - slots * slot_room (c.domains.fluents + c.characters)
 
 -- so many slots for tables of a pack's width; of what is left, behind the memory's entries, 255 blocks for tables
 abbrev pub laid_out : Contents → Foresight → (slots : ℕ) → Context
@@ -22,13 +22,13 @@ laid_out c k slots =
     record {
       actions = c.actions;
       triggers = c.triggers;
-      fluents = c.fluents;
+      fluents = c.domains.fluents;
       characters = c.characters;
       foresight = k;
-      stride = slot_room (c.fluents + c.characters);
-      memory = slots * slot_room (c.fluents + c.characters);
+      stride = slot_room (c.domains.fluents + c.characters);
+      memory = slots * slot_room (c.domains.fluents + c.characters);
       lists = entries c.actions (room_behind c slots);
       tables =
-          slots * slot_room (c.fluents + c.characters) + 436 + 9 * entries c.actions (room_behind c slots);
+          slots * slot_room (c.domains.fluents + c.characters) + 436 + 9 * entries c.actions (room_behind c slots);
       block = (room_behind c slots - 436 - 9 * entries c.actions (room_behind c slots)) / 255;
     }

@@ -11,8 +11,6 @@ use Rattle.pack.specs.declared.table.Table.{Table}
 use Rattle.chart.specs.Call.{work_room}
 use Rattle.transition.specs.Happening.{Plays}
 use Rattle.transition.specs.Duties.Play.{Theorized}
-use Rattle.planner.specs.declared.limits.Context.{Context}
-use Rattle.planner.specs.Inner.Lists.{slot_table}
 use Rattle.planner.specs.Inner.Range.{Wider, TriggersInRange}
 
 -- a range for each fluent that a pack may have
@@ -62,19 +60,3 @@ abbrev pub Hopeless : (pack places : List ℕ) (triggers a : ℕ) (work : List �
 Hopeless pack places triggers a work t whose left base =
     (p : Theory) → Trial p pack places triggers a work t → (s : State) → Plays p (state_of t work 0) a s
     → (left ≡ 0) × (utility s (get_or p.utilities whose []) ≤ base)
-
--- every action may be tried in the state in a slot
-pub record Trying (pack places : List ℕ) (h : Context) (work : List ℕ) (slot whose : ℕ) : Type 0 where
-  pub before : slot + h.stride ≤ h.memory
-  pub behind : h.memory ≤ work_room
-  pub some : 0 < h.stride
-  pub room : work_room ≤ length work
-  pub narrow : h.fluents + h.characters ≤ 30
-  pub each : (a : ℕ) → a < h.actions → Tryable pack places h.triggers a work (slot_table h work slot) whose
-
--- those from x up to r are hopeless there
-pub record Skipped (pack places : List ℕ) (h : Context) (work : List ℕ) (slot whose left base x r : ℕ) : Type 0 where
-  pub from : x ≤ r
-  pub few : r ≤ h.actions
-  pub hopeless : (a : ℕ) → x ≤ a → a < r
-      → Hopeless pack places h.triggers a work (slot_table h work slot) whose left base

@@ -1,7 +1,7 @@
 -- What is known of states, behind the slots: tables that are kept, each under a number that is its id, and
 -- what is known of steps and lists by these ids; once there was no room, cells that hold both. Every entry and every
 -- cell is true, whatever it is replaced by. Assumes nothing.
-use Rattle.std.specs.Prelude.{◌≡◌, ◌≢◌, ◌⊎◌, List, ℕ, zero, suc, ◌+◌, ◌*◌, ◌-◌, ◌/◌, ◌%◌, ◌<◌, ◌≤◌, length, get_or}
+use Rattle.std.specs.Prelude.{◌≡◌, ◌≢◌, Bool, true, false, Option, Some, None, IfSome, ◌⊎◌, List, ℕ, zero, suc, ◌+◌, ◌*◌, ◌-◌, ◌/◌, ◌%◌, ◌<◌, ◌≤◌, length, get_or}
 use Rattle.pack.specs.Syntax.{Theory}
 use Rattle.pack.specs.State.{State}
 use Rattle.pack.specs.Duties.Table as table
@@ -11,6 +11,8 @@ use Rattle.chart.specs.Chart.{Starts}
 use Rattle.chart.specs.Laws.Sums.{sum_of}
 use Rattle.transition.specs.Happening.{Plays}
 use Rattle.planner.specs.declared.limits.Context.{Context}
+use Rattle.planner.specs.declared.who.Who.{Who}
+use Rattle.planner.specs.Inner.Who.{key_of}
 use Rattle.planner.specs.declared.entry.Goal.{Goal}
 use Rattle.planner.specs.declared.entry.Deed.{Deed}
 use Rattle.planner.specs.declared.entry.Key.{Key}
@@ -60,6 +62,15 @@ facts_at h = h.memory + 436 + 2 * h.lists
 
 abbrev pub tables_at : Context → ℕ
 tables_at h = h.memory + 436 + 9 * h.lists
+
+-- the number that a byte keeps an id as, 0 for none
+abbrev pub id_byte : Option ℕ → ℕ
+id_byte None = 0
+id_byte (Some n) = n
+
+-- an id, from 1 on, or none, and what is said of the number that it is kept as
+abbrev pub Names : Option ℕ → (ℕ → Type 0) → Type 0
+Names id P = IfSome id (λ n. 0 < n) × P (id_byte id)
 
 -- the table of an id begins with a block, that of 1 with the first
 abbrev pub kept_at : Context → ℕ → ℕ
@@ -130,8 +141,8 @@ pub record StepFact (p : Theory) (h : Context) (work : List ℕ) (n root a next 
 
 -- what is known of the lists of so many actions to a goal, and of a deed by the belief that a row means, is found by
 -- these
-abbrev pub goal_key : Goal → ℕ → Key
-goal_key g left = record { who = g.who; nesting = g.nesting.0; number = left; base = g.base }
+abbrev pub goal_key : Who → Goal → ℕ → Key
+goal_key whose g left = record { who = key_of whose; nesting = g.nesting.0; number = left; base = g.base }
 
 abbrev pub deed_key : Deed → (row : ℕ) → Key
 deed_key d row = record { who = d.who; nesting = d.nesting.0; number = d.action; base = row }
@@ -402,19 +413,19 @@ pub record Slot (h : Context) (work : List ℕ) (slot : ℕ) : Type 0 where
   pub is : slot ≡ h.stride * number
   pub room : work_room ≤ length work
 
--- the table of an id stands in it, as after a step that plays; from the memory on only the slot's id is written, so no
+-- the table of an id stands in it, as after a step that plays, and the flag r says so; from the memory on only the slot's id is written, so no
 -- step is made
-pub record Again (h : Context) (next slot : ℕ) (was now : List ℕ) (r : ℕ) : Type 0 where
-  pub refused : r ≢ 0 → next ≡ 0
-  pub named : r ≡ 0 → slot_id h now (slot_table h now slot) ≡ next
+pub record Again (h : Context) (next slot : ℕ) (was now : List ℕ) (r : Bool) : Type 0 where
+  pub refused : r ≡ false → next ≡ 0
+  pub named : r ≡ true → slot_id h now (slot_table h now slot) ≡ next
   pub others : (q : ℕ) → h.memory ≤ q → q ≢ id_at h (slot + 1) → get_or now q 0 ≡ get_or was q 0
-  pub played : r ≡ 0
+  pub played : r ≡ true
       → (0 < next) × (table.table_of (slot_table h now slot) now ≡ table.table_of (kept_table h was next) was)
       × (get_or now slot 0 ≤ 32)
   pub low : table.Below was now slot
   pub high : table.Above was now work_room
   pub memory : (p : Theory) (foresight : ℕ) → Memory p foresight h slot was
-      → Memory p foresight h slot now × (r ≡ 0 → Memory p foresight h (slot + h.stride) now)
+      → Memory p foresight h slot now × (r ≡ true → Memory p foresight h (slot + h.stride) now)
 
 -- what a step has left in it is known, and the step where both tables have ids
 pub record LeftNoted (h : Context) (t : Table) (root a slot : ℕ) (was now : List ℕ) : Type 0 where
@@ -427,13 +438,13 @@ pub record LeftNoted (h : Context) (t : Table) (root a slot : ℕ) (was now : Li
       × Starts h.characters s (table.table_of (slot_table h was slot) was))
       → Memory p foresight h (slot + h.stride) now
 
--- a step from a row of a table into a slot: one that is known is repeated, and any is known afterwards where the tables
+-- a step from a row of a table into a slot, where the flag r says that it plays: one that is known is repeated, and any is known afterwards where the tables
 -- before and after it have ids
-pub record StepOnce (h : Context) (t : Table) (root a slot : ℕ) (was now : List ℕ) (r : ℕ) : Type 0 where
+pub record StepOnce (h : Context) (t : Table) (root a slot : ℕ) (was now : List ℕ) (r : Bool) : Type 0 where
   pub again : (next : ℕ) → StepKnown h was t root a next → Again h next slot was now r
-  pub kept : r ≡ 0 → Roomy h now → Fits h (slot_table h now slot) → 0 < slot_id h now (slot_table h now slot)
-  pub refused : r ≢ 0 → 0 < slot_id h now t → StepKnown h now t root a 0
-  pub played : r ≡ 0 → 0 < slot_id h now t → 0 < slot_id h now (slot_table h now slot)
+  pub kept : r ≡ true → Roomy h now → Fits h (slot_table h now slot) → 0 < slot_id h now (slot_table h now slot)
+  pub refused : r ≡ false → 0 < slot_id h now t → StepKnown h now t root a 0
+  pub played : r ≡ true → 0 < slot_id h now t → 0 < slot_id h now (slot_table h now slot)
       → StepKnown h now t root a (slot_id h now (slot_table h now slot))
 
 -- a bucket: four cells, one behind the other

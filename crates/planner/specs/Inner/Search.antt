@@ -1,5 +1,5 @@
 -- The author's list search: what is put down, and what it means. Assumes nothing.
-use Rattle.std.specs.Prelude.{ℕ, ◌+◌, ◌*◌, ◌-◌, ◌<◌, ◌≤◌, ◌≡◌, List, length, get_or}
+use Rattle.std.specs.Prelude.{ℕ, ◌+◌, ◌*◌, ◌-◌, ◌<◌, ◌≤◌, ◌≡◌, List, length, get_or, Option, Some, None, Result}
 use Rattle.pack.specs.Syntax.{Node, Theory}
 use Rattle.pack.specs.State.{State, meaning}
 use Rattle.pack.specs.Reading.{told}
@@ -9,7 +9,8 @@ use Rattle.chart.specs.Chart.{Written, Starts}
 use Rattle.chart.specs.Earliest.{Before}
 use Rattle.chart.specs.Duties.Look.{NodesFrom}
 use Rattle.transition.specs.Duties.Play.{Theorized}
-use Rattle.planner.specs.declared.Found.{Found}
+use Rattle.pack.specs.declared.refusal.Refusal.{Refusal}
+use Rattle.planner.specs.declared.Ending as found
 use Rattle.planner.specs.declared.limits.Context.{Context}
 use Rattle.planner.specs.declared.search.Ended.{Ended}
 use Rattle.planner.specs.Search.{Answer, Searched}
@@ -32,13 +33,13 @@ pub record Chosen (Good : List ℕ → ℕ → Type 0) (n : ℕ) (list : List �
   pub good : Good list r
   pub earliest : (other : List ℕ) (v : ℕ) → length other ≡ n → Good other v → ¬ Before other list
 
--- the earliest of the good lists of n actions is put down, and the utility at its end is r; or r is 0, there is none,
--- and nothing is put down. Bytes of the work buffer before the free slots, and behind the memory, are as they were, and
+-- the earliest of the good lists of n actions is put down, and r is the utility at its end; or r is none, there is no
+-- such list, and nothing is put down. Bytes of the work buffer before the free slots, and behind the memory, are as they were, and
 -- of what is in the memory M holds
 pub record Best (M : List ℕ → Type 0) (Good : List ℕ → ℕ → Type 0) (n : ℕ) (was now : List ℕ) (done : ℕ) (slot : ℕ)
-    (work work' : List ℕ) (r : ℕ) : Type 0 where
-  pub none : r ≡ 0 → (now ≡ was) × ((list : List ℕ) (v : ℕ) → length list ≡ n → ¬ Good list v)
-  pub some : 0 < r → (list : List ℕ) × Chosen Good n list r × Put was now done list
+    (work work' : List ℕ) (r : Option ℕ) : Type 0 where
+  pub none : r ≡ None → (now ≡ was) × ((list : List ℕ) (v : ℕ) → length list ≡ n → ¬ Good list v)
+  pub some : (v : ℕ) → r ≡ Some v → (list : List ℕ) × Chosen Good n list v × Put was now done list
   pub low : Below work work' slot
   pub high : Above work work' work_room
   pub memory : M work'
@@ -74,7 +75,7 @@ Underway e base pack places h work n left =
 -- asked of the last state of the path, behind n others, where what is known is true: r is the utility at the end of the
 -- earliest good list of `left` actions, which is put down
 abbrev pub Finds : (nesting base : ℕ) (pack places : List ℕ) (h : Context) (n left : ℕ)
-    (was now work work' : List ℕ) (r : ℕ) (Good : Theory → State → List ℕ → ℕ → Type 0)
+    (was now work work' : List ℕ) (r : Option ℕ) (Good : Theory → State → List ℕ → ℕ → Type 0)
     → Type 0
 Finds e base pack places h n left was now work work' r Good =
     (th : Theory) (T : List Node)
@@ -84,12 +85,13 @@ Finds e base pack places h n left was now work work' r Good =
     → Best (Memory th h.foresight.0 h (n * h.stride + h.stride)) (Good th (meaning h.characters T 0)) left
     was now n (n * h.stride + h.stride) work work' r
 
--- the author's utility in the state in a slot where it is above base, or 0
-abbrev pub EndsHere : (base : ℕ) (pack places : List ℕ) (h : Context) (slot : ℕ) (work : List ℕ) (r : ℕ) → Type 0
+-- the author's utility in the state in a slot where it is above base
+abbrev pub EndsHere : (base : ℕ) (pack places : List ℕ) (h : Context) (slot : ℕ) (work : List ℕ) (r : Option ℕ)
+    → Type 0
 EndsHere base pack places h slot work r =
     (th : Theory) (T : List Node) → Stage th T pack places h work (slot_table h work slot) (slot + h.stride)
-    → (base < author_utility th (meaning h.characters T 0) → r ≡ author_utility th (meaning h.characters T 0))
-    × (author_utility th (meaning h.characters T 0) ≤ base → r ≡ 0)
+    → (base < author_utility th (meaning h.characters T 0) → r ≡ Some (author_utility th (meaning h.characters T 0)))
+    × (author_utility th (meaning h.characters T 0) ≤ base → r ≡ None)
 
 -- a stage with a written chart and a memory, and the author's utility there is at most base
 abbrev pub Outset : (base : ℕ) (pack places : List ℕ) (h : Context) (work : List ℕ) → Type 0
@@ -104,21 +106,22 @@ abbrev pub Repeated : (h : Context) (work : List ℕ) (slot n : ℕ) → Type 0
 Repeated h work slot n =
     (i : ℕ) × (i < n) × (state_of (slot_table h work (i * h.stride)) work 0 ≡ state_of (slot_table h work slot) work 0)
 
--- the shortest of the good lists of 1 to T actions, and of those the earliest, is put down; or its length is 0, there
--- is none, and nothing is put down
+-- the shortest of the good lists of 1 to T actions, and of those the earliest, is put down; or r is none, there is no
+-- such list, and nothing is put down
 pub record Shortest (h : Context) (Good : List ℕ → ℕ → Type 0) (story : ℕ) (was now work work' : List ℕ)
-    (r : Ended) : Type 0 where
-  pub none : r.count ≡ 0
+    (r : Option Ended) : Type 0 where
+  pub none : r ≡ None
       → (now ≡ was) × ((list : List ℕ) (v : ℕ) → 0 < length list → length list ≤ story → ¬ Good list v)
-  pub some : 0 < r.count → (list : List ℕ) × Chosen Good r.count list r.after × Put was now 0 list
-  pub within : r.count ≤ story
-  pub shortest : (other : List ℕ) (v : ℕ) → 0 < length other → length other < r.count → ¬ Good other v
+  pub some : (e : Ended) → r ≡ Some e → (list : List ℕ) × Chosen Good e.count list e.after × Put was now 0 list
+  pub within : (e : Ended) → r ≡ Some e → (0 < e.count) × (e.count ≤ story)
+  pub shortest : (e : Ended) → r ≡ Some e
+      → (other : List ℕ) (v : ℕ) → 0 < length other → length other < e.count → ¬ Good other v
   pub low : Below work work' (0 + h.stride)
   pub high : Above work work' work_room
 
 -- of the state in the first slot
 abbrev pub ShortestFrom : (story nesting base : ℕ) (pack places : List ℕ) (h : Context)
-    (was now work work' : List ℕ) (r : Ended)
+    (was now work work' : List ℕ) (r : Option Ended)
     → Type 0
 ShortestFrom T e base pack places h was now work work' r =
     (th : Theory) (table : List Node) → Stage th table pack places h work (slot_table h work 0) (0 + h.stride)
@@ -168,7 +171,7 @@ Seekable pack places h first nodes story foresight nesting list work =
 
 -- the answer that is true of the state is given, its list put down, and the work buffer cleared
 pub record SearchPut (th : Theory) (story foresight nesting : ℕ) (s : State) (list list' work work' : List ℕ)
-    (r : Found) : Type 0 where
+    (r : Result found.Ending Refusal) : Type 0 where
   pub answer : Answer
   pub is_so : Searched th story foresight nesting s answer
   pub said : search_said r ≡ told summary (answer_reply answer)
@@ -177,7 +180,7 @@ pub record SearchPut (th : Theory) (story foresight nesting : ℕ) (s : State) (
 
 -- the same, from what node 0 means of the nodes that are read from a place on
 abbrev pub SearchPutFrom : (pack places : List ℕ) (h : Context) (first nodes story foresight nesting : ℕ)
-    (list list' work work' : List ℕ) (r : Found)
+    (list list' work work' : List ℕ) (r : Result found.Ending Refusal)
     → Type 0
 SearchPutFrom pack places h first nodes story foresight nesting list list' work work' r =
     (th : Theory) (T : List Node) → Seeking th T pack places h first nodes story foresight nesting list work

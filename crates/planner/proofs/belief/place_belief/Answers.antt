@@ -38,7 +38,7 @@ has_overflowed-requires c =
 pub lay_belief-requires : goal.lay_belief-requires
 lay_belief-requires c =
     let (pack, (places, (th, (T, (x, m))))) = c.requires.0 in
-    let row = stage_believed x 0 c.args.c x.tabled.some c.requires.1 (ap (λ (q : ℕ). get_or c.args.work.now q 0) (omega arith) ∙ c.wide-row.ensures) in
+    let row = stage_believed x 0 c.args.c x.tabled.some c.requires.1 (ap (λ (q : ℕ). get_or c.args.work.now q 0) (omega arith) ∙ sym c.from-row.ensures) in
     (c.requires.0, row.1, c.requires.2)
 
 pub overflow_add-result : goal.overflow_add-result
@@ -52,11 +52,11 @@ shape_of-work-then-has_overflowed c = c.lay_belief.auto.work
 pub returns-then-has_overflowed : goal.returns-then-has_overflowed
 returns-then-has_overflowed c =
     λ pack places th T x m.
-    let row = stage_believed x 0 c.args.c x.tabled.some c.requires.1 (ap (λ (q : ℕ). get_or c.args.work.now q 0) (omega arith) ∙ c.wide-row.ensures) in
+    let row = stage_believed x 0 c.args.c x.tabled.some c.requires.1 (ap (λ (q : ℕ). get_or c.args.work.now q 0) (omega arith) ∙ sym c.from-row.ensures) in
     subst (λ (b : State). BeliefAt th c.args.p.foresight.0 c.args.p pack places b c.args.work.now c.lay_belief.new.work c.args.slot (c.args.slot + c.args.p.stride) 0) (sym row.0) (c.lay_belief.ensures pack places th T x m)
 
 pub returns : goal.returns
 returns c =
     λ pack places th T x m.
-    let row = stage_believed x 0 c.args.c x.tabled.some c.requires.1 (ap (λ (q : ℕ). get_or c.args.work.now q 0) (omega arith) ∙ c.wide-row.ensures) in
+    let row = stage_believed x 0 c.args.c x.tabled.some c.requires.1 (ap (λ (q : ℕ). get_or c.args.work.now q 0) (omega arith) ∙ sym c.from-row.ensures) in
     belief_here c.args.slot x c.requires.2 row.1 (sym row.0) m

@@ -6,12 +6,16 @@ use Rattle.planner.proofs.Chains.{table_moved}
 use Rattle.planner.proofs.SameBytes.{table_bytes}
 use Rattle.planner.proofs.TrueMemory.{unset, table_size}
 use Rattle.planner.proofs.cell.cell_has.Goals as goal
+use Rattle.planner.proofs.cell.cell_has.Goals.{then-work-at-eq0-via-then-work-at-eq0, then-work-at-eq0-via-else-work-at-eq0+then-not-keyed}
 
 pub returns-then-work-at-eq0 : goal.returns-then-work-at-eq0
-returns-then-work-at-eq0 c = (unset, λ _ x. omega (arith, x.some, c.if-work-at-eq0.true))
-
-pub returns-then-not-keyed : goal.returns-then-not-keyed
-returns-then-not-keyed c = (unset, λ _ x. c.keyed.ensures.1 (c.if-not-keyed.true) x.key)
+returns-then-work-at-eq0 c = (
+  unset,
+  λ _ x. elim c.then-work-at-eq0.branch [
+    | then-work-at-eq0-via-then-work-at-eq0 w ↦ omega (arith, x.some, w.if-work-at-eq0.true)
+    | then-work-at-eq0-via-else-work-at-eq0+then-not-keyed w ↦ w.keyed.ensures.1 w.if-not-keyed.true x.key
+  ],
+)
 
 pub same_part-requires : goal.same_part-requires
 same_part-requires c =

@@ -7,6 +7,7 @@ use native.Mathlib.Omega.{arith}
 use lib.ListN.{get_or}
 use Rattle.planner.specs.Inner.Memory.{Holds, cell_size, bucket_at}
 use Rattle.planner.proofs.CellMemory.{way_room}
+use Rattle.planner.proofs.TrueMemory.{unmarked}
 use Rattle.planner.proofs.cell.recall_cell.Goals as goal
 
 pub bucket_at-first-requires : goal.bucket_at-first-requires
@@ -16,60 +17,50 @@ pub cell_size-size-requires : goal.cell_size-size-requires
 cell_size-size-requires c = c.requires.laid.narrow
 
 pub loop-i-init : goal.loop-i-init
-loop-i-init c = (omega arith, λ j l. absurd (omega (arith, l)))
+loop-i-init c = λ j l. absurd (omega (arith, l))
 
-pub overflow_mul-i : goal.overflow_mul-i
-overflow_mul-i c =
+pub overflow_mul-at : goal.overflow_mul-at
+overflow_mul-at c =
     omega (arith, way_room c.args.p c.requires.laid c.bucket_at-first.ensures.1 c.cell_size-size.ensures c.loop-i-test.true)
 
-pub overflow_add-first : goal.overflow_add-first
-overflow_add-first c =
+pub overflow_add-at : goal.overflow_add-at
+overflow_add-at c =
     omega (arith, way_room c.args.p c.requires.laid c.bucket_at-first.ensures.1 c.cell_size-size.ensures c.loop-i-test.true)
 
 pub cell_has-requires : goal.cell_has-requires
 cell_has-requires c =
     (c.requires, (way_room c.args.p c.requires.laid c.bucket_at-first.ensures.1 c.cell_size-size.ensures c.loop-i-test.true).1)
 
-pub overflow_mul-result : goal.overflow_mul-result
-overflow_mul-result c =
-    omega (arith, way_room c.args.p c.requires.laid c.bucket_at-first.ensures.1 c.cell_size-size.ensures c.loop-i-test.true)
-
-pub overflow_add-result : goal.overflow_add-result
-overflow_add-result c =
-    omega (arith, way_room c.args.p c.requires.laid c.bucket_at-first.ensures.1 c.cell_size-size.ensures c.loop-i-test.true)
-
-pub bounds-work-first : goal.bounds-work-first
-bounds-work-first c =
+pub bounds-work-at : goal.bounds-work-at
+bounds-work-at c =
     omega (arith, c.requires.room, way_room c.args.p c.requires.laid c.bucket_at-first.ensures.1 c.cell_size-size.ensures c.loop-i-test.true)
 
 pub returns-then-cell_has : goal.returns-then-cell_has
 returns-then-cell_has c =
     let here : c.bucket_at-first.result + c.loop-i.i * c.cell_size-size.result ≡ bucket_at c.args.p c.args.work.now c.args.slot c.args.k + c.loop-i.i * cell_size c.args.p = ap (λ (s : ℕ). c.bucket_at-first.result + c.loop-i.i * s) c.cell_size-size.ensures ∙ ap (λ (q : ℕ). q + c.loop-i.i * cell_size c.args.p) c.bucket_at-first.ensures.0 in
-    let holds = c.cell_has.ensures.0 c.if-cell_has.true in
-    record {
-      found = λ _. (c.loop-i.i, c.loop-i-test.true, subst (λ (q : ℕ). Holds c.args.p c.args.work.now c.args.slot q c.args.k) here holds, ap (λ (q : ℕ). get_or c.args.work.now q 0) (sym here));
-      none = λ e. absurd (omega (arith, e, holds.some));
-    }
-
-pub overflow_add-i : goal.overflow_add-i
-overflow_add-i c = omega (arith, c.loop-i-test.true)
-
-pub loop-i-smaller : goal.loop-i-smaller
-loop-i-smaller c = omega (arith, c.loop-i-test.true)
+    let holds = c.cell_has.ensures.0 c.if-cell_has.true in (
+      _,
+      c.known_of.ensures,
+      record {
+        found = λ _. (c.loop-i.i, c.loop-i-test.true, subst (λ (q : ℕ). Holds c.args.p c.args.work.now c.args.slot q c.args.k) here holds, ap (λ (q : ℕ). get_or c.args.work.now q 0) (sym here));
+        none = λ e. absurd (omega (arith, e, holds.some));
+      },
+    )
 
 pub loop-i-preserved : goal.loop-i-preserved
-loop-i-preserved c = (
-  omega (arith, c.loop-i-test.true),
-  λ j g. by_cases (ℕ_discrete j c.loop-i.i)
-      (λ e. subst (λ (j : ℕ). ¬ Holds c.args.p c.args.work.now c.args.slot (c.bucket_at-first.result + j * c.cell_size-size.result) c.args.k) (sym e) (c.cell_has.ensures.1 c.if-cell_has.false))
-      (λ n. c.loop-i.invariant.1 j (omega (arith, g, n))),
-)
+loop-i-preserved c =
+    λ j g. by_cases (ℕ_discrete j c.loop-i.i)
+    (λ e. subst (λ (j : ℕ). ¬ Holds c.args.p c.args.work.now c.args.slot (c.bucket_at-first.result + j * c.cell_size-size.result) c.args.k) (sym e) (c.cell_has.ensures.1 c.if-cell_has.false))
+    (λ n. c.loop-i.invariant j (omega (arith, g, n)))
 
 pub returns : goal.returns
-returns c =
-    record {
-      found = λ z. absurd (omega (arith, z));
-      none = λ _ i few x.
-          let here : bucket_at c.args.p c.args.work.now c.args.slot c.args.k + i * cell_size c.args.p ≡ c.bucket_at-first.result + i * c.cell_size-size.result = ap (λ (q : ℕ). q + i * cell_size c.args.p) (sym c.bucket_at-first.ensures.0) ∙ ap (λ (s : ℕ). c.bucket_at-first.result + i * s) (sym c.cell_size-size.ensures) in
-          c.loop-i.invariant.1 i (omega (arith, few, c.loop-i.invariant.0, c.loop-i-test.false)) (subst (λ (q : ℕ). Holds c.args.p c.args.work.now c.args.slot q c.args.k) here x);
-    }
+returns c = (
+  0,
+  unmarked,
+  record {
+    found = λ z. absurd (omega (arith, z));
+    none = λ _ i few x.
+        let here : bucket_at c.args.p c.args.work.now c.args.slot c.args.k + i * cell_size c.args.p ≡ c.bucket_at-first.result + i * c.cell_size-size.result = ap (λ (q : ℕ). q + i * cell_size c.args.p) (sym c.bucket_at-first.ensures.0) ∙ ap (λ (s : ℕ). c.bucket_at-first.result + i * s) (sym c.cell_size-size.ensures) in
+        c.loop-i.invariant i (omega (arith, few, c.loop-i-test.false)) (subst (λ (q : ℕ). Holds c.args.p c.args.work.now c.args.slot q c.args.k) here x);
+  },
+)

@@ -7,12 +7,12 @@ use Rattle.planner.proofs.TrueMemory.{remembered, notes, remembered_none}
 use Rattle.planner.proofs.entry.remember.Goals as goal
 
 pub entry_at-at-requires : goal.entry_at-at-requires
-entry_at-at-requires c = (c.requires.laid, c.id_of-id.ensures.interning.small)
+entry_at-at-requires c = (c.requires.laid, c.in-Some.ensures.1.interning.small)
 
 pub put_key-requires : goal.put_key-requires
 put_key-requires c =
     let s = c.storable.ensures.0 c.if-storable.true in
-    (omega (arith, c.entry_at-at.ensures.1.is, c.entry_at-at.ensures.1.few, c.id_of-id.auto.work, c.requires.room, c.requires.laid.room), s.who, s.nesting, s.number, s.base)
+    (omega (arith, c.entry_at-at.ensures.1.is, c.entry_at-at.ensures.1.few, c.id_of.auto.work, c.requires.room, c.requires.laid.room), s.who, s.nesting, s.number, s.base)
 
 pub overflow_add-work : goal.overflow_add-work
 overflow_add-work c =
@@ -20,18 +20,22 @@ overflow_add-work c =
 
 pub bounds-work-at : goal.bounds-work-at
 bounds-work-at c =
-    omega (arith, c.entry_at-at.ensures.1.is, c.entry_at-at.ensures.1.few, c.id_of-id.auto.work, c.put_key.auto.work, c.requires.room, c.requires.laid.room)
+    omega (arith, c.entry_at-at.ensures.1.is, c.entry_at-at.ensures.1.few, c.id_of.auto.work, c.put_key.auto.work, c.requires.room, c.requires.laid.room)
 
 pub shape_of-work-then-storable : goal.shape_of-work-then-storable
 shape_of-work-then-storable c =
-    length-set c.put_key.new.work (c.entry_at-at.result + 6) c.id_of-id.result ∙ c.put_key.auto.work ∙ c.id_of-id.auto.work
+    length-set c.put_key.new.work (c.entry_at-at.result + 6) c.in-Some.id ∙ c.put_key.auto.work ∙ c.id_of.auto.work
 
 pub returns-then-storable : goal.returns-then-storable
 returns-then-storable c =
     let some = (c.storable.ensures.0 c.if-storable.true).some in
     let (at, place) = c.entry_at-at.ensures in
-    (remembered c.args.p c.requires c.id_of-id.auto.work c.put_key.auto.work c.id_of-id.ensures some at place c.put_key.ensures, notes c.args.p c.requires c.id_of-id.auto.work c.put_key.auto.work c.id_of-id.ensures some at place c.put_key.ensures)
+    (remembered c.args.p c.requires c.id_of.auto.work c.put_key.auto.work c.in-Some.ensures.1 some at place c.put_key.ensures, notes c.args.p c.requires c.id_of.auto.work c.put_key.auto.work c.in-Some.ensures.1 some at place c.put_key.ensures)
+
+pub returns-in_default : goal.returns-in_default
+returns-in_default c =
+    remembered_none c.args.p c.requires c.in_default.ensures.1 (λ s. omega (arith, s.some))
 
 pub returns-else-storable : goal.returns-else-storable
 returns-else-storable c =
-    remembered_none c.args.p c.requires c.id_of-id.ensures (c.storable.ensures.1 c.if-storable.false)
+    remembered_none c.args.p c.requires c.in-Some.ensures.1 (c.storable.ensures.1 c.if-storable.false)

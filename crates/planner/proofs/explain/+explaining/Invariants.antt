@@ -1,5 +1,5 @@
 -- Explanations over states in slots. Assumes nothing.
-use Prim.Native.Nat.{ℕ, suc, ◌+◌, ◌*◌, ◌-◌, ◌<◌}
+use Prim.Native.Nat.{ℕ, suc, ◌+◌, ◌*◌, ◌<◌}
 use mathlib.Core.Path.{◌≡◌}
 use mathlib.Core.List.{List}
 use lib.ListN.{length}
@@ -21,9 +21,6 @@ invariant-allowed-loop-i l =
     (length l.work ≡ length l.initial.work) × Below l.initial.work l.work (l.slot + l.p.stride) × Above l.initial.work l.work work_room
     × ((th : Theory) (T : List Node) → Stage th T l.pack l.places l.p l.initial.work (slot_table l.p l.initial.work l.slot) (l.slot + l.p.stride) → Memory th l.p.foresight.0 l.p (l.slot + l.p.stride) l.initial.work → Memory th l.p.foresight.0 l.p (l.slot + l.p.stride) l.work × ((j : ℕ) → j < l.i → Content th l.p.foresight.0 l.d.nesting.0 l.d.who l.d.action (meaning l.p.characters T 0) j))
 
-abbrev pub decreases-allowed-loop-i : goal.decreases-allowed-loop-i
-decreases-allowed-loop-i l = l.count - l.i
-
 abbrev pub decreases-explained : goal.decreases-explained
 decreases-explained l = 1000 * l.d.nesting.0 + 2
 
@@ -41,10 +38,7 @@ decreases-extends_by l =
 abbrev pub invariant-extends_by-loop-x : goal.invariant-extends_by-loop-x
 invariant-extends_by-loop-x l =
     (length l.work ≡ length l.initial.work) × Below l.initial.work l.work (l.slot + l.p.stride) × Above l.initial.work l.work work_room
-    × ((th : Theory) (T : List Node) → Stage th T l.pack l.places l.p l.initial.work (slot_table l.p l.initial.work l.slot) (l.slot + l.p.stride) → Memory th l.p.foresight.0 l.p (l.slot + l.p.stride) l.initial.work → Memory th l.p.foresight.0 l.p (l.slot + l.p.stride) l.work × ((y : ℕ) → y < l.x → AboveBy th l.p.foresight.0 l.quest.goal.nesting.0 l.quest.goal.who l.quest.goal.base (suc l.quest.left) y (meaning l.p.characters T 0) → ⊥))
-
-abbrev pub decreases-extends_by-loop-x : goal.decreases-extends_by-loop-x
-decreases-extends_by-loop-x l = l.p.actions - l.x
+    × ((th : Theory) (T : List Node) → Stage th T l.pack l.places l.p l.initial.work (slot_table l.p l.initial.work l.slot) (l.slot + l.p.stride) → Memory th l.p.foresight.0 l.p (l.slot + l.p.stride) l.initial.work → Memory th l.p.foresight.0 l.p (l.slot + l.p.stride) l.work × ((y : ℕ) → y < l.x → AboveBy th l.p.foresight.0 l.quest.goal.nesting.0 l.quest.who l.quest.goal.base (suc l.quest.left) y (meaning l.p.characters T 0) → ⊥))
 
 abbrev pub decreases-fine : goal.decreases-fine
 decreases-fine l = 1000 * l.d.nesting.0 + 3

@@ -13,9 +13,9 @@ bounds-work-at c = omega (arith, c.requires.1)
 pub loop-id-init : goal.loop-id-init
 loop-id-init c =
     let small = c.type_inv.work c.args.at in (
-      omega (arith, c.wide-id.ensures, small),
-      λ z. record { some = z; low = omega (arith, small); links = 0; behind = subst (Behind c.args.p c.args.work.now c.wide-id.result 0) (sym c.wide-id.ensures) (behind_here c.args.p c.args.work.now c.wide-id.result) },
-      λ n x y. (x.links, subst (Behind c.args.p c.args.work.now n x.links) c.wide-id.ensures x.behind),
+      omega (arith, c.from-id.ensures, small),
+      λ z. record { some = z; low = omega (arith, small); links = 0; behind = subst (Behind c.args.p c.args.work.now c.from-id.result 0) c.from-id.ensures (behind_here c.args.p c.args.work.now c.from-id.result) },
+      λ n x y. (x.links, subst (Behind c.args.p c.args.work.now n x.links) (sym c.from-id.ensures) x.behind),
     )
 
 pub has_id-requires : goal.has_id-requires
@@ -23,7 +23,7 @@ has_id-requires c = (c.requires.0, c.loop-id.invariant.0)
 
 pub returns-then-has_id : goal.returns-then-has_id
 returns-then-has_id c =
-    record { small = c.loop-id.invariant.0; alike = λ _. c.has_id.ensures.0 c.if-has_id.true; listed = c.loop-id.invariant.1; none = λ z. absurd (omega (arith, z, c.loop-id-test.true)) }
+    (c.loop-id-test.true, record { small = c.loop-id.invariant.0; alike = λ _. c.has_id.ensures.0 c.if-has_id.true; listed = c.loop-id.invariant.1; none = λ z. absurd (omega (arith, z, c.loop-id-test.true)) })
 
 pub overflow_add-p : goal.overflow_add-p
 overflow_add-p c = omega (arith, c.requires.0.laid.room)
@@ -35,33 +35,37 @@ pub bounds-work-p : goal.bounds-work-p
 bounds-work-p c = omega (arith, c.requires.0.laid.room, c.requires.0.room, c.loop-id.invariant.0)
 
 pub returns-then-id-next : goal.returns-then-id-next
-returns-then-id-next c =
-    record {
-      small = omega arith;
-      alike = λ z. absurd (omega (arith, z));
-      listed = λ z. absurd (omega (arith, z));
-      none = λ _ n x y.
-          let (k, z) = c.loop-id.invariant.2 n x y in
-          ⊎_elim (λ e. c.has_id.ensures.1 c.if-has_id.false (subst (Alike c.args.p c.args.work.now c.args.t) (sym e) y)) (λ (falls, _). omega (arith, falls, c.wide-next.ensures, c.if-id-next.true)) (behind_on c.args.p c.args.work.now n k c.loop-id.id z);
-    }
+returns-then-id-next c = (
+  tt,
+  record {
+    small = omega arith;
+    alike = λ z. absurd (omega (arith, z));
+    listed = λ z. absurd (omega (arith, z));
+    none = λ _ n x y.
+        let (k, z) = c.loop-id.invariant.2 n x y in
+        ⊎_elim (λ e. c.has_id.ensures.1 c.if-has_id.false (subst (Alike c.args.p c.args.work.now c.args.t) (sym e) y)) (λ (falls, _). omega (arith, falls, c.from-next.ensures, c.if-id-next.true)) (behind_on c.args.p c.args.work.now n k c.loop-id.id z);
+  },
+)
 
 pub loop-id-smaller : goal.loop-id-smaller
 loop-id-smaller c = omega (arith, c.if-id-next.false)
 
 pub loop-id-preserved : goal.loop-id-preserved
 loop-id-preserved c = (
-  omega (arith, c.wide-next.ensures, c.type_inv.work (links_at c.args.p + c.loop-id.id)),
-  λ z. subst (OnChain c.args.p c.args.work.now c.args.at) c.wide-next.ensures (chain_next c.args.p (omega (arith, c.wide-next.ensures, c.if-id-next.false)) (omega (arith, c.wide-next.ensures, z)) (c.loop-id.invariant.1 (omega (arith, c.loop-id-test.true)))),
+  omega (arith, c.from-next.ensures, c.type_inv.work (links_at c.args.p + c.loop-id.id)),
+  λ z. subst (OnChain c.args.p c.args.work.now c.args.at) (sym c.from-next.ensures) (chain_next c.args.p (omega (arith, c.from-next.ensures, c.if-id-next.false)) (omega (arith, c.from-next.ensures, z)) (c.loop-id.invariant.1 (omega (arith, c.loop-id-test.true)))),
   λ n x y.
       let (k, z) = c.loop-id.invariant.2 n x y in
-      ⊎_elim (λ i. absurd (c.has_id.ensures.1 c.if-has_id.false (subst (Alike c.args.p c.args.work.now c.args.t) (sym i) y))) (λ (_, (j, w)). (j, subst (Behind c.args.p c.args.work.now n j) c.wide-next.ensures w)) (behind_on c.args.p c.args.work.now n k c.loop-id.id z),
+      ⊎_elim (λ i. absurd (c.has_id.ensures.1 c.if-has_id.false (subst (Alike c.args.p c.args.work.now c.args.t) (sym i) y))) (λ (_, (j, w)). (j, subst (Behind c.args.p c.args.work.now n j) (sym c.from-next.ensures) w)) (behind_on c.args.p c.args.work.now n k c.loop-id.id z),
 )
 
 pub returns : goal.returns
-returns c =
-    record {
-      small = omega arith;
-      alike = λ z. absurd (omega (arith, z));
-      listed = λ z. absurd (omega (arith, z));
-      none = λ _ n x y. let (k, z) = c.loop-id.invariant.2 n x y in behind_none c.args.p c.args.work.now n k c.loop-id.id x.some (omega (arith, c.loop-id-test.false)) z;
-    }
+returns c = (
+  tt,
+  record {
+    small = omega arith;
+    alike = λ z. absurd (omega (arith, z));
+    listed = λ z. absurd (omega (arith, z));
+    none = λ _ n x y. let (k, z) = c.loop-id.invariant.2 n x y in behind_none c.args.p c.args.work.now n k c.loop-id.id x.some (omega (arith, c.loop-id-test.false)) z;
+  },
+)

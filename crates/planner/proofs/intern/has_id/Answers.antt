@@ -19,11 +19,11 @@ bounds-work-p c = omega (arith, c.requires.0.laid.room, c.requires.0.room)
 
 pub overflow_mul-p : goal.overflow_mul-p
 overflow_mul-p c =
-    omega (arith, c.requires.0.laid.tabled, blocks_most c.args.p c.requires.0.laid c.wide.result (omega (arith, c.wide.ensures, c.type_inv.work (c.args.p.memory + 48))))
+    omega (arith, c.requires.0.laid.tabled, blocks_most c.args.p c.requires.0.laid c.from.result (omega (arith, c.from.ensures, c.type_inv.work (c.args.p.memory + 48))))
 
 pub overflow_add-p-2 : goal.overflow_add-p-2
 overflow_add-p-2 c =
-    omega (arith, c.requires.0.laid.tabled, blocks_most c.args.p c.requires.0.laid c.wide.result (omega (arith, c.wide.ensures, c.type_inv.work (c.args.p.memory + 48))), c.requires.0.laid.room, c.requires.0.laid.tabled)
+    omega (arith, c.requires.0.laid.tabled, blocks_most c.args.p c.requires.0.laid c.from.result (omega (arith, c.from.ensures, c.type_inv.work (c.args.p.memory + 48))), c.requires.0.laid.room, c.requires.0.laid.tabled)
 
 pub overflow_mul-p-2 : goal.overflow_mul-p-2
 overflow_mul-p-2 c =
@@ -33,10 +33,10 @@ pub overflow_add-p-3 : goal.overflow_add-p-3
 overflow_add-p-3 c =
     omega (arith, c.requires.0.laid.tabled, blocks_most c.args.p c.requires.0.laid c.args.id c.requires.1, c.requires.0.before, c.requires.0.laid.room, c.requires.0.laid.tabled)
 
-pub returns-then-p-wide : goal.returns-then-p-wide
-returns-then-p-wide c =
+pub returns-then-p-from : goal.returns-then-p-from
+returns-then-p-from c =
     let wide : c.args.p.fluents + c.args.p.characters ≡ c.args.t.width = ap (λ (f : ℕ). f + c.args.p.characters) c.requires.0.fluents ∙ ap (λ (n : ℕ). c.args.t.fluents + n) c.requires.0.characters ∙ c.requires.0.wide in
-    (unset, λ e x. omega (arith, x.inside.inside, ap (λ (k : ℕ). k * (c.args.p.fluents + c.args.p.characters)) x.count, ap (λ (k : ℕ). c.args.t.nodes * k) wide, c.if-p-wide.true, ap (λ (k : ℕ). c.args.p.block * k) c.wide.ensures, c.requires.0.laid.room))
+    (unset, λ e x. omega (arith, x.inside.inside, ap (λ (k : ℕ). k * (c.args.p.fluents + c.args.p.characters)) x.count, ap (λ (k : ℕ). c.args.t.nodes * k) wide, c.if-p-from.true, ap (λ (k : ℕ). c.args.p.block * k) c.from.ensures, c.requires.0.laid.room))
 
 pub overflow_sub-at : goal.overflow_sub-at
 overflow_sub-at c = omega (arith, c.requires.0.laid.room, c.requires.0.laid.tabled)
@@ -51,12 +51,12 @@ overflow_add-at c =
 
 pub bounds-work-at : goal.bounds-work-at
 bounds-work-at c =
-    omega (arith, c.requires.0.laid.tabled, blocks_most c.args.p c.requires.0.laid c.wide.result (omega (arith, c.wide.ensures, c.type_inv.work (c.args.p.memory + 48))), c.requires.0.laid.room, c.requires.0.room, c.if-p-wide.false)
+    omega (arith, c.requires.0.laid.tabled, blocks_most c.args.p c.requires.0.laid c.from.result (omega (arith, c.from.ensures, c.type_inv.work (c.args.p.memory + 48))), c.requires.0.laid.room, c.requires.0.room, c.if-p-from.false)
 
-pub returns-then-wide-t : goal.returns-then-wide-t
-returns-then-wide-t c =
+pub returns-then-from-t : goal.returns-then-from-t
+returns-then-from-t c =
     let here = ap (λ (x : ℕ). get_or c.args.work.now (x - c.args.p.block + c.args.p.block * c.args.id) 0) c.requires.0.laid.tabled in
-    (unset, λ e x. omega (arith, here, x.count, c.wide-2.ensures, c.if-wide-t.true))
+    (unset, λ e x. omega (arith, here, x.count, c.from-2.ensures, c.if-from-t.true))
 
 pub overflow_add-at-2 : goal.overflow_add-at-2
 overflow_add-at-2 c =
@@ -64,7 +64,7 @@ overflow_add-at-2 c =
 
 pub same_part-requires : goal.same_part-requires
 same_part-requires c =
-    (omega (arith, c.requires.0.before, c.requires.0.room, c.requires.0.laid.room, c.requires.0.laid.tabled), omega (arith, c.if-p-wide.false, blocks_most c.args.p c.requires.0.laid c.wide.result (omega (arith, c.wide.ensures, c.type_inv.work (c.args.p.memory + 48))), c.requires.0.room, c.requires.0.laid.room, c.requires.0.laid.tabled))
+    (omega (arith, c.requires.0.before, c.requires.0.room, c.requires.0.laid.room, c.requires.0.laid.tabled), omega (arith, c.if-p-from.false, blocks_most c.args.p c.requires.0.laid c.from.result (omega (arith, c.from.ensures, c.type_inv.work (c.args.p.memory + 48))), c.requires.0.room, c.requires.0.laid.room, c.requires.0.laid.tabled))
 
 pub returns : goal.returns
 returns c =
@@ -72,7 +72,7 @@ returns c =
     let count = ap (λ (q : ℕ). get_or c.args.work.now q 0) here in
     let byte : (q : ℕ) → get_or c.args.work.now (c.args.p.tables - c.args.p.block + c.args.p.block * c.args.id + 1 + q) 0 ≡ get_or c.args.work.now (kept_at c.args.p c.args.id + 1 + q) 0 = λ q. ap (λ (x : ℕ). get_or c.args.work.now (x + 1 + q) 0) here in
     (
-      λ e. kept_as c.args.p c.requires.0 c.args.id (omega (arith, c.if-id-eq0.false)) (omega (arith, c.if-p-wide.false, ap (λ (k : ℕ). c.args.p.block * k) c.wide.ensures)) (omega (arith, count, c.wide-2.ensures, c.if-wide-t.false))
+      λ e. kept_as c.args.p c.requires.0 c.args.id (omega (arith, c.if-id-eq0.false)) (omega (arith, c.if-p-from.false, ap (λ (k : ℕ). c.args.p.block * k) c.from.ensures)) (omega (arith, count, c.from-2.ensures, c.if-from-t.false))
           (λ q l. sym (byte q) ∙ sym (c.same_part.ensures.0 e q l)),
       λ e x. unset (sym e ∙ c.same_part.ensures.1 (λ q l. named_bytes c.args.p c.args.id c.requires.0 x.count x.same q l ∙ sym (byte q))),
     )

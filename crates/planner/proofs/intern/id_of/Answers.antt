@@ -1,6 +1,6 @@
 -- The id that is known by the slot, or a new one. Assumes nothing.
 use Prim.Native.Nat.{◌+◌}
-use mathlib.Core.Path.{refl}
+use mathlib.Core.Path.{refl, sym}
 use native.Mathlib.Omega.{arith}
 use Rattle.planner.specs.Inner.Memory.{id_at}
 use Rattle.planner.proofs.TrueMemory.{naming_known}
@@ -15,13 +15,17 @@ overflow_add-p c = omega (arith, c.requires.laid.room)
 pub bounds-work-p : goal.bounds-work-p
 bounds-work-p c = omega (arith, c.requires.laid.room, c.requires.room)
 
-pub returns-then-known-ne0 : goal.returns-then-known-ne0
-returns-then-known-ne0 c =
-    record {
-      interning = naming_known c.args.p c.requires (omega (arith, c.wide-known.ensures, c.slice_known-2-1.given (id_at c.args.p (c.args.slot + 1)))) (omega (arith, c.if-known-ne0.true)) c.wide-known.ensures;
-      known = λ _. refl;
-    }
+pub returns-in-Some : goal.returns-in-Some
+returns-in-Some c =
+    let (some, is) = c.in-Some.ensures in (
+      some,
+      record {
+        interning = naming_known c.args.p c.requires (omega (arith, is, c.slice_known-2-1.given (id_at c.args.p (c.args.slot + 1)))) some (sym is);
+        known = λ _. refl;
+      },
+    )
 
 pub returns : goal.returns
 returns c =
-    record { interning = c.intern_slot.ensures; known = λ z. absurd (omega (arith, z, c.wide-known.ensures, c.if-known-ne0.false)) }
+    let (given, interning) = c.intern_slot.ensures in
+    (given, record { interning = interning; known = λ z. absurd (omega (arith, z, c.in_default.ensures.1)) })

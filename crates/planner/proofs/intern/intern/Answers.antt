@@ -1,23 +1,21 @@
 -- The id that is found; else a new one, in front of its chain. Assumes nothing.
-use mathlib.Core.Path.{◌≡◌, sym, subst}
-use native.Mathlib.Omega.{arith}
-use Rattle.planner.specs.Inner.Memory.{FoundOn, Placed, Stored}
-use Rattle.planner.proofs.TrueMemory.{stored_found, stored_none, stored_linked}
+use Prim.Native.Nat.{ℕ, ◌<◌}
+use Rattle.planner.specs.Inner.Memory.{Stored, Roomy, Fits}
+use Rattle.planner.proofs.TrueMemory.{unnamed, stored_found, stored_none, stored_linked}
 use Rattle.planner.proofs.intern.intern.Goals as goal
 
-pub returns-then-known-ne0 : goal.returns-then-known-ne0
-returns-then-known-ne0 c =
-    (stored_found c.args.p c.requires c.head_of-at.ensures c.find-known.ensures, λ _. omega (arith, c.if-known-ne0.true))
+pub returns-in-Some : goal.returns-in-Some
+returns-in-Some c =
+    let (some, found) = c.in-Some.ensures in
+    (some, (stored_found c.args.p c.requires c.head_of-at.ensures found, λ _ _. some))
 
-pub returns-then-id-ne0 : goal.returns-then-id-ne0
-returns-then-id-ne0 c =
-    let nowhere : c.find-known.result ≡ 0 = omega (arith, c.if-known-ne0.false) in
-    let none = subst (FoundOn c.args.p c.args.work.now c.args.t c.head_of-at.result) nowhere c.find-known.ensures in
-    (stored_linked c.args.p c.requires c.keep-id.auto.work c.link.auto.work c.head_of-at.ensures none (omega (arith, c.if-id-ne0.true)) c.keep-id.ensures.0 c.link.ensures, λ _ _. omega (arith, c.if-id-ne0.true))
+pub returns-in_err-id : goal.returns-in_err-id
+returns-in_err-id c =
+    let (placed, kept) = c.in_err-id.ensures.1 in
+    unnamed (λ (id : ℕ). Stored c.args.p c.args.t c.args.work.now c.keep.new.work id × (Roomy c.args.p c.keep.new.work → Fits c.args.p c.args.t → 0 < id))
+    c.from_residual.ensures (stored_none c.args.p c.requires c.head_of-at.ensures c.in_default.ensures.1 placed, kept)
 
-pub returns-else-id-ne0 : goal.returns-else-id-ne0
-returns-else-id-ne0 c =
-    let zero : 0 ≡ c.keep-id.result = omega (arith, c.if-id-ne0.false) in
-    let nowhere : c.find-known.result ≡ 0 = omega (arith, c.if-known-ne0.false) in
-    let none = subst (FoundOn c.args.p c.args.work.now c.args.t c.head_of-at.result) nowhere c.find-known.ensures in
-    (subst (Stored c.args.p c.args.t c.args.work.now c.keep-id.new.work) zero (stored_none c.args.p c.requires c.head_of-at.ensures none (subst (Placed c.args.p c.args.t c.args.work.now c.keep-id.new.work) (sym zero) c.keep-id.ensures.0)), c.keep-id.ensures.1)
+pub returns : goal.returns
+returns c =
+    let (some, (placed, kept)) = c.in_ok-id.ensures in
+    (some, (stored_linked c.args.p c.requires c.keep.auto.work c.link.auto.work c.head_of-at.ensures c.in_default.ensures.1 some placed c.link.ensures, λ _ _. some))

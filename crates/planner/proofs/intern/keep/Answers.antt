@@ -9,19 +9,20 @@ use Rattle.planner.proofs.intern.keep.Goals as goal
 
 pub returns-then-has_overflowed : goal.returns-then-has_overflowed
 returns-then-has_overflowed c =
-    (placed_none c.args.p, λ room _. absurd (c.has_overflowed.ensures.0 c.if-has_overflowed.true room))
+    (tt, (placed_none c.args.p, λ room _. absurd (c.has_overflowed.ensures.0 c.if-has_overflowed.true room)))
 
-pub returns-then-id-ne0 : goal.returns-then-id-ne0
-returns-then-id-ne0 c =
+pub returns-in-Some : goal.returns-in-Some
+returns-in-Some c =
     let roomy = c.has_overflowed.ensures.1 c.if-has_overflowed.false in
-    (c.store-id.ensures.0 (λ sp. omega (arith, sp.once, roomy)), λ _ _. omega (arith, c.if-id-ne0.true))
+    let (some, (placed, _)) = c.in-Some.ensures in
+    (some, (placed (λ sp. omega (arith, sp.once, roomy)), λ _ _. some))
 
 pub shape_of-work : goal.shape_of-work
 shape_of-work c =
-    length-set c.clear.new.work (c.args.p.memory + 49) 1 ∙ c.clear.auto.work ∙ c.store-id.auto.work
+    length-set c.clear.new.work (c.args.p.memory + 49) 1 ∙ c.clear.auto.work ∙ c.store.auto.work
 
 pub returns : goal.returns
 returns c =
     let roomy = c.has_overflowed.ensures.1 c.if-has_overflowed.false in
-    let one = get_or-set_same c.clear.new.work (c.args.p.memory + 49) 1 0 (omega (arith, c.clear.auto.work, c.store-id.auto.work, c.requires.laid.room, c.requires.room)) in
-    (placed_wiped c.args.p c.requires.laid (c.store-id.ensures.0 (λ sp. omega (arith, sp.once, roomy))).only c.clear.ensures, λ room _. absurd (omega (arith, room, one)))
+    let one = get_or-set_same c.clear.new.work (c.args.p.memory + 49) 1 0 (omega (arith, c.clear.auto.work, c.store.auto.work, c.requires.laid.room, c.requires.room)) in
+    (tt, (placed_wiped c.args.p c.requires.laid (c.in_default.ensures.1.0 (λ sp. omega (arith, sp.once, roomy))).only c.clear.ensures, λ room _. absurd (omega (arith, room, one))))

@@ -16,7 +16,7 @@ abbrev made : Contents → Foresight → (stride memory lists : ℕ) → Context
 made c k stride memory lists = record {
   actions = c.actions;
   triggers = c.triggers;
-  fluents = c.fluents;
+  fluents = c.domains.fluents;
   characters = c.characters;
   foresight = k;
   stride = stride;
@@ -28,7 +28,7 @@ made c k stride memory lists = record {
 
 pub overflow_mul-memory : goal.overflow_mul-memory
 overflow_mul-memory c =
-    omega (arith, mul-le-mul_right (1 + 32 * (c.args.c.fluents + c.args.c.characters)) c.requires.2, c.requires)
+    omega (arith, mul-le-mul_right (1 + 32 * (c.args.c.domains.fluents + c.args.c.characters)) c.requires.1, c.requires, c.args.c.domains.few)
 
 pub overflow_sub-room : goal.overflow_sub-room
 overflow_sub-room c = omega (arith, room_left c.args.c c.args.k c.args.slots c.requires)
@@ -57,5 +57,5 @@ overflow_add-result-2 c =
 
 pub returns : goal.returns
 returns c =
-    let size = 1 + 32 * (c.args.c.fluents + c.args.c.characters) in
+    let size = 1 + 32 * (c.args.c.domains.fluents + c.args.c.characters) in
     ap (λ (n : ℕ). made c.args.c c.args.k size (c.args.slots * size) n) c.entries-lists.ensures

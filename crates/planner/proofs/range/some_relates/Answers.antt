@@ -1,5 +1,5 @@
 -- The match has the kinds in the order of their numbers. Assumes nothing.
-use mathlib.Core.Path.{sym, ap}
+use mathlib.Core.Path.{sym, ap, ◌∙◌}
 use mathlib.Core.Bool.{Bool, not, ◌&&◌, ◌||◌}
 use native.Mathlib.Omega.{arith}
 use lib.Dec.{eqb, leb}
@@ -15,12 +15,16 @@ returns-then-low-value c =
 pub returns-else-low-value : goal.returns-else-low-value
 unfolding could_meet
 returns-else-low-value c =
-    λ known. rw c.in-0.is (sym (ap (λ (b : Bool). b && leb c.args.value c.args.high) (lt-leb c.args.low c.args.value (omega (arith, c.if-low-value.false)))))
+    λ known.
+    let past = lt-leb c.args.low c.args.value (omega (arith, c.if-low-value.false)) in
+    rw c.in-0.is (past ∙ sym (ap (λ (b : Bool). b && leb c.args.value c.args.high) past))
 
 pub returns-then-low-high : goal.returns-then-low-high
 unfolding could_meet
 returns-then-low-high c =
-    λ known. rw c.in-1.is (sym (ap (λ (b : Bool). b || not (eqb c.args.low c.args.value)) (lt-ltb c.args.low c.args.high c.if-low-high.true)))
+    λ known.
+    let apart = lt-ltb c.args.low c.args.high c.if-low-high.true in
+    rw c.in-1.is (apart ∙ sym (ap (λ (b : Bool). b || not (eqb c.args.low c.args.value)) apart))
 
 pub returns-else-low-high : goal.returns-else-low-high
 unfolding could_meet
@@ -30,7 +34,3 @@ returns-else-low-high c =
 pub returns-in-2 : goal.returns-in-2
 unfolding could_meet
 returns-in-2 c = λ known. rw c.in-2.is
-
-pub returns-in-3-to-255 : goal.returns-in-3-to-255
-unfolding could_meet
-returns-in-3-to-255 c = λ known. absurd (omega (arith, known))

@@ -28,9 +28,6 @@ pub widen-requires : goal.widen-requires
 widen-requires c =
     (trigger_readable _ _ _ c.loop-i.i c.loop-i-test.true c.requires.0, record { lowest = omega (arith, c.loop-i.invariant.0, c.requires.1.lowest); highest = omega (arith, c.loop-i.invariant.1, c.requires.1.highest) })
 
-pub overflow_add-i : goal.overflow_add-i
-overflow_add-i c = omega (arith, triggered_few _ _ _ c.requires.0, c.loop-i-test.true)
-
 pub loop-i-preserved : goal.loop-i-preserved
 loop-i-preserved c =
     let (long, tall, wider, old) = c.loop-i.invariant in (

@@ -26,7 +26,7 @@ bounds-highs-f-then-whom_of-eq0 c =
 pub returns-then-whom_of-eq0 : goal.returns-then-whom_of-eq0
 returns-then-whom_of-eq0 c =
     let few = effect_few c.requires.0 c.written_fluent-f.ensures in
-    widened_one c.written_fluent-f.ensures c.written_value-value.ensures (omega (arith, few, c.requires.1.lowest)) (omega (arith, few, c.requires.1.highest)) c.lesser.ensures c.greater.ensures
+    widened_one c.written_fluent-f.ensures c.written_value-value.ensures (omega (arith, few, c.requires.1.lowest)) (omega (arith, few, c.requires.1.highest)) (omega (arith, c.min.ensures), omega (arith, c.min.ensures)) (omega (arith, c.max.ensures), omega (arith, c.max.ensures))
 
 pub returns-else-whom_of-eq0 : goal.returns-else-whom_of-eq0
 returns-else-whom_of-eq0 c = widened_not c.whom_of.ensures c.if-whom_of-eq0.false

@@ -5,6 +5,7 @@ use mathlib.Core.List.{List}
 use lib.ListN.{length}
 use Rattle.pack.specs.Syntax.{Node, Theory}
 use Rattle.planner.specs.Inner.Lists.{slot_table}
+use Rattle.planner.specs.Inner.Who.{rules_of}
 use Rattle.planner.specs.Inner.Explain.{Stage}
 use Rattle.planner.specs.Inner.Range.{TriggersInRange}
 use Rattle.planner.specs.Inner.Levels.{OutOfReach}
@@ -16,7 +17,7 @@ abbrev pub invariant-loop-p : goal.invariant-loop-p
 invariant-loop-p l =
     (length l.lows ≡ 24) × (length l.highs ≡ 24) × (l.i ≤ l.h.left)
     × ((th : Theory) (T : List Node) (x : Stage th T l.pack l.places l.p l.work (slot_table l.p l.work l.slot) (l.slot + l.p.stride)) → TriggersInRange l.lows l.highs th.triggers l.p.triggers × ((m : ℕ) → Bounded x l.lows l.highs (l.i + m) m))
-    × ((k : ℕ) → k < l.i → OutOfReach l.pack l.places l.p l.work l.slot l.h.whose k l.h.base)
+    × ((k : ℕ) → k < l.i → OutOfReach l.pack l.places l.p l.work l.slot (rules_of l.h.whose) k l.h.base)
 
 abbrev pub decreases-loop-p : goal.decreases-loop-p
 decreases-loop-p l = l.h.left - l.i

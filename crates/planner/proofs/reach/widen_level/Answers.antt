@@ -2,7 +2,7 @@
 use mathlib.Core.Path.{refl, ◌∙◌}
 use native.Mathlib.Omega.{arith}
 use Rattle.planner.specs.Inner.Range.{wider_same, wider_then}
-use Rattle.planner.proofs.Reckoning.{level_few, actions_more}
+use Rattle.planner.proofs.Reckoning.{actions_more}
 use Rattle.planner.proofs.reach.widen_level.Goals as goal
 
 pub loop-x-init : goal.loop-x-init
@@ -12,9 +12,6 @@ pub widen_action-requires : goal.widen_action-requires
 widen_action-requires c =
     let (th, (n, y)) = c.requires.0 in
     ((th, (c.args.actions, (n, (y, c.loop-x-test.true)))), c.requires.1, record { lowest = omega (arith, c.loop-x.invariant.0, c.requires.2.lowest); highest = omega (arith, c.loop-x.invariant.1, c.requires.2.highest) })
-
-pub overflow_add-x : goal.overflow_add-x
-overflow_add-x c = omega (arith, level_few c.requires.0, c.loop-x-test.true)
 
 pub loop-x-preserved : goal.loop-x-preserved
 loop-x-preserved c =

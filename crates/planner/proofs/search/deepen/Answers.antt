@@ -3,6 +3,7 @@ use Prim.Native.Nat.{ℕ, ◌+◌, ◌*◌, ◌<◌}
 use mathlib.Core.Path.{◌≡◌, refl, sym, ap, ◌∙◌, subst}
 use mathlib.Core.List.{List}
 use native.Mathlib.Omega.{arith}
+use Rattle.std.specs.Prelude.{Some, None}
 use lib.ListN.{length}
 use Rattle.pack.specs.State.{meaning}
 use Rattle.planner.specs.Inner.Lists.{Ends}
@@ -36,15 +37,15 @@ returns-then-not-can_exceed c =
     let more : c.args.most < c.args.most + 1 = omega arith in
     shortest_none (λ q l. refl) (λ q l. refl) more refl (λ l v some few. no_end th c.args.p.foresight.0 c.args.g.nesting.0 c.args.g.base (meaning c.args.p.characters T 0) l v low)
 
-pub first_length-n-requires : goal.first_length-n-requires
-first_length-n-requires c =
+pub first_length-first-requires : goal.first_length-first-requires
+first_length-first-requires c =
     let (th, (T, (y, mem, wr, le))) = c.requires.0 in
     (((th, (T, y)), free_fewer c.args.p 0 (1 + c.args.most + (1 + c.args.p.foresight.0) * c.args.g.nesting.0) 1 (omega arith) c.requires.5, omega arith), omega (arith, c.requires.3))
 
 -- shorter lists are out of reach
 pub loop-n-init : goal.loop-n-init
 loop-n-init c =
-    let (some, beyond) = c.first_length-n.ensures in (
+    let (some, beyond) = c.first_length-first.ensures in (
       some,
       refl,
       refl,
@@ -53,53 +54,56 @@ loop-n-init c =
       λ th T y mem wr le. (mem, λ l v long k. ends_beyond th c.args.p.foresight.0 c.args.g.nesting.0 c.args.g.base (length l) (meaning c.args.p.characters T 0) (beyond (length l) long k th T y) l v refl),
     )
 
-pub completes-after-requires : goal.completes-after-requires
-completes-after-requires c =
+pub completes-requires : goal.completes-requires
+completes-requires c =
     let (th, (T, (y, mem, wr, le))) = c.requires.0 in
     let (some, long, same, low, high, rest) = c.loop-n.invariant in
     let here = at_outset (slot_same 0 y low long) (rest th T y mem wr le).0 in
     let count = 1 + c.loop-n.n + (1 + c.args.p.foresight.0) * c.args.g.nesting.0 in
     ((th, (T, (here.0, here.1, trail_outset c.args.p.foresight.0 c.args.g.nesting.0 c.args.g.base y low long wr le (rest th T y mem wr le).1))), c.requires.1, c.requires.2, free_outset c.args.p count (free_fewer c.args.p 0 (1 + c.args.most + (1 + c.args.p.foresight.0) * c.args.g.nesting.0) count (omega (arith, c.loop-n-test.true)) c.requires.5), omega (arith, c.loop-n-test.true, c.requires.3, c.requires.4, ap length same))
 
-pub shape_of-work-then-after-ne0 : goal.shape_of-work-then-after-ne0
-shape_of-work-then-after-ne0 c = c.completes-after.auto.work ∙ c.loop-n.invariant.1
+pub shape_of-work-in-Some : goal.shape_of-work-in-Some
+shape_of-work-in-Some c = c.completes.auto.work ∙ c.loop-n.invariant.1
 
-pub shape_of-list-then-after-ne0 : goal.shape_of-list-then-after-ne0
-shape_of-list-then-after-ne0 c = c.completes-after.auto.list ∙ ap length c.loop-n.invariant.2
+pub shape_of-list-in-Some : goal.shape_of-list-in-Some
+shape_of-list-in-Some c = c.completes.auto.list ∙ ap length c.loop-n.invariant.2
 
-pub returns-then-after-ne0 : goal.returns-then-after-ne0
-returns-then-after-ne0 c =
+pub returns-in-Some : goal.returns-in-Some
+returns-in-Some c =
     let (some, long, same, low, high, rest) = c.loop-n.invariant in
     λ th T y mem wr le.
     let here = at_outset (slot_same 0 y low long) (rest th T y mem wr le).0 in
-    subst (λ (was : List ℕ). Shortest c.args.p (Ends th c.args.p.foresight.0 c.args.g.nesting.0 c.args.g.base (meaning c.args.p.characters T 0)) c.args.most was c.completes-after.new.list c.args.work.now c.completes-after.new.work (record { count = c.loop-n.n; after = c.completes-after.result })) same
-    (shortest_found low high some (omega (arith, c.loop-n-test.true)) (rest th T y mem wr le).1 (omega (arith, c.if-after-ne0.true)) (best_outset (c.completes-after.ensures th T here.0 here.1 (trail_outset c.args.p.foresight.0 c.args.g.nesting.0 c.args.g.base y low long wr le (rest th T y mem wr le).1))))
-
-pub overflow_add-n : goal.overflow_add-n
-overflow_add-n c = omega (arith, c.loop-n-test.true, c.requires.3)
+    subst (λ (was : List ℕ). Shortest c.args.p (Ends th c.args.p.foresight.0 c.args.g.nesting.0 c.args.g.base (meaning c.args.p.characters T 0)) c.args.most was c.completes.new.list c.args.work.now c.completes.new.work (Some (record { count = c.loop-n.n; after = c.in-Some.after }))) same
+    (shortest_found low high some (omega (arith, c.loop-n-test.true)) (rest th T y mem wr le).1 c.in-Some.is (best_outset (c.completes.ensures th T here.0 here.1 (trail_outset c.args.p.foresight.0 c.args.g.nesting.0 c.args.g.base y low long wr le (rest th T y mem wr le).1))))
 
 pub loop-n-preserved : goal.loop-n-preserved
 loop-n-preserved c =
     let (some, long, same, low, high, rest) = c.loop-n.invariant in
     let (th, (T, (y, mem, wr, le))) = c.requires.0 in
-    let zero : c.completes-after.result ≡ 0 = omega (arith, c.if-after-ne0.false) in
+    let zero : c.completes.result ≡ None = c.in_default.is in
     let here = at_outset (slot_same 0 y low long) (rest th T y mem wr le).0 in
-    let b = best_outset (c.completes-after.ensures th T here.0 here.1 (trail_outset c.args.p.foresight.0 c.args.g.nesting.0 c.args.g.base y low long wr le (rest th T y mem wr le).1)) in (
+    let b = best_outset (c.completes.ensures th T here.0 here.1 (trail_outset c.args.p.foresight.0 c.args.g.nesting.0 c.args.g.base y low long wr le (rest th T y mem wr le).1)) in (
       omega arith,
-      c.completes-after.auto.work ∙ long,
+      c.completes.auto.work ∙ long,
       (b.none zero).0 ∙ same,
       λ q l. b.low q l ∙ low q l,
       λ q l. b.high q l ∙ high q l,
-      λ th T y mem wr le. let here = at_outset (slot_same 0 y low long) (rest th T y mem wr le).0 in let b = best_outset (c.completes-after.ensures th T here.0 here.1 (trail_outset c.args.p.foresight.0 c.args.g.nesting.0 c.args.g.base y low long wr le (rest th T y mem wr le).1)) in (b.memory, shorter (rest th T y mem wr le).1 (b.none zero).1),
+      λ th T y mem wr le. let here = at_outset (slot_same 0 y low long) (rest th T y mem wr le).0 in let b = best_outset (c.completes.ensures th T here.0 here.1 (trail_outset c.args.p.foresight.0 c.args.g.nesting.0 c.args.g.base y low long wr le (rest th T y mem wr le).1)) in (b.memory, shorter (rest th T y mem wr le).1 (b.none zero).1),
     )
 
-pub shape_of-work : goal.shape_of-work
-shape_of-work c = c.loop-n.invariant.1
+pub returns-in_default : goal.returns-in_default
+returns-in_default c =
+    let (some, long, same, low, high, rest) = c.loop-n.invariant in
+    λ th T y mem wr le.
+    let here = at_outset (slot_same 0 y low long) (rest th T y mem wr le).0 in
+    let b = best_outset (c.completes.ensures th T here.0 here.1 (trail_outset c.args.p.foresight.0 c.args.g.nesting.0 c.args.g.base y low long wr le (rest th T y mem wr le).1)) in
+    let last : c.args.most < c.loop-n.n + 1 = omega arith in
+    shortest_none (λ q l. b.low q l ∙ low q l) (λ q l. b.high q l ∙ high q l) last ((b.none c.in_default.is).0 ∙ same) (shorter (rest th T y mem wr le).1 (b.none c.in_default.is).1)
 
-pub shape_of-list : goal.shape_of-list
-shape_of-list c = ap length c.loop-n.invariant.2
-
-pub returns : goal.returns
-returns c =
+pub returns-else-not-can_exceed : goal.returns-else-not-can_exceed
+returns-else-not-can_exceed c =
     let (some, long, same, low, high, rest) = c.loop-n.invariant in
     λ th T y mem wr le. shortest_none low high (omega (arith, c.loop-n-test.false)) same (rest th T y mem wr le).1
+
+pub shape_of-work-in_default : goal.shape_of-work-in_default
+shape_of-work-in_default c = c.completes.auto.work ∙ c.loop-n.invariant.1

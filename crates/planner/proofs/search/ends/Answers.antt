@@ -1,5 +1,6 @@
 -- The author's utility, where it is above base. Assumes nothing.
-use mathlib.Core.Path.{refl}
+use mathlib.Core.Path.{refl, ap}
+use Rattle.std.specs.Prelude.{Some}
 use native.Mathlib.Omega.{arith}
 use lib.ListN.{get_or}
 use Rattle.transition.specs.Laws.ChangedRows.{small}
@@ -29,7 +30,7 @@ pub returns-then-base-worth : goal.returns-then-base-worth
 returns-then-base-worth c =
     λ th T y.
     let is = author-utility y 0 (utility_in c.args.pack.now (get_or c.args.places.now 320 0) c.args.work.now 0 c.utility-worth.result c.table_in-t.ensures c.utility-worth.ensures) in
-    (λ l. is, λ l. absurd (omega (arith, is, l, c.if-base-worth.true)))
+    (λ l. ap Some is, λ l. absurd (omega (arith, is, l, c.if-base-worth.true)))
 
 pub returns-else-base-worth : goal.returns-else-base-worth
 returns-else-base-worth c =

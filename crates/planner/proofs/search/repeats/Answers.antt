@@ -10,11 +10,11 @@ use native.Mathlib.Omega.{arith}
 use Rattle.planner.specs.Inner.Lists.{slot_table}
 use Rattle.planner.proofs.TrueMemory.{unset, set_not, state_moved}
 use Rattle.planner.proofs.SameBytes.{same_state_bytes}
-use Rattle.planner.proofs.EarliestList.{slots_upto, slots_most}
+use Rattle.planner.proofs.EarliestList.{slots_upto}
 use Rattle.planner.proofs.search.repeats.Goals as goal
 
 pub loop-i-init : goal.loop-i-init
-loop-i-init c = (omega arith, λ j l. absurd (omega (arith, l)))
+loop-i-init c = λ j l. absurd (omega (arith, l))
 
 pub overflow_mul-i : goal.overflow_mul-i
 overflow_mul-i c =
@@ -29,22 +29,16 @@ pub returns-then-same_part : goal.returns-then-same_part
 returns-then-same_part c =
     (λ e. (c.loop-i.i, c.loop-i-test.true, state_moved c.args.p c.args.work.now c.args.work.now c.args.slot (c.loop-i.i * c.args.p.stride) (λ q l. sym (c.same_part.ensures.0 c.if-same_part.true q (omega (arith, l, c.extent-n.ensures))))), λ e. set_not e)
 
-pub overflow_add-i : goal.overflow_add-i
-overflow_add-i c =
-    omega (arith, c.loop-i-test.true, slots_most c.args.p c.args.done c.requires.0.laid, c.requires.1, c.requires.0.before, c.requires.0.laid.room)
-
 pub loop-i-preserved : goal.loop-i-preserved
-loop-i-preserved c = (
-  omega (arith, c.loop-i-test.true),
-  λ j l all. by_cases (ℕ_discrete j c.loop-i.i)
-      (λ z. unset (sym c.if-same_part.false ∙ c.same_part.ensures.1 (λ q h. all q h ∙ ap (λ (j : ℕ). get_or c.args.work.now (j * c.args.p.stride + q) 0) z)))
-      (λ z. c.loop-i.invariant.1 j (omega (arith, l, z)) all),
-)
+loop-i-preserved c =
+    λ j l all. by_cases (ℕ_discrete j c.loop-i.i)
+    (λ z. unset (sym c.if-same_part.false ∙ c.same_part.ensures.1 (λ q h. all q h ∙ ap (λ (j : ℕ). get_or c.args.work.now (j * c.args.p.stride + q) 0) z)))
+    (λ z. c.loop-i.invariant j (omega (arith, l, z)) all)
 
 pub returns : goal.returns
 returns c = (
   unset,
-  λ e (i, less, same). c.loop-i.invariant.1 i (omega (arith, less, c.loop-i-test.false, c.loop-i.invariant.0))
+  λ e (i, less, same). c.loop-i.invariant i (omega (arith, less, c.loop-i-test.false))
       (λ q l. same_state_bytes c.args.p c.args.work.now c.args.slot (i * c.args.p.stride)
       (subst (λ (k : ℕ). Written c.args.p.characters (table_of (slot_table c.args.p c.args.work.now k) c.args.work.now)) (sym c.requires.1) (c.requires.2 c.args.done (omega arith)))
       (c.requires.2 i (omega (arith, less))) same q (omega (arith, l, c.extent-n.ensures))),

@@ -55,16 +55,16 @@ clear-requires c =
     let (th, (T, x)) = c.requires in
     omega (arith, x.room, c.deepen-found.auto.work, c.lay_start.auto)
 
-pub returns-then-found-eq0 : goal.returns-then-found-eq0
-returns-then-found-eq0 c =
+pub returns-in-None : goal.returns-in-None
+returns-in-None c =
     λ th T x.
     let y = c.lay_start.ensures T (seek_laying x) in
-    let is = worth (goal.at.returns-then-found-eq0 c).After-utility-base x in
-    seek_none x y c.lay_start.auto.work (seek_from x y c.lay_start.auto.work is) (seek_same x y c.lay_start.auto.work (c.deepen-found.ensures th (seek_table x y c.lay_start.auto.work) (seek_slot x y c.lay_start.auto.work) (seek_memory x y c.lay_start.auto.work) y.starts.0 (seek_base x y c.lay_start.auto.work is))) c.clear.ensures (omega (arith, c.clear.auto, c.deepen-found.auto.work, c.lay_start.auto)) c.deepen-found.auto.list c.if-found-eq0.true
+    let is = worth (goal.at.returns-in-None c).After-utility-base x in
+    seek_none x y c.lay_start.auto.work (seek_from x y c.lay_start.auto.work is) (seek_same x y c.lay_start.auto.work (c.deepen-found.ensures th (seek_table x y c.lay_start.auto.work) (seek_slot x y c.lay_start.auto.work) (seek_memory x y c.lay_start.auto.work) y.starts.0 (seek_base x y c.lay_start.auto.work is))) c.clear.ensures (omega (arith, c.clear.auto, c.deepen-found.auto.work, c.lay_start.auto)) c.deepen-found.auto.list c.in-None.is
 
-pub returns : goal.returns
-returns c =
+pub returns-in-Some : goal.returns-in-Some
+returns-in-Some c =
     λ th T x.
     let y = c.lay_start.ensures T (seek_laying x) in
-    let is = worth (goal.at.returns c).After-utility-base x in
-    seek_found x y c.lay_start.auto.work (seek_from x y c.lay_start.auto.work is) (seek_same x y c.lay_start.auto.work (c.deepen-found.ensures th (seek_table x y c.lay_start.auto.work) (seek_slot x y c.lay_start.auto.work) (seek_memory x y c.lay_start.auto.work) y.starts.0 (seek_base x y c.lay_start.auto.work is))) c.clear.ensures (omega (arith, c.clear.auto, c.deepen-found.auto.work, c.lay_start.auto)) c.deepen-found.auto.list (omega (arith, c.if-found-eq0.false))
+    let is = worth (goal.at.returns-in-Some c).After-utility-base x in
+    seek_found x y c.lay_start.auto.work (seek_from x y c.lay_start.auto.work is) (seek_same x y c.lay_start.auto.work (c.deepen-found.ensures th (seek_table x y c.lay_start.auto.work) (seek_slot x y c.lay_start.auto.work) (seek_memory x y c.lay_start.auto.work) y.starts.0 (seek_base x y c.lay_start.auto.work is))) c.clear.ensures (omega (arith, c.clear.auto, c.deepen-found.auto.work, c.lay_start.auto)) c.deepen-found.auto.list c.in-Some.is

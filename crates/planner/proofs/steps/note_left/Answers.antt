@@ -1,6 +1,6 @@
 -- The slot's old id is forgotten, its table named, and the step put down. Assumes nothing.
 use Prim.Native.Nat.{◌+◌}
-use mathlib.Core.Path.{◌∙◌}
+use mathlib.Core.Path.{refl, ◌∙◌}
 use native.Mathlib.Omega.{arith}
 use lib.ListN.{length-set}
 use Rattle.planner.specs.Inner.Memory.{id_at}
@@ -16,25 +16,25 @@ overflow_add-work-2 c = omega (arith, c.requires.3.laid.room)
 pub bounds-work-p : goal.bounds-work-p
 bounds-work-p c = omega (arith, c.requires.3.laid.room, c.requires.3.room)
 
-pub intern_slot-next-requires : goal.intern_slot-next-requires
-intern_slot-next-requires c = left_before c.args.p c.requires.3 c.requires.4
+pub intern_slot-requires : goal.intern_slot-requires
+intern_slot-requires c = left_before c.args.p c.requires.3 c.requires.4
 
 pub note-requires : goal.note-requires
 note-requires c =
-    (before_now c.args.p (c.intern_slot-next.auto.work ∙ length-set c.args.work.now (id_at c.args.p (c.args.slot + 1)) 0) c.requires.0, c.requires.1, c.requires.2, c.intern_slot-next.ensures.small)
+    (before_now c.args.p (c.intern_slot.auto.work ∙ length-set c.args.work.now (id_at c.args.p (c.args.slot + 1)) 0) c.requires.0, c.requires.1, c.requires.2, c.in-Some.ensures.1.small)
 
-pub shape_of-work-then-next-ne0 : goal.shape_of-work-then-next-ne0
-shape_of-work-then-next-ne0 c =
-    c.note.auto.work ∙ c.intern_slot-next.auto.work ∙ length-set c.args.work.now (id_at c.args.p (c.args.slot + 1)) 0
+pub shape_of-work-in-Some : goal.shape_of-work-in-Some
+shape_of-work-in-Some c =
+    c.note.auto.work ∙ c.intern_slot.auto.work ∙ length-set c.args.work.now (id_at c.args.p (c.args.slot + 1)) 0
 
-pub returns-then-next-ne0 : goal.returns-then-next-ne0
-returns-then-next-ne0 c =
-    left_noted c.args.p c.requires.3 c.requires.4 c.requires.0 (c.intern_slot-next.auto.work ∙ length-set c.args.work.now (id_at c.args.p (c.args.slot + 1)) 0) c.intern_slot-next.ensures (omega (arith, c.if-next-ne0.true)) c.note.ensures
+pub returns-in-Some : goal.returns-in-Some
+returns-in-Some c =
+    left_noted c.args.p c.requires.3 c.requires.4 c.requires.0 (c.intern_slot.auto.work ∙ length-set c.args.work.now (id_at c.args.p (c.args.slot + 1)) 0) c.in-Some.ensures.1 c.in-Some.ensures.0 c.note.ensures
 
-pub shape_of-work-else-next-ne0 : goal.shape_of-work-else-next-ne0
-shape_of-work-else-next-ne0 c =
-    c.intern_slot-next.auto.work ∙ length-set c.args.work.now (id_at c.args.p (c.args.slot + 1)) 0
+pub shape_of-work-in_default : goal.shape_of-work-in_default
+shape_of-work-in_default c =
+    c.intern_slot.auto.work ∙ length-set c.args.work.now (id_at c.args.p (c.args.slot + 1)) 0
 
-pub returns-else-next-ne0 : goal.returns-else-next-ne0
-returns-else-next-ne0 c =
-    left_unnoted c.args.p c.requires.3 c.requires.4 c.requires.0 (c.intern_slot-next.auto.work ∙ length-set c.args.work.now (id_at c.args.p (c.args.slot + 1)) 0) c.intern_slot-next.ensures (omega (arith, c.if-next-ne0.false))
+pub returns-in_default : goal.returns-in_default
+returns-in_default c =
+    left_unnoted c.args.p c.requires.3 c.requires.4 c.requires.0 (c.intern_slot.auto.work ∙ length-set c.args.work.now (id_at c.args.p (c.args.slot + 1)) 0) c.in_default.ensures.1 refl

@@ -1,5 +1,6 @@
 -- Four bytes put down. Assumes nothing.
 use Prim.Native.Nat.{◌+◌}
+use mathlib.Core.Path.{◌∙◌}
 use native.Mathlib.Omega.{arith}
 use lib.ListN.{set, length-set}
 use Rattle.planner.proofs.TrueMemory.{step_put}
@@ -18,4 +19,5 @@ bounds-work-at-4 c =
 
 pub returns : goal.returns
 returns c =
-    step_put c.args.work.now c.args.at c.args.id c.args.root c.args.action c.args.next c.requires.0
+    let put = step_put c.args.work.now c.args.at c.args.id c.args.root c.args.action c.id_byte.result c.requires.0 in
+    record { read = put.read; row = put.row; acted = put.acted; leaves = put.leaves ∙ c.id_byte.ensures; low = put.low; high = put.high }
