@@ -4,8 +4,8 @@ ghost use Rattle.std.specs.Prelude.{◌≡◌, [], ◌∷◌, ◌+◌, ◌*◌, 
 ghost use Rattle.ending.specs.Text.{digits, decimal, line, steps, worths, refusal};
 ghost use Rattle.ending.specs.Put.{Put, Listed, answer_text};
 
-use pack::number::wide;
-use planner::Found;
+use pack::refusal::Refusal;
+use planner::Ending;
 
 // A byte.
 pub fn put(text: &mut [u8], at: usize, byte: u8) -> usize
@@ -21,12 +21,9 @@ pub fn put_word(text: &mut [u8], at: usize, word: &[u8]) -> usize
     requires { at + length word.now ≤ length text.old }
     ensures { Put word.now text.old at text.new result }
 {
-    let mut i = 0;
-    while i < word.len() {
-        text[at + i] = word[i];
-        i += 1;
-    }
-    at + i
+    let end = at + word.len();
+    text[at..end].copy_from_slice(word);
+    end
 }
 
 // The last digit of a number.
@@ -78,10 +75,8 @@ pub fn put_steps(text: &mut [u8], list: &[u8], count: usize) -> usize
         × (result ≤ count * 42) }
 {
     let mut end = 0;
-    let mut i = 0;
-    while i < count {
-        end = put_step(text, end, i + 1, wide(list[i]));
-        i += 1;
+    for i in 0..count {
+        end = put_step(text, end, i + 1, usize::from(list[i]));
     }
     end
 }
@@ -111,17 +106,17 @@ pub fn put_refusal(text: &mut [u8], number: usize, place: usize) -> usize
 }
 
 // The text of what Search handed back and the list that it wrote.
-pub fn put_answer(text: &mut [u8], answer: Found, list: &[u8]) -> usize
+pub fn put_answer(text: &mut [u8], answer: Result<Ending, Refusal>, list: &[u8]) -> usize
     requires listed { Listed answer list.now }
     requires in_bounds { 385 ≤ length text.old }
     ensures { Put (answer_text answer list.now) text.old 0 text.new result
         × (result ≤ 385) }
 {
     match answer {
-        Found::Refused(k, at) => put_refusal(text, wide(k), at),
-        Found::Ending(count, before, after) => {
-            let end = put_steps(text, list, count);
-            put_worths(text, end, before, after)
+        Ok(ending) => {
+            let end = put_steps(text, list, ending.length);
+            put_worths(text, end, ending.before, ending.after)
         }
+        Err(why) => put_refusal(text, usize::from(why.number()), why.place()),
     }
 }

@@ -6,19 +6,20 @@ use mathlib.Core.List.{List, [], ◌∷◌, ◌++◌}
 use native.Mathlib.Omega.{arith}
 use lib.ListN.{length, take, drop, set, replicate, length-append, length-replicate}
 use Rattle.pack.specs.Reading.{Reply, gives, refuses, pick, told}
-use Rattle.chart.specs.declared.Charted.{Charted}
-use Rattle.chart.specs.declared.Queried.{Queried}
-use Rattle.chart.specs.declared.Matched.{Matched}
+use Rattle.std.specs.Prelude.{Option, Some, None, Result, Ok, Err}
+use Rattle.pack.specs.Duties.Said.{replied}
+use Rattle.pack.specs.declared.refusal.Refusal.{Refusal}
+use Rattle.chart.specs.declared.Difference as chart
 use Rattle.chart.specs.Call.{fits, work_room, by_checks, cleared, work_after}
 use Rattle.chart.specs.Replies.{start_reply, query_reply, compare_reply}
-use Rattle.chart.specs.Promises.{difference, chart_said, query_said, compare_said, Started, Asked, Comparison}
+use Rattle.chart.specs.Promises.{difference, compare_said, Started, Asked, Comparison}
 use Rattle.transition.specs.Replies.{step_reply}
 use Rattle.transition.specs.Promises.{Stepped}
-use Rattle.planner.specs.declared.Judged.{Judged}
-use Rattle.planner.specs.declared.Found.{Found}
+use Rattle.planner.specs.declared.Ending as planner
 use Rattle.planner.specs.Replies.{explained_reply, search_reply}
-use Rattle.planner.specs.Promises.{explained_said, search_said, summary, Judgement, Searching}
+use Rattle.planner.specs.Promises.{search_said, summary, Judgement, Searching}
 use Rattle.pirwodd.specs.Report.{report_room, seen, put, number_of, entries, Returned}
+use Rattle.pirwodd.specs.Told.{difference_numbers, ending_numbers}
 use Rattle.pirwodd.specs.Exports.{one, match_numbers, verdict_numbers, plan_numbers, StartReturned, QueryReturned, CompareReturned, StepReturned, ExplainedReturned, SearchReturned}
 
 -- one store is one number put
@@ -105,60 +106,71 @@ module _ (report work : List ℕ) (k : ℕ) (lends : k ≡ room (fits report_roo
     }
 
     -- of a chart that was written its length is told
-    charted : (reply : Reply (List ℕ)) (x : Charted) → chart_said x ≡ told length reply → part ≡ work_after reply (seen report work)
-        → r ≡ number_of (told one (chart_said x)) → report' ≡ put (entries (told one (chart_said x))) report → Returned (told (λ bytes. one (length bytes)) reply) work report (part ++ drop k work) report' r
-    charted reply x answer = returned reply (λ bytes. one (length bytes)) (told one (chart_said x)) (sym (told-told one length reply) ∙ ap (told one) (sym answer))
+    charted : (reply : Reply (List ℕ)) (x : Result ℕ Refusal) → replied x ≡ told length reply → part ≡ work_after reply (seen report work)
+        → r ≡ number_of (told one (replied x)) → report' ≡ put (entries (told one (replied x))) report → Returned (told (λ bytes. one (length bytes)) reply) work report (part ++ drop k work) report' r
+    charted reply x answer = returned reply (λ bytes. one (length bytes)) (told one (replied x)) (sym (told-told one length reply) ∙ ap (told one) (sym answer))
 
-    pub start_returned : {pack chart chart' : List ℕ} {x : Charted} → Started pack chart (take k work) chart' part x
-        → r ≡ number_of (told one (chart_said x)) → report' ≡ put (entries (told one (chart_said x))) report → StartReturned pack chart work report chart' (part ++ drop k work) report' r
+    pub start_returned : {pack chart chart' : List ℕ} {x : Result ℕ Refusal} → Started pack chart (take k work) chart' part x
+        → r ≡ number_of (told one (replied x)) → report' ≡ put (entries (told one (replied x))) report → StartReturned pack chart work report chart' (part ++ drop k work) report' r
     start_returned {pack} {chart} {chart'} {x} promise n t =
         let p = subst (λ (w : List ℕ). Started pack chart w chart' part x) sees promise in
         record { returned = charted (start_reply pack chart (seen report work)) x p.answer p.scratch n t; result = p.result }
 
-    pub step_returned : {pack chart : List ℕ} {action played : ℕ} {out out' : List ℕ} {x : Charted} → action ≡ played → Stepped pack chart played out (take k work) out' part x
-        → r ≡ number_of (told one (chart_said x)) → report' ≡ put (entries (told one (chart_said x))) report → StepReturned pack chart action out work report out' (part ++ drop k work) report' r
+    pub step_returned : {pack chart : List ℕ} {action played : ℕ} {out out' : List ℕ} {x : Result ℕ Refusal} → action ≡ played → Stepped pack chart played out (take k work) out' part x
+        → r ≡ number_of (told one (replied x)) → report' ≡ put (entries (told one (replied x))) report → StepReturned pack chart action out work report out' (part ++ drop k work) report' r
     step_returned {pack} {chart} {action} {played} {out} {out'} {x} same promise n t =
         let p = subst (λ (w : List ℕ). Stepped pack chart action out w out' part x) sees (subst (λ (a : ℕ). Stepped pack chart a out (take k work) out' part x) (sym same) promise) in
         record { returned = charted (step_reply pack chart action out (seen report work)) x p.answer p.scratch n t; result = p.result }
 
-    pub query_returned : {pack chart chain : List ℕ} {fluent asked : ℕ} {x : Queried} (y : Queried) → fluent ≡ asked → Asked pack chart chain asked (take k work) part x → x ≡ y
-        → r ≡ number_of (told one (query_said y)) → report' ≡ put (entries (told one (query_said y))) report → QueryReturned pack chart chain fluent work report (part ++ drop k work) report' r
-    query_returned {pack} {chart} {chain} {fluent} {asked} {x} y same promise is n t =
+    pub query_returned : {pack chart chain : List ℕ} {fluent asked : ℕ} {x : Result ℕ Refusal} → fluent ≡ asked → Asked pack chart chain asked (take k work) part x
+        → r ≡ number_of (told one (replied x)) → report' ≡ put (entries (told one (replied x))) report → QueryReturned pack chart chain fluent work report (part ++ drop k work) report' r
+    query_returned {pack} {chart} {chain} {fluent} {asked} {x} same promise n t =
         let p = subst (λ (w : List ℕ). Asked pack chart chain fluent w part x) sees (subst (λ (f : ℕ). Asked pack chart chain f (take k work) part x) (sym same) promise) in
         let reply = query_reply pack chart chain fluent (seen report work) in
-        record { returned = returned reply one (told one (query_said y)) (ap (told one) (sym p.answer ∙ ap query_said is)) p.scratch n t }
+        record { returned = returned reply one (told one (replied x)) (ap (told one) (sym p.answer)) p.scratch n t }
 
-    pub compare_returned : {pack first second chain chain' : List ℕ} {x : Matched} (y : Matched) → Comparison pack first second chain (take k work) chain' part x → x ≡ y
-        → r ≡ number_of (told match_numbers (compare_said y)) → report' ≡ put (entries (told match_numbers (compare_said y))) report
+    -- the numbers of a comparison are those of what is said of it
+    compared : (x : Result (Option chart.Difference) Refusal) → told match_numbers (compare_said x) ≡ told difference_numbers (replied x)
+    compared (Ok None) = refl
+    compared (Ok (Some d)) = refl
+    compared (Err why) = refl
+
+    pub compare_returned : {pack first second chain chain' : List ℕ} {x : Result (Option chart.Difference) Refusal} → Comparison pack first second chain (take k work) chain' part x
+        → r ≡ number_of (told difference_numbers (replied x)) → report' ≡ put (entries (told difference_numbers (replied x))) report
         → CompareReturned pack first second chain work report chain' (part ++ drop k work) report' r
-    compare_returned {pack} {first} {second} {chain} {chain'} {x} y promise is n t =
+    compare_returned {pack} {first} {second} {chain} {chain'} {x} promise n t =
         let p = subst (λ (w : List ℕ). Comparison pack first second chain w chain' part x) sees promise in
         let reply = compare_reply pack first second chain (seen report work) in
         record {
-          returned = returned reply (λ v. match_numbers (difference v)) (told match_numbers (compare_said y))
-              (sym (told-told match_numbers difference reply) ∙ ap (told match_numbers) (sym p.answer ∙ ap compare_said is)) p.scratch n t;
+          returned = returned reply (λ v. match_numbers (difference v)) (told difference_numbers (replied x))
+              (sym (told-told match_numbers difference reply) ∙ ap (told match_numbers) (sym p.answer) ∙ compared x) p.scratch n t;
           result = p.result;
         }
 
-    pub explained_returned : {pack chart : List ℕ} {character action foresight nesting character₁ action₁ foresight₁ nesting₁ : ℕ} {x : Judged}
+    pub explained_returned : {pack chart : List ℕ} {character action foresight nesting character₁ action₁ foresight₁ nesting₁ : ℕ} {x : Result Bool Refusal}
         → character ≡ character₁ → action ≡ action₁ → foresight ≡ foresight₁ → nesting ≡ nesting₁ → Judgement pack chart character₁ action₁ foresight₁ nesting₁ (take k work) part x
-        → r ≡ number_of (told verdict_numbers (explained_said x)) → report' ≡ put (entries (told verdict_numbers (explained_said x))) report
+        → r ≡ number_of (told verdict_numbers (replied x)) → report' ≡ put (entries (told verdict_numbers (replied x))) report
         → ExplainedReturned pack chart character action foresight nesting work report (part ++ drop k work) report' r
     explained_returned {pack} {chart} {character} {action} {foresight} {nesting} {x = x} c a f n promise number t =
         let p = rw (← c, ← a, ← f, ← n, sees) at promise in
         record {
-          returned = returned (explained_reply pack chart character action foresight nesting (seen report work)) verdict_numbers (told verdict_numbers (explained_said x))
+          returned = returned (explained_reply pack chart character action foresight nesting (seen report work)) verdict_numbers (told verdict_numbers (replied x))
               (ap (told verdict_numbers) (sym p.answer)) p.scratch number t;
         }
 
-    pub search_returned : {pack : List ℕ} {story foresight nesting story₁ foresight₁ nesting₁ : ℕ} {list list' : List ℕ} {x : Found}
+    -- and those of an ending
+    searched : (x : Result planner.Ending Refusal) → told plan_numbers (search_said x) ≡ told ending_numbers (replied x)
+    searched (Ok e) = refl
+    searched (Err why) = refl
+
+    pub search_returned : {pack : List ℕ} {story foresight nesting story₁ foresight₁ nesting₁ : ℕ} {list list' : List ℕ} {x : Result planner.Ending Refusal}
         → story ≡ story₁ → foresight ≡ foresight₁ → nesting ≡ nesting₁ → Searching pack story₁ foresight₁ nesting₁ list (take k work) list' part x
-        → r ≡ number_of (told plan_numbers (search_said x)) → report' ≡ put (entries (told plan_numbers (search_said x))) report
+        → r ≡ number_of (told ending_numbers (replied x)) → report' ≡ put (entries (told ending_numbers (replied x))) report
         → SearchReturned pack story foresight nesting list work report list' (part ++ drop k work) report' r
     search_returned {pack} {story} {foresight} {nesting} {list = list} {x = x} s f n promise number t =
         let p = rw (← s, ← f, ← n, sees) at promise in
         let reply = search_reply pack story foresight nesting list (seen report work) in
         record {
-          returned = returned reply (λ p. plan_numbers (summary p)) (told plan_numbers (search_said x)) (sym (told-told plan_numbers summary reply) ∙ ap (told plan_numbers) (sym p.answer)) p.scratch number t;
+          returned = returned reply (λ p. plan_numbers (summary p)) (told ending_numbers (replied x)) (sym (told-told plan_numbers summary reply) ∙ ap (told plan_numbers) (sym p.answer) ∙ searched x) p.scratch number t;
           result = p.result;
         }

@@ -2,7 +2,7 @@
 -- 01's demands and "From the buyer: what I will send back". Of each call there are two: what its reply means over
 -- chains, and, from the call's own promise, what it hands back and leaves in the buffers that it was lent. A name with
 -- ' is a buffer at exit.
-use Rattle.std.specs.Prelude.{ℕ, ◌<◌, ◌≤◌, ◌≡◌, Bool, true, false, ◌&&◌, ◌↔◌, ◌⊎◌, get_or, drop}
+use Rattle.std.specs.Prelude.{ℕ, ◌<◌, ◌≤◌, ◌≡◌, Bool, true, false, ◌&&◌, ◌↔◌, ◌⊎◌, get_or, drop, Option, Some, None, Result, Ok, Err}
 use Rattle.std.proofs.Math.Path.{refl, ap}
 use Rattle.std.proofs.Common.{sym, ◌∙◌, subst}
 use Rattle.std.proofs.Math.Logic.{inl, inr, ⊎_elim}
@@ -17,12 +17,10 @@ use Rattle.pack.specs.Laws.PackBack.{pack_back}
 use Rattle.pack.specs.Laws.Exact.{Bytes}
 use Rattle.pack.specs.Laws.PackExact.{pack_exactly, fits_limits, chart_exactly}
 use Rattle.pack.specs.Laws.Reading.{never_gives}
-use Rattle.chart.specs.declared.Charted.{Charted}
-use Rattle.chart.specs.declared.Charted.TheVariants as charted
-use Rattle.chart.specs.declared.Queried.{Queried}
-use Rattle.chart.specs.declared.Queried.TheVariants as queried
-use Rattle.chart.specs.declared.Matched.{Matched}
-use Rattle.chart.specs.declared.Matched.TheVariants as matched
+use Rattle.pack.specs.declared.refusal.Refusal.{Refusal}
+use Rattle.pack.specs.declared.refusal.Refusal.TheVariants.{NoEnding}
+use Rattle.pack.specs.Duties.Said.{replied}
+use Rattle.chart.specs.declared.Difference as chart
 use Rattle.chart.specs.Chart.{ChartOf}
 use Rattle.chart.specs.Compare.{Verdict, same, differ, Differ, Compared}
 use Rattle.chart.specs.Call.{fits, cleared, result_after, work_after}
@@ -53,16 +51,13 @@ use Rattle.transition.specs.Promises.{Stepped}
 use Rattle.transition.specs.Laws.Settled.{plays_refuses, plays_one}
 use Rattle.transition.specs.Laws.Stepping.{steps-one}
 use Rattle.transition.specs.Laws.Replies.{step_writes}
-use Rattle.planner.specs.declared.Judged.{Judged}
-use Rattle.planner.specs.declared.Judged.TheVariants as judged
-use Rattle.planner.specs.declared.Found.{Found}
-use Rattle.planner.specs.declared.Found.TheVariants as found
+use Rattle.planner.specs.declared.Ending as planner
 use Rattle.planner.specs.Ending.{Explained, Ending}
 use Rattle.planner.specs.Search.{Sought, Answer, ending, none, Searched}
 use Rattle.planner.specs.Answers.{explained_table, search_table}
 use Rattle.planner.specs.Replies.{story_limit, foresight_limit, nesting_limit}
 use Rattle.planner.specs.Replies.{explained_reply, Plan, answer_reply, search_reply}
-use Rattle.planner.specs.Promises.{Judgement, Searching, explained_said, summary}
+use Rattle.planner.specs.Promises.{Judgement, Searching, summary}
 use Rattle.planner.specs.Readings.{starred, Says}
 use Rattle.planner.specs.Laws.Answers.{search_table_same}
 use Rattle.planner.specs.Laws.Searching.{searched_one}
@@ -72,10 +67,11 @@ use Rattle.pirwodd.specs.Report.{seen, put}
 use Rattle.pirwodd.specs.Exports.{match_numbers, verdict_numbers, plan_numbers, SearchReturned, ExplainedReturned}
 use Rattle.pirwodd.specs.Exports.{StartReturned, QueryReturned, CompareReturned, StepReturned}
 use Rattle.pirwodd.specs.Laws.Calls.{
-  chart_given,
-  chart_refused,
-  value_given,
-  verdict_given,
+  Because,
+  answer_given,
+  answer_refused,
+  differing,
+  ending_of,
   same_exactly,
   differ_exactly,
   none_exactly,
@@ -139,16 +135,16 @@ module _ {pack : List ℕ} {p : Pack} (given : Given pack p) where
 
   -- what Start hands back and leaves: the chart's bytes at the front of its buffer, their length, and the work buffer
   -- cleared
-  pub start_call : {chart work chart' work' : List ℕ} {r : Charted} → Started pack chart work chart' work' r
+  pub start_call : {chart work chart' work' : List ℕ} {r : Result ℕ Refusal} → Started pack chart work chart' work' r
       → 961 ≤ length chart → 49152 ≤ length work
-      → (bytes : List ℕ) × ChartOf C theory.domains (state p.nodes) bytes × (r ≡ charted.Chart (length bytes))
+      → (bytes : List ℕ) × ChartOf C theory.domains (state p.nodes) bytes × (r ≡ Ok (length bytes))
       × (chart' ≡ bytes ++ drop (length bytes) chart) × (work' ≡ cleared work)
   unfolding result_after work_after
   start_call {chart} {work} {r = r} promise room enough =
       let (bytes, e, of) = start_is chart work room enough in (
         bytes,
         of,
-        chart_given r (promise.answer ∙ ap (told length) e),
+        answer_given r (promise.answer ∙ ap (told length) e),
         promise.result ∙ ap (λ (y : Reply (List ℕ)). result_after y chart) e,
         promise.scratch ∙ ap (λ (y : Reply (List ℕ)). work_after y work) e,
       )
@@ -174,14 +170,14 @@ module _ {pack : List ℕ} {p : Pack} (given : Given pack p) where
   query_is = query_says given
 
   -- what Query hands back
-  pub query_call : {chart chain : List ℕ} {fluent : ℕ} {work work' : List ℕ} {r : Queried}
+  pub query_call : {chart chain : List ℕ} {fluent : ℕ} {work work' : List ℕ} {r : Result ℕ Refusal}
       → Asked pack chart chain fluent work work' r
       → (t : List Node) → Chart theory chart t → Valid C chain → fluent < fluents theory → 49152 ≤ length work
-      → (r ≡ queried.Value (get_or (state t chain) fluent 0)) × (work' ≡ cleared work)
+      → (r ≡ Ok (get_or (state t chain) fluent 0)) × (work' ≡ cleared work)
   unfolding work_after
   query_call {chart} {chain} {fluent} {work} {r = r} promise t read valid there enough =
       let e = query_is chart chain fluent work t read valid there enough in
-      (value_given r (promise.answer ∙ e), promise.scratch ∙ ap (λ (y : Reply ℕ). work_after y work) e)
+      (answer_given r (promise.answer ∙ e), promise.scratch ∙ ap (λ (y : Reply ℕ). work_after y work) e)
 
   -- the same of the exported call
   pub query_exported : {chart chain : List ℕ} {fluent : ℕ} {work report work' report' : List ℕ} {r : ℕ}
@@ -208,9 +204,9 @@ module _ {pack : List ℕ} {p : Pack} (given : Given pack p) where
 
     -- what Compare hands back and leaves: "same" exactly where no chain tells the two states apart; else the first
     -- chain that does
-    module _ {chain' work' : List ℕ} {r : Matched}
+    module _ {chain' work' : List ℕ} {r : Result (Option chart.Difference) Refusal}
         (promise : Comparison pack first second chain work chain' work' r) where
-      pub compare_call_same : (r ≡ matched.Same) ↔ ((ch : List ℕ) → Valid C ch → state t ch ≡ state u ch)
+      pub compare_call_same : (r ≡ Ok None) ↔ ((ch : List ℕ) → Valid C ch → state t ch ≡ state u ch)
       compare_call_same =
           let said = compare_reply pack first second chain work in
           let x = same_exactly said chain promise.answer promise.result in (
@@ -220,7 +216,7 @@ module _ {pack : List ℕ} {p : Pack} (given : Given pack p) where
 
       -- the chain stands at the front of its buffer
       pub compare_call_differs : (n fluent : ℕ)
-          → (r ≡ matched.Differ n fluent)
+          → (r ≡ Ok (Some (differing n fluent)))
           ↔ ((ch : List ℕ) × (length ch ≡ n) × (chain' ≡ ch ++ drop n chain) × Differ C (state t) (state u) ch fluent)
       unfolding result_after
       compare_call_differs n fluent =
@@ -294,10 +290,10 @@ module _ {pack : List ℕ} {p : Pack} (given : Given pack p) where
 
     -- what Step hands back and leaves: the chart's bytes at the front of its buffer and their length, or the number and
     -- the buffer as it was
-    pub step_call : {out' work' : List ℕ} {r : Charted} → Stepped pack chart a out work out' work' r
+    pub step_call : {out' work' : List ℕ} {r : Result ℕ Refusal} → Stepped pack chart a out work out' work' r
         → ((s' : State) × Plays theory (state t) a s' × (bytes : List ℕ) × ChartOf C theory.domains s' bytes
-        × (r ≡ charted.Chart (length bytes)) × (out' ≡ bytes ++ drop (length bytes) out))
-        ⊎ ((n : ℕ) × Refuses theory (state t) a n × (r ≡ charted.Refused n 0) × (out' ≡ out))
+        × (r ≡ Ok (length bytes)) × (out' ≡ bytes ++ drop (length bytes) out))
+        ⊎ ((n : ℕ) × Refuses theory (state t) a n × Because r n 0 × (out' ≡ out))
     unfolding result_after
     step_call {r = r} promise = ⊎_elim
         (λ (l : (s' : State) × Plays theory (state t) a s' × (bytes : List ℕ)
@@ -308,7 +304,7 @@ module _ {pack : List ℕ} {p : Pack} (given : Given pack p) where
           plays,
           bytes,
           of,
-          chart_given r (promise.answer ∙ ap (told length) e),
+          answer_given r (promise.answer ∙ ap (told length) e),
           promise.result ∙ ap (λ (y : Reply (List ℕ)). result_after y out) e,
         ))
         (λ (q : (n : ℕ) × Refuses theory (state t) a n × (step_reply pack chart a out work ≡ refuses n 0)).
@@ -316,7 +312,7 @@ module _ {pack : List ℕ} {p : Pack} (given : Given pack p) where
         inr (
           n,
           why,
-          chart_refused r (promise.answer ∙ ap (told length) e),
+          answer_refused r (promise.answer ∙ ap (told length) e),
           promise.result ∙ ap (λ (y : Reply (List ℕ)). result_after y out) e,
         ))
         step_is
@@ -355,17 +351,17 @@ module _ {pack : List ℕ} {p : Pack} (given : Given pack p) where
     unexplained_is = explained_denies given chart t read c a K e who there k1 k6 e3 work enough
 
     -- what Explained hands back
-    pub explained_call : {work' : List ℕ} {r : Judged} → Judgement pack chart c a K e work work' r
-        → ((r ≡ judged.Verdict true) ↔ Explained theory K e c a (state t))
-        × ((r ≡ judged.Verdict false) ↔ (¬ Explained theory K e c a (state t)))
+    pub explained_call : {work' : List ℕ} {r : Result Bool Refusal} → Judgement pack chart c a K e work work' r
+        → ((r ≡ Ok true) ↔ Explained theory K e c a (state t))
+        × ((r ≡ Ok false) ↔ (¬ Explained theory K e c a (state t)))
     explained_call {r = r} promise = (
       (
-        λ q. explained_is.0 (sym promise.answer ∙ ap explained_said q),
-        λ x. verdict_given r (promise.answer ∙ explained_is.1 x),
+        λ q. explained_is.0 (sym promise.answer ∙ ap replied q),
+        λ x. answer_given r (promise.answer ∙ explained_is.1 x),
       ),
       (
-        λ q. unexplained_is.0 (sym promise.answer ∙ ap explained_said q),
-        λ x. verdict_given r (promise.answer ∙ unexplained_is.1 x),
+        λ q. unexplained_is.0 (sym promise.answer ∙ ap replied q),
+        λ x. answer_given r (promise.answer ∙ unexplained_is.1 x),
       ),
     )
 
@@ -418,17 +414,17 @@ module _ {pack : List ℕ} {p : Pack} (given : Given pack p) where
         go (ending actions before after) e = inr (actions, before, after, e)
 
     -- Demand 3, of what Search hands back and leaves in the list's buffer
-    module _ {list' work' : List ℕ} {r : Found} (promise : Searching pack T K E list work list' work' r) where
+    module _ {list' work' : List ℕ} {r : Result planner.Ending Refusal} (promise : Searching pack T K E list work list' work' r) where
       -- 13 exactly where no list is an ending
-      pub search_call_none : (r ≡ found.Refused 13 0)
+      pub search_call_none : (r ≡ Err NoEnding)
           ↔ ((actions : List ℕ) → ¬ Ending theory T K E (state p.nodes) actions)
       search_call_none =
-          let x = none_exactly (search_reply pack T K E list work) list promise.answer promise.result 13 0 in
+          let x = none_exactly (search_reply pack T K E list work) list promise.answer promise.result in
           (λ e. no_ending.0 (x.0 e), λ h. x.1 (no_ending.1 h))
 
       -- a list of n actions at the buffer's front that is the shortest ending, then the earliest, and the author's
       -- utility before and after it
-      pub search_call_found : (n before after : ℕ) → (r ≡ found.Ending n before after)
+      pub search_call_found : (n before after : ℕ) → (r ≡ Ok (ending_of n before after))
           ↔ ((actions : List ℕ) × (length actions ≡ n) × (list' ≡ actions ++ drop n list)
           × Sought theory T K E (state p.nodes) actions before after)
       search_call_found n before after =
@@ -440,12 +436,12 @@ module _ {pack : List ℕ} {p : Pack} (given : Given pack p) where
           )
 
       -- one of the two always
-      pub search_call_total : (r ≡ found.Refused 13 0)
-          ⊎ ((n : ℕ) × (before : ℕ) × (after : ℕ) × (r ≡ found.Ending n before after))
+      pub search_call_total : (r ≡ Err NoEnding)
+          ⊎ ((n : ℕ) × (before : ℕ) × (after : ℕ) × (r ≡ Ok (ending_of n before after)))
       unfolding result_after
       search_call_total = ⊎_elim
           (λ (e : search_reply pack T K E list work ≡ refuses 13 0).
-          inl ((none_exactly (search_reply pack T K E list work) list promise.answer promise.result 13 0).1 e))
+          inl ((none_exactly (search_reply pack T K E list work) list promise.answer promise.result).1 e))
           (λ (g : (actions : List ℕ) × (before : ℕ) × (after : ℕ) × (search_reply pack T K E list work ≡ gives (record {
             list = actions;
             before = before;

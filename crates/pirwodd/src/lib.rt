@@ -2,47 +2,24 @@
 // lent report: what the answer says, or the refusal's place. What that is for each call stands in specs/Exports.antt.
 #![tactic(auto)]
 
-ghost use Rattle.std.specs.Prelude.{◌≡◌, [], ◌∷◌, set, leb};
+ghost use Rattle.std.specs.Prelude.{◌≡◌, List, ℕ, [], ◌∷◌, set, leb};
 ghost use Rattle.pack.specs.Reading.{pick, told};
-ghost use Rattle.chart.specs.Promises.{chart_said};
-ghost use Rattle.planner.specs.Promises.{explained_said, search_said};
+ghost use Rattle.pack.specs.Duties.Said.{replied};
 ghost use Rattle.pirwodd.specs.Report.{report_room, put, number_of, entries};
-ghost use Rattle.pirwodd.specs.Exports.{one, verdict_numbers, plan_numbers, StartReturned, QueryReturned};
-ghost use Rattle.pirwodd.specs.Exports.{CompareReturned, StepReturned, ExplainedReturned, SearchReturned};
+ghost use Rattle.pirwodd.specs.Exports.{one, verdict_numbers, StartReturned, QueryReturned, CompareReturned};
+ghost use Rattle.pirwodd.specs.Exports.{StepReturned, ExplainedReturned, SearchReturned};
+ghost use Rattle.pirwodd.specs.Told.{difference_numbers, ending_numbers};
 
+use chart::Difference;
 use chart::compare::compare;
 use chart::query::query;
 use chart::start::start;
-use chart::{Charted, Matched, Queried};
+use pack::refusal::Refusal;
+use planner::Ending;
 use planner::limits::{Foresight, Nesting, Story};
 use planner::search::search;
 use planner::verdict::verdict;
-use planner::{Found, Judged};
 use transition::play::step;
-
-fn wide_byte(x: u8) -> usize
-    ensures { x ≡ result }
-{
-    x as usize
-}
-
-fn wide_number(x: u8) -> u32
-    ensures { x ≡ result }
-{
-    x as u32
-}
-
-fn wide_place(x: usize) -> u64
-    ensures { x ≡ result }
-{
-    x as u64
-}
-
-fn index(x: u64) -> usize
-    ensures { x ≡ result }
-{
-    x as usize
-}
 
 // How much of a work buffer is lent to the call: none where the report is too short, so that 8 is told where a short
 // buffer is.
@@ -56,67 +33,98 @@ fn lent(report: usize, work: usize) -> usize
 fn put_entry(report: &mut [u64], at: usize, entry: usize)
     ensures { report.new ≡ set report.old at entry }
 {
-    if report.len() <= at {
-        return;
+    if at < report.len() {
+        report[at] = entry as u64;
     }
-    report[at] = wide_place(entry);
 }
 
-// Hands the number back, and puts one entry into the report.
-fn tell(number: u8, entry: usize, report: &mut [u64]) -> u32
-    ensures { (number ≡ result) × (report.new ≡ put (entry ∷ []) report.old) }
+// Puts one entry into the report.
+fn put_one(report: &mut [u64], entry: usize)
+    ensures { report.new ≡ put (entry ∷ []) report.old }
 {
     put_entry(report, 0, entry);
-    wide_number(number)
 }
 
-// Hands 0 back, and puts three entries into the report.
-fn tell_three(first: usize, second: usize, third: usize, report: &mut [u64]) -> u32
-    ensures { (0 ≡ result) × (report.new ≡ put (first ∷ second ∷ third ∷ []) report.old) }
+// Puts three entries into the report.
+fn put_three(report: &mut [u64], first: usize, second: usize, third: usize)
+    ensures { report.new ≡ put (first ∷ second ∷ third ∷ []) report.old }
 {
     put_entry(report, 0, first);
     put_entry(report, 1, second);
     put_entry(report, 2, third);
-    0
 }
 
-// Tells the length of the chart that was written, or the refusal.
-fn tell_charted(answer: Charted, report: &mut [u64]) -> u32
-    ensures { (result ≡ number_of (told one (chart_said answer)))
-        × (report.new ≡ put (entries (told one (chart_said answer))) report.old) }
-{
-    match answer {
-        Charted::Refused(k, at) => tell(k, at, report),
-        Charted::Chart(length) => tell(0, length, report),
+// An answer, of which numbers are told: they are put into the first entries of a report.
+trait Told {
+    ghost numbers: { Self → List ℕ };
+
+    fn tell(self, report: &mut [u64])
+        ensures { report.new ≡ put (numbers self) report.old };
+}
+
+// A length.
+impl Told for usize {
+    ghost numbers = { one };
+
+    fn tell(self, report: &mut [u64]) {
+        put_one(report, self);
     }
 }
 
-// 1 for yes, 0 for no.
-fn bit(x: bool) -> usize
-    ensures { result ≡ pick x 1 0 }
-{
-    if x { 1 } else { 0 }
-}
+// A value.
+impl Told for u8 {
+    ghost numbers = { one };
 
-// Tells the verdict, or the refusal.
-fn tell_judged(answer: Judged, report: &mut [u64]) -> u32
-    ensures { (result ≡ number_of (told verdict_numbers (explained_said answer)))
-        × (report.new ≡ put (entries (told verdict_numbers (explained_said answer))) report.old) }
-{
-    match answer {
-        Judged::Refused(k, at) => tell(k, at, report),
-        Judged::Verdict(verdict) => tell(0, bit(verdict), report),
+    fn tell(self, report: &mut [u64]) {
+        put_one(report, usize::from(self));
     }
 }
 
-// Tells the list's length and both utilities, or the refusal.
-fn tell_found(answer: Found, report: &mut [u64]) -> u32
-    ensures { (result ≡ number_of (told plan_numbers (search_said answer)))
-        × (report.new ≡ put (entries (told plan_numbers (search_said answer))) report.old) }
+// A verdict: 1 for yes, 0 for no.
+impl Told for bool {
+    ghost numbers = { verdict_numbers };
+
+    fn tell(self, report: &mut [u64]) {
+        let yes = usize::from(self);
+        put_one(report, yes);
+    }
+}
+
+// A comparison: 0 for "same", or 1, the chain's length and the fluent.
+impl Told for Option<Difference> {
+    ghost numbers = { difference_numbers };
+
+    fn tell(self, report: &mut [u64]) {
+        match self {
+            None => put_one(report, 0),
+            Some(Difference { length, fluent }) => put_three(report, 1, length, fluent),
+        }
+    }
+}
+
+// An ending: the list's length, and both utilities.
+impl Told for Ending {
+    ghost numbers = { ending_numbers };
+
+    fn tell(self, report: &mut [u64]) {
+        put_three(report, self.length, self.before, self.after);
+    }
+}
+
+// Tells an answer and hands 0 back, or tells a refusal's place and hands its number back.
+fn hand_back<T: Told>(said: Result<T, Refusal>, report: &mut [u64]) -> u32
+    ensures number { result ≡ number_of (told T.numbers (replied said)) }
+    ensures entries { report.new ≡ put (entries (told T.numbers (replied said))) report.old }
 {
-    match answer {
-        Found::Refused(k, at) => tell(k, at, report),
-        Found::Ending(length, before, after) => tell_three(length, before, after, report),
+    match said {
+        Ok(answer) => {
+            answer.tell(report);
+            0
+        }
+        Err(why) => {
+            why.place().tell(report);
+            u32::from(why.number())
+        }
     }
 }
 
@@ -126,8 +134,7 @@ pub fn pirwodd_start(pack: &[u8], chart: &mut [u8], work: &mut [u8], report: &mu
         chart.new work.new report.new result }
 {
     let room = lent(report.len(), work.len());
-    let answer = start(pack, chart, &mut work[..room]);
-    tell_charted(answer, report)
+    hand_back(start(pack, chart, &mut work[..room]), report)
 }
 
 // Query: the report's entry is the value.
@@ -143,10 +150,8 @@ pub fn pirwodd_query(
         work.old report.old work.new report.new result }
 {
     let room = lent(report.len(), work.len());
-    match query(pack, chart, chain, index(fluent), &mut work[..room]) {
-        Queried::Refused(k, at) => tell(k, at, report),
-        Queried::Value(value) => tell(0, wide_byte(value), report),
-    }
+    let said = query(pack, chart, chain, fluent as usize, &mut work[..room]);
+    hand_back(said, report)
 }
 
 // Compare: the report's entries are 0 for "same", or 1, the chain's length and the fluent.
@@ -162,11 +167,8 @@ pub fn pirwodd_compare(
         work.old report.old chain.new work.new report.new result }
 {
     let room = lent(report.len(), work.len());
-    match compare(pack, first, second, chain, &mut work[..room]) {
-        Matched::Refused(k, at) => tell(k, at, report),
-        Matched::Same => tell(0, 0, report),
-        Matched::Differ(length, fluent) => tell_three(1, length, fluent, report),
-    }
+    let said = compare(pack, first, second, chain, &mut work[..room]);
+    hand_back(said, report)
 }
 
 // Step: the report's entry is the length of the chart of what the action leaves.
@@ -182,8 +184,8 @@ pub fn pirwodd_step(
         work.old report.old res.new work.new report.new result }
 {
     let room = lent(report.len(), work.len());
-    let answer = step(pack, chart, index(action), res, &mut work[..room]);
-    tell_charted(answer, report)
+    let said = step(pack, chart, action as usize, res, &mut work[..room]);
+    hand_back(said, report)
 }
 
 // Explained: the report's entry is 1 for yes, 0 for no.
@@ -201,16 +203,16 @@ pub fn pirwodd_explained(
         work.old report.old work.new report.new result }
 {
     let room = lent(report.len(), work.len());
-    let answer = verdict(
+    let said = verdict(
         pack,
         chart,
-        index(character),
-        index(action),
-        Foresight(index(foresight)),
-        Nesting(index(nesting)),
+        character as usize,
+        action as usize,
+        Foresight(foresight as usize),
+        Nesting(nesting as usize),
         &mut work[..room],
     );
-    tell_judged(answer, report)
+    hand_back(said, report)
 }
 
 // Search: the report's entries are the list's length, and the author's utility at the start and at the list's end.
@@ -227,13 +229,13 @@ pub fn pirwodd_search(
         report.old list.new work.new report.new result }
 {
     let room = lent(report.len(), work.len());
-    let answer = search(
+    let said = search(
         pack,
-        Story(index(story)),
-        Foresight(index(foresight)),
-        Nesting(index(nesting)),
+        Story(story as usize),
+        Foresight(foresight as usize),
+        Nesting(nesting as usize),
         list,
         &mut work[..room],
     );
-    tell_found(answer, report)
+    hand_back(said, report)
 }

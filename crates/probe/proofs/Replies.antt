@@ -2,35 +2,33 @@
 use Prim.Native.Nat.{ℕ}
 use mathlib.Core.Path.{◌≡◌, refl, sym, ap, ◌∙◌}
 use mathlib.Core.List.{List}
-use lib.ListN.{length, take}
+use lib.ListN.{length}
+use Rattle.std.specs.Prelude.{Result, Ok, Err}
 use Rattle.pack.specs.Syntax.{Pack}
 use Rattle.pack.specs.Reading.{Reply, gives, refuses, with, told, whole}
 use Rattle.pack.specs.Grammar.{nodes_at, pack_of, chart_of, in_chart}
+use Rattle.pack.specs.Refusals.{refusal_number, place_of}
 use Rattle.pack.specs.Duties.Said.{forget}
-use Rattle.pack.specs.Duties.Answer.{dims}
-use Rattle.pack.specs.Duties.Contents.{replied, PackRead, PackFound}
+use Rattle.pack.specs.Duties.Answer.{dims, sizes_of}
+use Rattle.pack.specs.Duties.Contents.{PackRead, PackFound}
 use Rattle.pack.specs.Laws.Reading.{never_gives}
-use Rattle.pack.specs.declared.number.Checked.{Checked}
-use Rattle.pack.specs.declared.number.Checked.TheVariants.{Passed, Refused}
+use Rattle.pack.specs.declared.refusal.Refusal.{Refusal}
 use Rattle.pack.specs.declared.contents.Contents.{Contents}
 use Rattle.probe.specs.Report.{chart_count}
 
 -- a refusal of what is told is one of the reply itself
-pub refused-told : {A : Type 0} (x : Reply A) (r : Checked) (k p : ℕ) → told forget x ≡ replied r → r ≡ Refused k p → x ≡ refuses k p
-refused-told (gives a) r k p e f = never_gives (sym (e ∙ ap replied f))
-refused-told (refuses j q) r k p e f = same (e ∙ ap replied f)
-  where
-    same : {A : Type 0} → ◌≡◌ {A = Reply (Unit {0})} (refuses j q) (refuses k p) → ◌≡◌ {A = Reply A} (refuses j q) (refuses k p)
-    same g = let a : j ≡ k = cc in let b : q ≡ p = cc in cc
+pub refused-told : {A : Type 0} (x : Reply A) (k p : ℕ) → told forget x ≡ refuses k p → x ≡ refuses k p
+refused-told (gives a) k p e = never_gives (sym e)
+refused-told (refuses j q) k p e = let a : j ≡ k = cc in let b : q ≡ p = cc in cc
 
 -- what is given
 pub record Given {A : Type 0} (x : Reply A) : Type 0 where
   pub value : A
   pub is : x ≡ gives value
 
-pub passed_told : {A : Type 0} (x : Reply A) (r : Checked) (n : ℕ) → told forget x ≡ replied r → r ≡ Passed n → Given x
-passed_told (gives a) r n e f = record { value = a; is = refl }
-passed_told (refuses k p) r n e f = never_gives (e ∙ ap replied f)
+pub passed_told : {A : Type 0} (x : Reply A) → told forget x ≡ gives tt → Given x
+passed_told (gives a) e = record { value = a; is = refl }
+passed_told (refuses k p) e = never_gives e
 
 -- an accepted pack, and what was found of it
 pub record Accepted (s places : List ℕ) (r : Contents) : Type 0 where
@@ -38,14 +36,18 @@ pub record Accepted (s places : List ℕ) (r : Contents) : Type 0 where
   pub is : pack_of s ≡ gives pack
   pub found : PackFound s places pack r
 
-pub accepted : (s places : List ℕ) (r : Contents) (n : ℕ) → PackRead s places r → r.answer ≡ Passed n → Accepted s places r
-accepted s places r n h e =
-    let g = passed_told (pack_of s) r.answer n h.answer e in
+pub accepted : (s places : List ℕ) (r : Contents) → PackRead s places (Ok r) → Accepted s places r
+accepted s places r h =
+    let g = passed_told (pack_of s) h.answer in
     record { pack = g.value; is = g.is; found = h.found g.value g.is }
+
+-- a refused pack
+pub refused : (s places : List ℕ) (why : Refusal) → PackRead s places (Err why) → pack_of s ≡ refuses (refusal_number why) (place_of why)
+refused s places why h = refused-told (pack_of s) (refusal_number why) (place_of why) h.answer
 
 module _ (s places : List ℕ) (r : Contents) (a : Accepted s places r) where
   -- a chart is read with the dimensions that were found
-  pub count_read : (chart : List ℕ) (x : Reply ℕ) → told length (in_chart (whole (nodes_at (dims r.characters (take r.fluents r.sizes))) chart)) ≡ x → chart_count s chart ≡ x
+  pub count_read : (chart : List ℕ) (x : Reply ℕ) → told length (in_chart (whole (nodes_at (dims r.characters (sizes_of r.domains))) chart)) ≡ x → chart_count s chart ≡ x
   unfolding chart_count chart_of
   count_read chart x e =
       ap (λ (p : Reply Pack). with p (λ p. told length (chart_of p.theory chart))) a.is

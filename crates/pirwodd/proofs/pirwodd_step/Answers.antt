@@ -1,8 +1,9 @@
 -- The call sees as much of the work buffer as the report allows; what it says is told. Assumes nothing.
+use Rattle.std.proofs.Common.{refl}
 use Rattle.pirwodd.proofs.Returned.{step_returned}
 use Rattle.pirwodd.proofs.pirwodd_step.Goals as goal
 
 pub returns : goal.returns
 returns c =
-    step_returned _ _ _ c.lent-room.ensures _ _ _ c.step-answer.auto.work c.index.ensures c.step-answer.ensures
-    c.tell_charted.ensures.0 c.tell_charted.ensures.1
+    step_returned _ _ _ c.lent-room.ensures _ _ _ c.step-said.auto.work refl c.step-said.ensures c.hand_back.ensures.number
+    c.hand_back.ensures.entries

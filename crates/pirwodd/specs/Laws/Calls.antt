@@ -1,28 +1,30 @@
 -- From what a call promises of its answer and its lent buffers to its reply, and back. Assumes nothing.
-use Rattle.std.specs.Prelude.{ℕ, ◌≤◌, refl, Bool, ◌↔◌}
+use Rattle.std.specs.Prelude.{ℕ, ◌≤◌, refl, Bool, ◌↔◌, Option, Some, None, Result, Ok, Err}
 use Rattle.std.proofs.Math.Path.{◌≡◌, ap, ap₂}
 use Rattle.std.proofs.Common.{sym, ◌∙◌, arith, le-leb}
 use mathlib.Core.List.{List, [], ◌∷◌, ◌++◌}
 use Rattle.std.proofs.Math.ListN.{length, drop}
 use Rattle.pack.specs.Reading.{Reply, gives, refuses, told, pick}
 use Rattle.pack.specs.Laws.Reading.{never_gives, same_gift, same_number}
-use Rattle.chart.specs.declared.Charted.{Charted}
-use Rattle.chart.specs.declared.Charted.TheVariants as charted
-use Rattle.chart.specs.declared.Queried.{Queried}
-use Rattle.chart.specs.declared.Queried.TheVariants as queried
-use Rattle.chart.specs.declared.Matched.{Matched}
-use Rattle.chart.specs.declared.Matched.TheVariants as matched
+use Rattle.pack.specs.Refusals.{number_of, stop_number, refusal_number, place_of}
+use Rattle.pack.specs.Duties.Said.{replied}
+use Rattle.pack.specs.declared.refusal.Fault.{Fault}
+use Rattle.pack.specs.declared.refusal.Fault.TheVariants as faults
+use Rattle.pack.specs.declared.refusal.Stop.{Stop}
+use Rattle.pack.specs.declared.refusal.Stop.TheVariants as stops
+use Rattle.pack.specs.declared.refusal.Refusal.{Refusal}
+use Rattle.pack.specs.declared.refusal.Refusal.TheVariants as whys
+use Rattle.pack.specs.declared.refusal.Refusal.TheVariants.{NoEnding}
+use Rattle.chart.specs.declared.Difference as chart
 use Rattle.chart.specs.Compare.{Verdict, same, differ}
 use Rattle.chart.specs.Call.{cleared, result_after, work_after}
 use Rattle.chart.specs.Replies.{chain_of}
-use Rattle.chart.specs.Promises.{chart_said, query_said, nowhere, after, difference, compare_said}
-use Rattle.planner.specs.declared.Judged.{Judged}
-use Rattle.planner.specs.declared.Judged.TheVariants as judged
-use Rattle.planner.specs.declared.Found.{Found}
-use Rattle.planner.specs.declared.Found.TheVariants as found
+use Rattle.chart.specs.Promises.{Difference, nowhere, after, difference, compare_said}
+use Rattle.planner.specs.declared.Ending as planner
 use Rattle.planner.specs.Replies.{Plan}
-use Rattle.planner.specs.Promises.{explained_said, Summary, summary, search_said}
-use Rattle.pirwodd.specs.Report.{seen, put, number_of, entries, Returned}
+use Rattle.planner.specs.Promises.{Summary, summary, search_said}
+use Rattle.pirwodd.specs.Report.{seen, put, entries, Returned}
+use Rattle.pirwodd.specs.Report as reports
 
 -- an answer that is told was given, and a refusal stays
 pub gave : {A B : Type 0} (f : A → B) (x : Reply A) {b : B} → told f x ≡ gives b → (a : A) × (x ≡ gives a) × (f a ≡ b)
@@ -36,39 +38,52 @@ stayed f (refuses j q) e = ap₂ refuses (same_number e) (same_spot e)
     same_spot : {A : Type 0} {j k p q : ℕ} → ◌≡◌ {A = Reply A} (refuses j p) (refuses k q) → p ≡ q
     same_spot e = cc
 
--- Start and Step: the chart's length, or a refusal
-pub chart_given : (r : Charted) {n : ℕ} → chart_said r ≡ gives n → r ≡ charted.Chart n
-chart_given (charted.Chart m) e = ap charted.Chart (same_gift e)
-chart_given (charted.Refused k p) e = never_gives e
+-- an answer is given as it is
+pub answer_given : {A : Type 0} (r : Result A Refusal) {a : A} → replied r ≡ gives a → r ≡ Ok a
+answer_given (Ok b) e = ap Ok (same_gift e)
+answer_given (Err why) e = never_gives e
 
-pub chart_refused : (r : Charted) {n p : ℕ} → chart_said r ≡ refuses n p → r ≡ charted.Refused n p
-chart_refused (charted.Chart m) e = never_gives (sym e)
-chart_refused (charted.Refused k q) e = cc
+-- why a call is refused, by its number and place
+abbrev pub Because : {A : Type 0} → Result A Refusal → (number place : ℕ) → Type 0
+Because r n p = (why : Refusal) × (r ≡ Err why) × (refusal_number why ≡ n) × (place_of why ≡ p)
 
--- Query: the value
-pub value_given : (r : Queried) {n : ℕ} → query_said r ≡ gives n → r ≡ queried.Value n
-value_given (queried.Value m) e = ap queried.Value (same_gift e)
-value_given (queried.Refused k p) e = never_gives e
+same_place : {A : Type 0} {j k p q : ℕ} → ◌≡◌ {A = Reply A} (refuses j p) (refuses k q) → p ≡ q
+same_place e = cc
 
--- Explained: the verdict
-pub verdict_given : (r : Judged) {b : Bool} → explained_said r ≡ gives b → r ≡ judged.Verdict b
-verdict_given (judged.Verdict c) e = ap judged.Verdict (same_gift e)
-verdict_given (judged.Refused k p) e = never_gives e
+pub answer_refused : {A : Type 0} (r : Result A Refusal) {n p : ℕ} → replied r ≡ refuses n p → Because r n p
+answer_refused (Ok a) e = never_gives (sym e)
+answer_refused (Err why) e = (why, refl, same_number e, same_place e)
 
-said_same : (r : Matched) → compare_said r ≡ gives nowhere → r ≡ matched.Same
-said_same (matched.Same) e = refl
-said_same (matched.Differ n f) e = let z = same_gift e in let never : ◌≡◌ {A = ℕ} 0 1 = cc in absurd (omega arith)
-said_same (matched.Refused k p) e = never_gives e
+said_same : (r : Result (Option chart.Difference) Refusal) → compare_said r ≡ gives nowhere → r ≡ Ok None
+said_same (Ok None) e = refl
+said_same (Ok (Some d)) e = let z = same_gift e in let never : ◌≡◌ {A = ℕ} 0 1 = cc in absurd (omega arith)
+said_same (Err why) e = never_gives e
 
-said_differ : (r : Matched) {n f : ℕ} → compare_said r ≡ gives (after n f) → r ≡ matched.Differ n f
-said_differ (matched.Same) e = let z = same_gift e in let never : ◌≡◌ {A = ℕ} 0 1 = cc in absurd (omega arith)
-said_differ (matched.Differ m g) e = cc
-said_differ (matched.Refused k p) e = never_gives e
+-- the difference of a length and a fluent
+abbrev pub differing : (count fluent : ℕ) → chart.Difference
+differing n f = record { length = n; fluent = f }
+
+said_differ : (r : Result (Option chart.Difference) Refusal) {n f : ℕ} → compare_said r ≡ gives (after n f)
+    → r ≡ Ok (Some (differing n f))
+said_differ (Ok None) e = let z = same_gift e in let never : ◌≡◌ {A = ℕ} 0 1 = cc in absurd (omega arith)
+said_differ (Ok (Some d)) e =
+    let z = same_gift e in
+    let x = ap count_of z in
+    let y = ap fluent_of z in ap₂ (λ (n f : ℕ). Ok (Some (differing n f))) x y
+  where
+    count_of : Difference → ℕ
+    count_of nowhere = 0
+    count_of (after n f) = n
+
+    fluent_of : Difference → ℕ
+    fluent_of nowhere = 0
+    fluent_of (after n f) = f
+said_differ (Err why) e = never_gives e
 
 -- Compare, whose reply is x
-module _ (x : Reply Verdict) (chain : List ℕ) {chain' : List ℕ} {r : Matched}
+module _ (x : Reply Verdict) (chain : List ℕ) {chain' : List ℕ} {r : Result (Option chart.Difference) Refusal}
     (answer : compare_said r ≡ told difference x) (result : chain' ≡ result_after (told chain_of x) chain) where
-  pub same_exactly : (r ≡ matched.Same) ↔ (x ≡ gives same)
+  pub same_exactly : (r ≡ Ok None) ↔ (x ≡ gives same)
   same_exactly = (
     λ e. let (v, g, d) = gave difference x (sym answer ∙ ap compare_said e) in g ∙ ap gives (alone v d),
     λ e. said_same r (answer ∙ ap (told difference) e),
@@ -79,7 +94,7 @@ module _ (x : Reply Verdict) (chain : List ℕ) {chain' : List ℕ} {r : Matched
       alone (differ ch f) e = let never : ◌≡◌ {A = ℕ} 0 1 = cc in absurd (omega arith)
 
   pub differ_exactly : (n f : ℕ)
-      → (r ≡ matched.Differ n f)
+      → (r ≡ Ok (Some (differing n f)))
       ↔ ((ch : List ℕ) × (length ch ≡ n) × (chain' ≡ ch ++ drop n chain) × (x ≡ gives (differ ch f)))
   unfolding result_after
   differ_exactly n f = (
@@ -100,29 +115,56 @@ module _ (x : Reply Verdict) (chain : List ℕ) {chain' : List ℕ} {r : Matched
             g ∙ ap (λ (f : ℕ). gives (differ ch f)) fluent,
           )
 
-said-refused : (r : Found) {n p : ℕ} → search_said r ≡ refuses n p → r ≡ found.Refused n p
-said-refused (found.Ending c b a) e = never_gives (sym e)
-said-refused (found.Refused k q) e = cc
+-- 13 is the number of "no ending" alone
+only_thirteen : (why : Refusal) → refusal_number why ≡ 13 → why ≡ NoEnding
+only_thirteen (whys.Pack flaw) e = absurd (few flaw.fault e)
+  where
+    few : (f : Fault) → number_of f ≡ 13 → ⊥
+    few faults.Ends e = omega arith
+    few faults.Form e = omega arith
+    few faults.Limit e = omega arith
+    few faults.Absent e = omega arith
+    few faults.Blank e = omega arith
+    few faults.Order e = omega arith
+    few faults.After e = omega arith
+only_thirteen (whys.Chart flaw) e = absurd (omega arith)
+only_thirteen whys.Short e = absurd (omega arith)
+only_thirteen whys.Range e = absurd (omega arith)
+only_thirteen (whys.Stopped stop) e = absurd (few stop e)
+  where
+    few : (s : Stop) → stop_number s ≡ 13 → ⊥
+    few stops.Condition e = omega arith
+    few stops.Rounds e = omega arith
+    few stops.States e = omega arith
+only_thirteen NoEnding e = refl
 
-said_ending : (r : Found) {c b a : ℕ} → search_said r ≡ gives (record { count = c; before = b; after = a })
-    → r ≡ found.Ending c b a
-said_ending (found.Ending c' b' a') e =
-    let z = same_gift e in
+none_said : (r : Result planner.Ending Refusal) → search_said r ≡ refuses 13 0 → r ≡ Err NoEnding
+none_said (Ok e) f = never_gives (sym f)
+none_said (Err why) f = ap Err (only_thirteen why (same_number f))
+
+-- the ending of a length and both utilities
+abbrev pub ending_of : (length before after : ℕ) → planner.Ending
+ending_of n b a = record { length = n; before = b; after = a }
+
+said_ending : (r : Result planner.Ending Refusal) {c b a : ℕ}
+    → search_said r ≡ gives (record { count = c; before = b; after = a }) → r ≡ Ok (ending_of c b a)
+said_ending (Ok e) {c} f =
+    let z = same_gift f in
     let x = ap (λ (s : Summary). s.count) z in
     let y = ap (λ (s : Summary). s.before) z in
     let w = ap (λ (s : Summary). s.after) z in
-    cc
-said_ending (found.Refused k q) e = never_gives e
+    ap (λ (n : ℕ). Ok (ending_of n e.before e.after)) x ∙ ap₂ (λ (b a : ℕ). Ok (ending_of c b a)) y w
+said_ending (Err why) f = never_gives f
 
 -- Search, whose reply is x
-module _ (x : Reply Plan) (list : List ℕ) {list' : List ℕ} {r : Found} (answer : search_said r ≡ told summary x)
+module _ (x : Reply Plan) (list : List ℕ) {list' : List ℕ} {r : Result planner.Ending Refusal} (answer : search_said r ≡ told summary x)
     (result : list' ≡ result_after (told (λ p. p.list) x) list) where
-  pub none_exactly : (n p : ℕ) → (r ≡ found.Refused n p) ↔ (x ≡ refuses n p)
-  none_exactly n p =
-      (λ e. stayed summary x (sym answer ∙ ap search_said e), λ e. said-refused r (answer ∙ ap (told summary) e))
+  pub none_exactly : (r ≡ Err NoEnding) ↔ (x ≡ refuses 13 0)
+  none_exactly =
+      (λ e. stayed summary x (sym answer ∙ ap search_said e), λ e. none_said r (answer ∙ ap (told summary) e))
 
   pub ending_exactly : (n before after : ℕ)
-      → (r ≡ found.Ending n before after)
+      → (r ≡ Ok (ending_of n before after))
       ↔ ((actions : List ℕ) × (length actions ≡ n) × (list' ≡ actions ++ drop n list)
       × (x ≡ gives (record { list = actions; before = before; after = after })))
   unfolding result_after
@@ -154,10 +196,10 @@ module _ {said : Reply (List ℕ)} {work report work' report' : List ℕ} {r : �
       → (r ≡ 0) × (report' ≡ put numbers report) × (work' ≡ cleared work)
   unfolding work_after
   told_answer e = (
-    call.number ∙ ap number_of e,
+    call.number ∙ ap reports.number_of e,
     call.told ∙ ap (λ (y : Reply (List ℕ)). put (entries y) report) e,
     call.scratch ∙ ap (λ (y : Reply (List ℕ)). work_after y work) e,
   )
 
   pub told-refusal : {n p : ℕ} → said ≡ refuses n p → (r ≡ n) × (report' ≡ put (p ∷ []) report)
-  told-refusal e = (call.number ∙ ap number_of e, call.told ∙ ap (λ (y : Reply (List ℕ)). put (entries y) report) e)
+  told-refusal e = (call.number ∙ ap reports.number_of e, call.told ∙ ap (λ (y : Reply (List ℕ)). put (entries y) report) e)

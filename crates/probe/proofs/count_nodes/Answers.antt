@@ -1,11 +1,20 @@
 -- A refused pack is the answer; under an accepted one the chart is read with the dimensions that were found. Assumes nothing.
-use Rattle.probe.proofs.Replies.{refused-told, accepted, count_read, count_refused}
+use Rattle.std.proofs.Common.{rules, sym, ap, subst, ◌≡◌, ◌∙◌, Err}
+use Rattle.pack.specs.Reading.{told, whole}
+use Rattle.pack.specs.Grammar.{nodes_at, in_chart}
+use Rattle.pack.specs.Duties.Said.{replied}
+use Rattle.pack.specs.Duties.Answer.{dims, sizes_of}
+use Rattle.probe.proofs.Replies.{refused, accepted, count_read, count_refused}
+use Rattle.probe.specs.Report.{chart_count}
 use Rattle.probe.proofs.count_nodes.Goals as goal
 
-pub returns-in-Refused : goal.returns-in-Refused
-returns-in-Refused c =
-    count_refused _ _ _ _ (refused-told _ _ _ _ c.read_pack-c.ensures.answer c.in-Refused.is)
+pub returns-in_err-c : goal.returns-in_err-c
+returns-in_err-c c =
+    let handed : c.from_residual.result ≡ Err c.in_err-c.field-0.0 = search rules in
+    subst (λ r. chart_count c.args.pack.now c.args.chart.now ≡ replied r) (sym handed)
+    (count_refused _ _ _ _ (refused _ _ _ c.in_err-c.ensures.read))
 
-pub returns-in-Passed : goal.returns-in-Passed
-returns-in-Passed c =
-    count_read _ _ _ (accepted _ _ _ _ c.read_pack-c.ensures c.in-Passed.is) _ _ c.check_chart.ensures
+pub returns : goal.returns
+returns c =
+    let e = rw (c.dimensions.ensures.0, c.dimensions.ensures.1) at c.check_chart.ensures in
+    count_read _ _ _ (accepted _ _ _ c.in_ok-c.ensures.read) _ _ e

@@ -1,5 +1,5 @@
 -- The next step's line is put after those passed. Assumes nothing.
-use Rattle.std.proofs.Common.{arith, refl, ◌∙◌}
+use Rattle.std.proofs.Common.{arith, refl, sym, ◌∙◌}
 use Rattle.ending.proofs.Pieces.{put-length, put-steps_none, put-steps_next}
 use Rattle.ending.proofs.text.put_steps.Goals as goal
 
@@ -13,5 +13,5 @@ loop-i-preserved c =
       put-length step.0 ∙ c.loop-i.invariant.1,
       omega (arith, step.1, c.loop-i.invariant.2),
       put-steps_next c.args.list.now c.loop-i.i (omega (arith, c.loop-i-test.true, c.requires.0)) c.loop-i.invariant.3
-          c.wide.ensures step.0,
+          (sym c.from.ensures) step.0,
     )

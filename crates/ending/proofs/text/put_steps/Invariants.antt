@@ -8,5 +8,4 @@ abbrev pub invariant-loop-i : goal.invariant-loop-i
 invariant-loop-i l = (l.i ≤ l.count) × (length l.text ≡ length l.fn.text) × (l.end ≤ l.i * 42)
     × Put (steps 1 (take l.i l.list)) l.fn.text 0 l.text l.end
 
-abbrev pub decreases-loop-i : goal.decreases-loop-i
-decreases-loop-i l = l.count - l.i
+

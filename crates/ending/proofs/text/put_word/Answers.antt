@@ -1,11 +1,13 @@
--- The next byte is put after those passed. Assumes nothing.
-use Rattle.std.proofs.Common.{arith, ◌∙◌, ◌+◌, length-set, get_or}
-use Rattle.ending.proofs.Pieces.{put_next}
+-- The bytes before, the word, and the bytes behind it. Assumes nothing.
+use Rattle.std.proofs.Common.{arith, refl, sym, ap, ◌≡◌, ◌+◌, ◌-◌, ◌∙◌, List, ◌++◌, ℕ, take, drop, length, append_assoc}
+use Rattle.std.proofs.lemmas.List.{drop-drop}
+use Rattle.std.proofs.lemmas.List.Edits.{sets-eq}
 use Rattle.ending.proofs.text.put_word.Goals as goal
 
-pub loop-i-preserved : goal.loop-i-preserved
-loop-i-preserved c = (
-  omega (arith, c.loop-i-test.true),
-  length-set c.loop-i.text (c.args.at + c.loop-i.i) (get_or c.args.word.now c.loop-i.i 0) ∙ c.loop-i.invariant.1,
-  put_next c.args.word.now c.loop-i.i (omega (arith, c.loop-i-test.true)) c.loop-i.invariant.2,
-)
+pub returns : goal.returns
+returns c =
+    let at = c.args.at in
+    let word = c.args.word.now in
+    let text = c.args.text.now in
+    let size : at + length word - at ≡ length word = omega arith in
+    record { ends = refl; written = rw (c.copy_from_slice.ensures.after, size) (sym (sets-eq word text at c.requires ∙ ap (λ (rest : List ℕ). take at text ++ word ++ rest) (sym (drop-drop (length word) at text)) ∙ append_assoc (take at text) word (drop (length word) (drop at text)))) }
