@@ -330,14 +330,12 @@ pub fn search_nodes(
     };
     let found = deepen(pack, places, p, work, list, goal, limits.story.0);
     clear(work, 0, WORK_ROOM);
-    match found {
-        Some(Ended { count, after }) => Ok(Ending {
-            length: count,
-            before: base,
-            after,
-        }),
-        None => Err(Refusal::NoEnding),
-    }
+    let best = found.ok_or(Refusal::NoEnding)?;
+    Ok(Ending {
+        length: best.count,
+        before: base,
+        after: best.after,
+    })
 }
 
 // Search(pack, T, K, E, list out, work): the length of the list, which is written, and both utilities, or a refusal's

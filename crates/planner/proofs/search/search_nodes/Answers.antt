@@ -1,5 +1,6 @@
 -- The start laid out, the search from it, and all cleared. Assumes nothing.
-use mathlib.Core.Path.{◌≡◌}
+use mathlib.Core.Path.{◌≡◌, ◌∙◌, sym, ap, subst}
+use Rattle.std.proofs.Common.{rules, Option, Err, ok_or}
 use mathlib.Core.List.{List}
 use native.Mathlib.Omega.{arith}
 use lib.ListN.{get_or}
@@ -7,7 +8,9 @@ use Rattle.pack.specs.Syntax.{Theory, Node}
 use Rattle.pack.specs.State.{meaning}
 use Rattle.planner.specs.Ending.{author_utility}
 use Rattle.planner.proofs.Explanations.{rules_in, utility_in}
-use Rattle.planner.specs.Inner.Search.{Seeking}
+use Rattle.pack.specs.declared.refusal.Refusal.TheVariants.{NoEnding}
+use Rattle.planner.specs.declared.search.Ended.{Ended}
+use Rattle.planner.specs.Inner.Search.{Seeking, SearchPut}
 use Rattle.planner.proofs.EarliestList.{author_rules, author-utility}
 use Rattle.planner.proofs.SearchCall.{seek_laying, seek_table, seek_slot, seek_memory, seek_base, seek_from, seek_same, seek_none, seek_found}
 use Rattle.planner.proofs.search.search_nodes.Goals as goal
@@ -55,16 +58,20 @@ clear-requires c =
     let (th, (T, x)) = c.requires in
     omega (arith, x.room, c.deepen-found.auto.work, c.lay_start.auto)
 
-pub returns-in-None : goal.returns-in-None
-returns-in-None c =
+pub returns-in_err-best : goal.returns-in_err-best
+returns-in_err-best c =
     λ th T x.
     let y = c.lay_start.ensures T (seek_laying x) in
-    let is = worth (goal.at.returns-in-None c).After-utility-base x in
-    seek_none x y c.lay_start.auto.work (seek_from x y c.lay_start.auto.work is) (seek_same x y c.lay_start.auto.work (c.deepen-found.ensures th (seek_table x y c.lay_start.auto.work) (seek_slot x y c.lay_start.auto.work) (seek_memory x y c.lay_start.auto.work) y.starts.0 (seek_base x y c.lay_start.auto.work is))) c.clear.ensures (omega (arith, c.clear.auto, c.deepen-found.auto.work, c.lay_start.auto)) c.deepen-found.auto.list c.in-None.is
+    let is = worth (goal.at.returns-in_err-best c).After-utility-base x in
+    let none = c.in_err-best.ensures.ok_part in
+    let told : c.ok_or.result ≡ Err NoEnding = c.ok_or.ensures.value ∙ ap (λ (o : Option Ended). ok_or o NoEnding) none in
+    let handed : c.from_residual.result ≡ Err NoEnding = search (rules, told, c.in_err-best.was) in
+    subst (SearchPut th c.args.limits.story.0 c.args.p.foresight.0 c.args.limits.nesting.0 (meaning c.args.p.characters T 0) c.args.list.now c.deepen-found.new.list c.args.work.now c.clear.new.work) (sym handed)
+    (seek_none x y c.lay_start.auto.work (seek_from x y c.lay_start.auto.work is) (seek_same x y c.lay_start.auto.work (c.deepen-found.ensures th (seek_table x y c.lay_start.auto.work) (seek_slot x y c.lay_start.auto.work) (seek_memory x y c.lay_start.auto.work) y.starts.0 (seek_base x y c.lay_start.auto.work is))) c.clear.ensures (omega (arith, c.clear.auto, c.deepen-found.auto.work, c.lay_start.auto)) c.deepen-found.auto.list none)
 
-pub returns-in-Some : goal.returns-in-Some
-returns-in-Some c =
+pub returns : goal.returns
+returns c =
     λ th T x.
     let y = c.lay_start.ensures T (seek_laying x) in
-    let is = worth (goal.at.returns-in-Some c).After-utility-base x in
-    seek_found x y c.lay_start.auto.work (seek_from x y c.lay_start.auto.work is) (seek_same x y c.lay_start.auto.work (c.deepen-found.ensures th (seek_table x y c.lay_start.auto.work) (seek_slot x y c.lay_start.auto.work) (seek_memory x y c.lay_start.auto.work) y.starts.0 (seek_base x y c.lay_start.auto.work is))) c.clear.ensures (omega (arith, c.clear.auto, c.deepen-found.auto.work, c.lay_start.auto)) c.deepen-found.auto.list c.in-Some.is
+    let is = worth (goal.at.returns c).After-utility-base x in
+    seek_found x y c.lay_start.auto.work (seek_from x y c.lay_start.auto.work is) (seek_same x y c.lay_start.auto.work (c.deepen-found.ensures th (seek_table x y c.lay_start.auto.work) (seek_slot x y c.lay_start.auto.work) (seek_memory x y c.lay_start.auto.work) y.starts.0 (seek_base x y c.lay_start.auto.work is))) c.clear.ensures (omega (arith, c.clear.auto, c.deepen-found.auto.work, c.lay_start.auto)) c.deepen-found.auto.list c.in_ok-best.ensures.ok_part
