@@ -8,7 +8,7 @@
 //
 // What a row is made of is told first (`made_of`), so that one call writes rows of all three kinds, and what is told
 // besides is one test.
-ghost use Rattle.std.specs.Prelude.{◌≡◌, false, List, ◌≢◌, ℕ, ◌+◌, ◌*◌, ◌<◌, ◌≤◌, length};
+ghost use Rattle.std.specs.Prelude.{◌≡◌, false, List, ◌≢◌, ℕ, ◌+◌, ◌*◌, ◌<◌, ◌≤◌, length, Option};
 ghost use Rattle.chart.specs.Duties.Numbers.{Numbering, key_at};
 ghost use Rattle.transition.specs.Laws.Changed.{acted, old, There};
 ghost use Rattle.transition.specs.Duties.Cause.{Tabled};
@@ -21,8 +21,11 @@ use crate::cause::{takes, tells, write_told};
 use crate::regions::{MADE, NUMBERS};
 use chart::bytes::{clear, copy_part};
 use chart::numbering::{more, name_beliefs, number_of};
-use pack::number::wide;
 use pack::table::Table;
+
+// A number that no slot of a row has, for `acted` and `old`: numbers, since slots are reckoned from them and compared
+// with them in every row.
+pub const NO_SLOT: usize = 7;
 
 // The table in which it happens; which of a row's seven slots stand for the row having taken part and for the row as it
 // was, the others being its characters'; where the observation conditions are; and the row in which it happens.
@@ -39,7 +42,7 @@ pub struct Change {
 pub fn slot_of(
     pack: &[u8],
     places: &[u16],
-    effects: &[u16],
+    effects: &[Option<u16>],
     h: Change,
     work: &[u8],
     m: usize,
@@ -51,10 +54,10 @@ pub fn slot_of(
         (λ s. SlotIs h h.table.nodes (believed s h.table.characters m d) result) }
 {
     let t = h.table;
-    if tells(pack, effects[m] as usize, d + 1) {
+    if tells(pack, effects[m], d + 1) {
         return m * 7 + d;
     }
-    let q = wide(work[t.rows + m * t.width + t.fluents + d]);
+    let q = t.belief(work, m, d);
     if takes(pack, places, h.observed, work, t, m, d) {
         q * 7 + h.acted
     } else {
@@ -66,7 +69,7 @@ pub fn slot_of(
 pub fn put_slots(
     pack: &[u8],
     places: &[u16],
-    effects: &[u16],
+    effects: &[Option<u16>],
     h: Change,
     work: &mut [u8],
     m: usize,
@@ -79,11 +82,9 @@ pub fn put_slots(
         (λ s. SlotsPut h h.table.nodes h.table.characters (believed s h.table.characters m)
         work.old work.new to) }
 {
-    let mut d = 0;
-    while d < h.table.characters {
+    for d in 0..h.table.characters {
         let x = slot_of(pack, places, effects, h, work, m, d);
         work[to + d] = x as u8;
-        d += 1;
     }
 }
 
@@ -91,7 +92,7 @@ pub fn put_slots(
 pub fn put_acted(
     pack: &[u8],
     places: &[u16],
-    effects: &[u16],
+    effects: &[Option<u16>],
     h: Change,
     work: &mut [u8],
     m: usize,
@@ -105,7 +106,7 @@ pub fn put_acted(
     let t = h.table;
     let from = t.rows + m * t.width;
     copy_part(work, from, to, t.fluents);
-    write_told(pack, effects[m] as usize, 0, work, to, t.fluents);
+    write_told(pack, effects[m], 0, work, to, t.fluents);
     put_slots(pack, places, effects, h, work, m, to + t.fluents)
 }
 
@@ -119,11 +120,9 @@ pub fn put_old(h: Change, work: &mut [u8], m: usize, to: usize)
     let t = h.table;
     let from = t.rows + m * t.width;
     copy_part(work, from, to, t.fluents);
-    let mut d = 0;
-    while d < t.characters {
-        let q = wide(work[from + t.fluents + d]);
+    for d in 0..t.characters {
+        let q = t.belief(work, m, d);
         work[to + t.fluents + d] = (q * 7 + h.old) as u8;
-        d += 1;
     }
 }
 
@@ -137,9 +136,9 @@ pub struct Source {
 
 // What a slot's row is made of. The last slot is that of the root having taken part, where no other is.
 pub fn made_of(pack: &[u8], places: &[u16], h: Change, work: &[u8], slot: usize) -> Source
-    requires { ((effects : List ℕ) × Scened pack.now places.now effects h work.now)
+    requires { ((effects : List (Option ℕ)) × Scened pack.now places.now effects h work.now)
         × (slot < h.table.nodes * 7 + 1) × There h.table.characters (member_of h h.table.nodes slot) }
-    ensures { (s : Scene) (effects : List ℕ)
+    ensures { (s : Scene) (effects : List (Option ℕ))
         → Stands s pack.now places.now effects h work.now h.table
         → Sourced s h h.table slot result }
 {
@@ -165,7 +164,7 @@ pub fn made_of(pack: &[u8], places: &[u16], h: Change, work: &[u8], slot: usize)
             told: false,
         }
     } else {
-        let row = wide(work[t.rows + m * t.width + t.fluents + kind]);
+        let row = t.belief(work, m, kind);
         let took = takes(pack, places, h.observed, work, t, m, kind);
         Source {
             row,
@@ -179,7 +178,7 @@ pub fn made_of(pack: &[u8], places: &[u16], h: Change, work: &[u8], slot: usize)
 pub fn put_row(
     pack: &[u8],
     places: &[u16],
-    effects: &[u16],
+    effects: &[Option<u16>],
     h: Change,
     work: &mut [u8],
     s: Source,
@@ -201,7 +200,7 @@ pub fn put_row(
 pub fn put_member(
     pack: &[u8],
     places: &[u16],
-    effects: &[u16],
+    effects: &[Option<u16>],
     h: Change,
     work: &mut [u8],
     slot: usize,
@@ -215,8 +214,14 @@ pub fn put_member(
     let from = made_of(pack, places, h, work, slot);
     put_row(pack, places, effects, h, work, from, to);
     if from.told {
-        let at = effects[slot / 7] as usize;
-        write_told(pack, at, slot % 7 + 1, work, to, h.table.fluents)
+        write_told(
+            pack,
+            effects[slot / 7],
+            slot % 7 + 1,
+            work,
+            to,
+            h.table.fluents,
+        )
     }
 }
 
@@ -224,7 +229,7 @@ pub fn put_member(
 pub fn change_row(
     pack: &[u8],
     places: &[u16],
-    effects: &[u16],
+    effects: &[Option<u16>],
     h: Change,
     work: &mut [u8],
     i: usize,
@@ -240,7 +245,7 @@ pub fn change_row(
 {
     let t = h.table;
     let size = t.nodes * 7 + 1;
-    let slot = wide(work[NUMBERS + size + i]);
+    let slot = usize::from(work[NUMBERS + size + i]);
     let to = MADE + i * t.width;
     put_member(pack, places, effects, h, work, slot, to);
     name_beliefs(work, NUMBERS, size, to + t.fluents, t.characters, count)
@@ -262,7 +267,7 @@ pub fn first_slot(h: Change, nodes: usize) -> usize
 pub fn change_table(
     pack: &[u8],
     places: &[u16],
-    effects: &[u16],
+    effects: &[Option<u16>],
     h: Change,
     work: &mut [u8],
 ) -> usize

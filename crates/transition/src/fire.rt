@@ -1,33 +1,29 @@
 // Triggers: the lowest that holds in each row.
-ghost use Rattle.std.specs.Prelude.{◌<◌, ◌≤◌, ◌≡◌, ◌||◌, length};
+ghost use Rattle.std.specs.Prelude.{◌<◌, ◌≤◌, length};
 ghost use Rattle.transition.specs.Inner.Fire.{Firable, Fires, FiresAll};
 
 use pack::judge::holds;
 use pack::places::{TRIGGER, TRIGGER_EFFECTS, TRIGGERS};
 use pack::table::Table;
 
-// A place behind every pack, which may have so many bytes.
-pub const NOWHERE: u16 = 8192;
-
-// The place of the effects of the lowest trigger that holds in row m, or `NOWHERE`.
-pub fn firing(pack: &[u8], places: &[u16], triggers: usize, work: &[u8], t: Table, m: usize) -> u16
+// The place of the effects of the lowest trigger that holds in row m.
+pub fn firing(
+    pack: &[u8],
+    places: &[u16],
+    triggers: usize,
+    work: &[u8],
+    t: Table,
+    m: usize,
+) -> Option<u16>
     requires { Firable pack.now places.now triggers work.now t × (m < t.nodes) }
     ensures { Fires pack.now places.now triggers work.now t m result }
 {
-    let mut i = 0;
-    while i < triggers {
+    for i in 0..triggers {
         if holds(pack, places[TRIGGERS + TRIGGER * i] as usize, work, t, m) {
-            return places[TRIGGER_EFFECTS + TRIGGER * i];
+            return Some(places[TRIGGER_EFFECTS + TRIGGER * i]);
         }
-        i += 1;
     }
-    NOWHERE
-}
-
-fn either(a: bool, b: bool) -> bool
-    ensures { result ≡ (a || b) }
-{
-    if a { true } else { b }
+    None
 }
 
 // The places of the effects in each row; whether a trigger holds in any.
@@ -37,19 +33,17 @@ pub fn fire_all(
     triggers: usize,
     work: &[u8],
     t: Table,
-    effects: &mut [u16],
+    effects: &mut [Option<u16>],
 ) -> bool
     requires { Firable pack.now places.now triggers work.now t × (t.nodes ≤ length effects.old) }
     ensures { FiresAll pack.now places.now triggers work.now t
         effects.new result }
 {
     let mut any = false;
-    let mut m = 0;
-    while m < t.nodes {
+    for m in 0..t.nodes {
         let at = firing(pack, places, triggers, work, t, m);
         effects[m] = at;
-        any = either(any, (at as usize) < pack.len());
-        m += 1;
+        any |= at.is_some();
     }
     any
 }

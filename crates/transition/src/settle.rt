@@ -1,8 +1,8 @@
 // Rounds of triggers, until none holds anywhere.
 ghost use Rattle.transition.specs.Duties.Play.{Settleable, SettlesIn};
 
-use crate::change::Change;
-use crate::fire::{NOWHERE, fire_all};
+use crate::change::{Change, NO_SLOT};
+use crate::fire::fire_all;
 use crate::round::round;
 use crate::stop::Stop;
 use pack::places::PLACES;
@@ -27,7 +27,7 @@ pub fn settle(
     if triggers == 0 {
         return Ok(());
     }
-    let mut effects = [NOWHERE; 32];
+    let mut effects = [None; 32];
     let mut now = Table {
         rows: slot + 1,
         ..t
@@ -39,7 +39,7 @@ pub fn settle(
         let everyone = Change {
             table: now,
             acted: 6,
-            old: 7,
+            old: NO_SLOT,
             observed: PLACES,
             root: 0,
         };
