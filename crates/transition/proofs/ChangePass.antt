@@ -4,7 +4,6 @@ use mathlib.Core.Path.{◌≡◌, refl, sym, ap, ◌∙◌, subst}
 use mathlib.Core.List.{List}
 use native.Mathlib.Omega.{arith}
 use lib.ListN.{length, get_or}
-use Rattle.std.specs.Prelude.{Option}
 use Rattle.pack.specs.Duties.Table.{Below, Above}
 use Rattle.pack.specs.declared.table.Table.{Table}
 use Rattle.chart.specs.Duties.Numbers.{Numbering, Named, Given, key_at}
@@ -22,7 +21,7 @@ use Rattle.transition.proofs.Effects.{untold_write}
 abbrev pub slots_of : Table → ℕ
 slots_of t = t.nodes * 7 + 1
 
-module _ {s : Scene} {pack places was : List ℕ} {effects : List (Option ℕ)} {h : Change} {t : Table} (x : Stands s pack places effects h was t) {b u : ℕ} (l : Laid was t b u) where
+module _ {s : Scene} {pack places effects was : List ℕ} {h : Change} {t : Table} (x : Stands s pack places effects h was t) {b u : ℕ} (l : Laid was t b u) where
   -- where row i lies
   pub row_room : {i count : ℕ} → Numbering was b (slots_of t) count → i < count → (i < slots_of t) × (u + i * t.width + t.width ≤ length was) × (t.fluents + t.characters ≤ t.width)
   row_room {i} {count} n g = let e : i < slots_of t = omega (arith, few was b (slots_of t) count n) in (e, omega (arith, row_in (slots_of t) t.width i e, l.room), omega (arith, x.tabled.fits.wide))

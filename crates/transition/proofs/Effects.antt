@@ -8,7 +8,6 @@ use native.Mathlib.Omega.{arith}
 use lib.ListN.{length, get_or}
 use lib.Dec.{eqb, ltb}
 use borrow.Author.Tests.{ne_eqb, ltb-false}
-use Rattle.std.specs.Prelude.{Option, Some, None}
 use Rattle.pack.specs.Syntax.{Effect, Node}
 use Rattle.pack.specs.State.{meaning}
 use Rattle.pack.specs.Reading.{done}
@@ -34,12 +33,12 @@ unfolding some_of write
 untold_write [] whom e v = refl
 untold_write (x ∷ es) whom e v = let (a, b) = neither (eqb x.whom whom) (told es whom) e in rw a (untold_write es whom b v)
 
--- where there is a place effects are read
-pub effects_there : {pack : List ℕ} {at : Option ℕ} {place : ℕ} → at ≡ Some place → Telling pack at → Readable effects_at pack place
-effects_there h t = let there = t.stand.some _ h in record { over = t.dimensions; small = t.small; value = t.effects; end = there.end; reads = there.reads }
+-- before the pack's end effects are read
+pub effects_there : {pack : List ℕ} {at : ℕ} → at < length pack → Telling pack at → Readable effects_at pack at
+effects_there h t = let there = t.stand.some h in record { over = t.dimensions; small = t.small; value = t.effects; end = there.end; reads = there.reads }
 
--- where there is none there are no effects
-pub tell_nothing : (pack : List ℕ) (at : Option ℕ) (whom : ℕ) → at ≡ None → (d : Dimensions) → Small d → (es : List Effect) → EffectsAt d pack at es → false ≡ told es whom
+-- no effects stand behind the end
+pub tell_nothing : (pack : List ℕ) (at whom : ℕ) → length pack ≤ at → (d : Dimensions) → Small d → (es : List Effect) → EffectsAt d pack at es → false ≡ told es whom
 unfolding some_of
 tell_nothing pack at whom h d small es x = sym (ap (λ (es : List Effect). told es whom) (x.none h))
 
@@ -52,14 +51,14 @@ none_silent (x ∷ es) e c =
     rw (ne_eqb x.whom (suc c) (λ z. omega (arith, z, ltb-false 0 x.whom here))) (none_silent es rest c)
 
 -- writing them
-module _ {pack : List ℕ} {at : Option ℕ} where
-  pub told_writable : (x : Telling pack at) {place : ℕ} → at ≡ Some place → {work : List ℕ} {row fluents : ℕ} → length x.dimensions.domains ≡ fluents → row + fluents ≤ length work → Writable effects_at pack place work row fluents
-  told_writable x h wide room = record { dimensions = x.dimensions; small = x.small; wide = wide; value = x.effects; end = (x.stand.some _ h).end; reads = (x.stand.some _ h).reads; inside = room }
+module _ {pack : List ℕ} {at : ℕ} where
+  pub told_writable : (x : Telling pack at) → at < length pack → {work : List ℕ} {row fluents : ℕ} → length x.dimensions.domains ≡ fluents → row + fluents ≤ length work → Writable effects_at pack at work row fluents
+  told_writable x h wide room = record { dimensions = x.dimensions; small = x.small; wide = wide; value = x.effects; end = (x.stand.some h).end; reads = (x.stand.some h).reads; inside = room }
 
-  pub told_written : {was now : List ℕ} {place whom row fluents : ℕ} → at ≡ Some place → EffectsWritten pack place whom was now row fluents → ToldWritten pack at whom was now row fluents
-  told_written h w = record { values = λ d small wide es x. w.values d small wide es (x.some _ h).end (x.some _ h).reads; only = w.only }
+  pub told_written : {was now : List ℕ} {whom row fluents : ℕ} → at < length pack → EffectsWritten pack at whom was now row fluents → ToldWritten pack at whom was now row fluents
+  told_written h w = record { values = λ d small wide es x. w.values d small wide es (x.some h).end (x.some h).reads; only = w.only }
 
-  pub told-nothing : (was : List ℕ) (whom row fluents : ℕ) → at ≡ None → ToldWritten pack at whom was was row fluents
+  pub told-nothing : (was : List ℕ) (whom row fluents : ℕ) → length pack ≤ at → ToldWritten pack at whom was was row fluents
   unfolding write
   told-nothing was whom row fluents h = record { values = λ d small wide es x. sym (ap (λ (es : List Effect). write whom es (cells was row fluents)) (x.none h)); only = only_none was row fluents }
 

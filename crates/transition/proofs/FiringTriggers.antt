@@ -3,9 +3,6 @@ use Prim.Native.Nat.{ℕ, zero, suc, ◌+◌, ◌*◌, ◌<◌, ◌≤◌}
 use mathlib.Core.Path.{◌≡◌, refl, sym, ap, ◌∙◌, subst}
 use mathlib.Core.Bool.{Bool, true, false, cond, ◌||◌}
 use mathlib.Core.Option.{Option}
-use Rattle.std.specs.Prelude as prelude
-use Rattle.std.specs.Prelude.{Some, None}
-use Rattle.std.specs.Option.{is_some}
 use mathlib.Core.List.{List, [], ◌∷◌}
 use native.Mathlib.Omega.{arith}
 use lib.ListN.{length, get_or, set}
@@ -64,7 +61,7 @@ module _ (pack places work : List ℕ) (triggers m : ℕ) (t : Table) where
     pub idle_more : Idle pack places triggers work t m i → b ≡ false → Idle pack places triggers work t m (i + 1)
     idle_more f e d table ts x y = below_more (λ j. holds (meaning t.characters table m) (get_or ts j idle).condition ≡ false) i (f d table ts x y) (held d table ts x y ∙ e)
 
-    pub fires_here : Idle pack places triggers work t m i → b ≡ true → (r : ℕ) → r ≡ get_or places (289 + 2 * i) 0 → Fires pack places triggers work t m (Some r)
+    pub fires_here : Idle pack places triggers work t m i → b ≡ true → (r : ℕ) → r ≡ get_or places (289 + 2 * i) 0 → Fires pack places triggers work t m r
     fires_here f e r eq d table ts x y =
         let z = meaning t.characters table m in
         let fired : firing ts z ≡ Option.some (get_or ts i idle) = fires-first z ts i (omega (arith, y.long)) (f d table ts x y) (held d table ts x y ∙ e) in
@@ -72,44 +69,37 @@ module _ (pack places work : List ℕ) (triggers m : ℕ) (t : Table) where
         let place : (288 + 2 * i) + 1 ≡ 289 + 2 * i = omega arith in
         let here : r ≡ get_or places ((288 + 2 * i) + 1) 0 = eq ∙ ap (λ (k : ℕ). get_or places k 0) (sym place) in
         let reads : effects_at d pack r ≡ done (effects_of (firing ts z)) g.end = ap (effects_at d pack) here ∙ g.reads ∙ ap (λ (o : Option Trigger). done (effects_of o) g.end) (sym fired) in
+        let inside = effects_inside d pack r (effects_of (firing ts z)) g.end reads in
         record {
-          effects = record { none = λ k. absurd cc; some = λ place k. let same : r ≡ place = cc in record { end = g.end; reads = ap (effects_at d pack) (sym same) ∙ reads } };
-          loud = λ place k q. let no : Option.some (get_or ts i idle) ≡ Option.none = sym fired ∙ q in let n : ◌≡◌ {A = ℕ} 0 1 = cc in omega arith;
-          quiet = λ k. absurd cc;
+          effects = record { none = λ k. absurd (omega (arith, inside)); some = λ k. record { end = g.end; reads = reads } };
+          loud = λ k q. let no : Option.some (get_or ts i idle) ≡ Option.none = sym fired ∙ q in let n : ◌≡◌ {A = ℕ} 0 1 = cc in omega arith;
+          quiet = λ k. absurd (omega (arith, inside));
         }
 
-  pub fires-nothing : {i : ℕ} → triggers ≤ i → Idle pack places triggers work t m i → Fires pack places triggers work t m None
+  pub fires-nothing : {i : ℕ} → triggers ≤ i → Idle pack places triggers work t m i → Fires pack places triggers work t m 8192
   fires-nothing {i} h f d table ts x y =
       let z = meaning t.characters table m in
       let quiet : firing ts z ≡ Option.none = fires_none z ts (λ j l. f d table ts x y j (omega (arith, y.long))) in
-      record { effects = record { none = λ k. ap effects_of quiet; some = λ place k. absurd cc }; loud = λ place k q. absurd cc; quiet = λ k. quiet }
+      record { effects = record { none = λ k. ap effects_of quiet; some = λ k. absurd (omega (arith, y.short)) }; loud = λ k q. omega (arith, y.short); quiet = λ k. quiet }
 
 -- row after row
 module _ (d : Dimensions) (pack : List ℕ) (ts : List Trigger) (C : ℕ) (table : List Node) where
-  pub fired_none : (effects : List (prelude.Option ℕ)) → FiredBelow d pack ts C table 0 effects false
+  pub fired_none : (effects : List ℕ) → FiredBelow d pack ts C table 0 effects false
   fired_none effects = record { each = λ m l. absurd (omega arith); some = λ e. λ f. let n : ◌≡◌ {A = ℕ} 0 1 = ap (λ (b : Bool). cond b 1 0) e in omega arith; none = λ e m l. absurd (omega arith) }
 
-  pub fired_more : {m : ℕ} {r : prelude.Option ℕ} {effects : List (prelude.Option ℕ)} {any b : Bool} → FiredBelow d pack ts C table m effects any → FireIs d pack ts (meaning C table m) r → m < length effects → b ≡ is_some r
+  pub fired_more : {m r : ℕ} {effects : List ℕ} {any b : Bool} → FiredBelow d pack ts C table m effects any → FireIs d pack ts (meaning C table m) r → m < length effects → (b ≡ true → r < length pack) → (b ≡ false → length pack ≤ r)
       → FiredBelow d pack ts C table (m + 1) (set effects m r) (any || b)
-  fired_more {m} {r} {effects} {any} {b} x f room is = record {
-    each = below_more (λ k. FireIs d pack ts (meaning C table k) (get_or (set effects m r) k None)) m
-        (λ k l. subst (FireIs d pack ts (meaning C table k)) (sym (get_or-set_other effects m k r None (omega arith))) (x.each k l))
-        (subst (FireIs d pack ts (meaning C table m)) (sym (get_or-set_same effects m r None room)) f);
-    some = some any b x (λ e. loud r f (sym is ∙ e));
-    none = λ e. below_more (λ k. firing ts (meaning C table k) ≡ Option.none) m (x.none (left any b e)) (quiet r f (sym is ∙ right any b e));
+  fired_more {m} {r} {effects} {any} {b} x f room if-loud if-quiet = record {
+    each = below_more (λ k. FireIs d pack ts (meaning C table k) (get_or (set effects m r) k 0)) m
+        (λ k l. subst (FireIs d pack ts (meaning C table k)) (sym (get_or-set_other effects m k r 0 (omega arith))) (x.each k l))
+        (subst (FireIs d pack ts (meaning C table m)) (sym (get_or-set_same effects m r 0 room)) f);
+    some = some any b x if-loud;
+    none = λ e. below_more (λ k. firing ts (meaning C table k) ≡ Option.none) m (x.none (left any b e)) (f.quiet (if-quiet (right any b e)));
   }
     where
-      loud : (r : prelude.Option ℕ) → FireIs d pack ts (meaning C table m) r → is_some r ≡ true → firing ts (meaning C table m) ≡ Option.none → ⊥
-      loud (Some place) f e = f.loud place refl
-      loud None f e = let n : ◌≡◌ {A = ℕ} 0 1 = ap (λ (b : Bool). cond b 1 0) e in absurd (omega arith)
-
-      quiet : (r : prelude.Option ℕ) → FireIs d pack ts (meaning C table m) r → is_some r ≡ false → firing ts (meaning C table m) ≡ Option.none
-      quiet (Some place) f e = let n : ◌≡◌ {A = ℕ} 0 1 = ap (λ (b : Bool). cond b 0 1) e in absurd (omega arith)
-      quiet None f e = f.quiet refl
-
-      some : (any b : Bool) → FiredBelow d pack ts C table m effects any → (b ≡ true → firing ts (meaning C table m) ≡ Option.none → ⊥) → (any || b) ≡ true → ((k : ℕ) → k < m + 1 → firing ts (meaning C table k) ≡ Option.none) → ⊥
+      some : (any b : Bool) → FiredBelow d pack ts C table m effects any → (b ≡ true → r < length pack) → (any || b) ≡ true → ((k : ℕ) → k < m + 1 → firing ts (meaning C table k) ≡ Option.none) → ⊥
       some true b x l e q = x.some refl (λ k g. q k (omega arith))
-      some false b x l e q = l e (q m (omega arith))
+      some false b x l e q = f.loud (l e) (q m (omega arith))
 
       left : (any b : Bool) → (any || b) ≡ false → any ≡ false
       left true b e = e
@@ -119,5 +109,5 @@ module _ (d : Dimensions) (pack : List ℕ) (ts : List Trigger) (C : ℕ) (table
       right true b e = let n : ◌≡◌ {A = ℕ} 0 1 = ap (λ (b : Bool). cond b 0 1) e in absurd (omega arith)
       right false b e = e
 
-  pub fired_all : {m n : ℕ} {effects : List (prelude.Option ℕ)} {any : Bool} → FiredBelow d pack ts C table m effects any → m ≤ n → n ≤ m → FiredBelow d pack ts C table n effects any
+  pub fired_all : {m n : ℕ} {effects : List ℕ} {any : Bool} → FiredBelow d pack ts C table m effects any → m ≤ n → n ≤ m → FiredBelow d pack ts C table n effects any
   fired_all {m} {n} {effects} {any} x a b = let e : m ≡ n = omega arith in subst (λ (m : ℕ). FiredBelow d pack ts C table m effects any) e x

@@ -9,7 +9,6 @@ use lib.ListN.{length, get_or, replicate, length-replicate, get_or-replicate}
 use Rattle.pack.specs.Syntax.{Action, Effect, Node, Theory}
 use Rattle.pack.specs.State.{meaning}
 use Rattle.pack.specs.Duties.Answer.{dims}
-use Rattle.pack.specs.Grammar.{effects_at}
 use Rattle.pack.specs.Duties.Contents.{ActionStands}
 use Rattle.pack.specs.declared.table.Table.{Table}
 use Rattle.transition.specs.declared.stop.Stop.{Stop}
@@ -21,6 +20,7 @@ use Rattle.transition.specs.Duties.Cause.{told, EffectsAt, Telling}
 use Rattle.transition.specs.Inner.Change.{Scene, Stands, Kinds}
 use Rattle.transition.specs.Duties.Stage.{Staged}
 use Rattle.transition.specs.Duties.Play.{Untold, Setting, Acted}
+use Rattle.transition.proofs.FiringTriggers.{effects_inside}
 use Rattle.transition.specs.Laws.ChangedRows.{small}
 
 -- true is not false
@@ -41,18 +41,13 @@ module _ {p : Theory} {T : List Node} {pack places : List ℕ} {actions triggers
   pub act_places : (9 * a + 3 + C ≤ 288) × (288 ≤ length places) × (C ≤ 6)
   act_places = (omega (arith, x.theorized.found.most_actions, small x.tabled), omega (arith, x.theorized.marked), omega (arith, small x.tabled))
 
-  -- where its effects stand
-  abbrev pub act_at : Option ℕ
-  act_at = Some (get_or places (9 * a + 1) 0)
+  act_effects : EffectsAt (dims p.characters p.domains) pack (get_or places (9 * a + 1) 0) A.effects
+  act_effects =
+      let g = found.effects in
+      let inside = effects_inside (dims p.characters p.domains) pack (get_or places (9 * a + 1) 0) A.effects g.end g.reads in
+      record { none = λ h. absurd (omega (arith, inside)); some = λ h. g }
 
-  act_effects : EffectsAt (dims p.characters p.domains) pack act_at A.effects
-  act_effects = record {
-    none = λ h. absurd cc;
-    some = λ place h. let same : get_or places (9 * a + 1) 0 ≡ place = cc in
-        record { end = found.effects.end; reads = ap (effects_at (dims p.characters p.domains) pack) (sym same) ∙ found.effects.reads };
-  }
-
-  pub act_telling : Telling pack act_at
+  pub act_telling : Telling pack (get_or places (9 * a + 1) 0)
   act_telling = record { dimensions = dims p.characters p.domains; small = x.theorized.small; effects = A.effects; stand = act_effects }
 
   abbrev pub scene : Scene
@@ -78,12 +73,12 @@ module _ {p : Theory} {T : List Node} {pack places : List ℕ} {actions triggers
       keeps = λ m d hm hd e. omega arith;
     }
 
-    pub act_stands : (u : Option ℕ) (k : ℕ) → k ≡ unwrap_or u 7 → ((d : Rattle.pack.specs.Grammar.Dimensions) → Rattle.pack.specs.Duties.Judge.Small d → (es : List Effect) → EffectsAt d pack act_at es → Untold es C u)
-        → Stands scene pack places (replicate 32 act_at) (part k) work t
+    pub act_stands : (u : Option ℕ) (k : ℕ) → k ≡ unwrap_or u 7 → ((d : Rattle.pack.specs.Grammar.Dimensions) → Rattle.pack.specs.Duties.Judge.Small d → (es : List Effect) → EffectsAt d pack (get_or places (9 * a + 1) 0) es → Untold es C u)
+        → Stands scene pack places (replicate 32 (get_or places (9 * a + 1) 0)) (part k) work t
     act_stands u k e y = record {
       tabled = x.tabled;
-      effects_stand = λ m hm. subst (λ (k : Option ℕ). EffectsAt (dims p.characters p.domains) pack k A.effects) (sym (get_or-replicate {A = Option ℕ} 32 m act_at None (omega (arith, x.tabled.few)))) act_effects;
-      long = omega (arith, length-replicate {A = Option ℕ} 32 act_at, x.tabled.few);
+      effects_stand = λ m hm. subst (λ (k : ℕ). EffectsAt (dims p.characters p.domains) pack k A.effects) (sym (get_or-replicate {A = ℕ} 32 m (get_or places (9 * a + 1) 0) 0 (omega (arith, x.tabled.few)))) act_effects;
+      long = omega (arith, length-replicate {A = ℕ} 32 (get_or places (9 * a + 1) 0), x.tabled.few);
       observes = record {
         everyone = λ e. absurd (omega (arith, act_places));
         few = omega (arith, act_places);

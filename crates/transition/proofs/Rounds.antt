@@ -20,7 +20,6 @@ use Rattle.chart.specs.Laws.Counted.{counted}
 use Rattle.chart.specs.Laws.Unique.{ordered_reached, some}
 use Rattle.transition.specs.declared.change.Change.{Change}
 use Rattle.transition.specs.declared.stop.Stop.{Stop}
-use Rattle.std.specs.Prelude as prelude
 use Rattle.std.specs.Prelude.{Result, Ok, Err}
 use Rattle.transition.specs.Happening.{Quiet, Settles, Stops, firing, fires, round}
 use Rattle.transition.specs.Laws.Quiet.{quiet}
@@ -143,7 +142,7 @@ module _ {p : Theory} {T : List Node} {pack places : List ℕ} {actions triggers
     pub round-idle : triggers ≡ 0 → SettledIn p s₀ t was now slot 0
     round-idle e = round_still (λ m l. fires_none _ p.triggers (λ j k. absurd (omega (arith, k, (theory_triggers x.theorized).long, e))))
 
-    module _ {effects : List (prelude.Option ℕ)} {any : Bool} (f : FiredBelow (dims p.characters p.domains) pack p.triggers t.characters U nodes effects any) where
+    module _ {effects : List ℕ} {any : Bool} (f : FiredBelow (dims p.characters p.domains) pack p.triggers t.characters U nodes effects any) where
       -- or since none holds
       pub round_quiet : any ≡ false → SettledIn p s₀ t was now slot 0
       round_quiet e = round_still (f.none e)

@@ -26,7 +26,7 @@ use Rattle.chart.specs.Laws.Unique.{ordered_reached, some}
 use Rattle.chart.specs.Laws.Cells.{cells_same, row_in, rows_node, rows_same, rows_most}
 use Rattle.chart.specs.Laws.MergedRows.{classed_apart}
 use Rattle.transition.specs.declared.stop.Stop.{Stop}
-use Rattle.std.specs.Prelude.{Result, Ok, Option, None}
+use Rattle.std.specs.Prelude.{Result, Ok}
 use Rattle.transition.specs.declared.change.Change.{Change}
 use Rattle.transition.specs.Happening.{change}
 use Rattle.transition.specs.Laws.Changed as changed
@@ -82,7 +82,7 @@ module _ (effects : State → List Effect) (takes : State → ℕ → Bool) (C :
 pub rewritten_none : (s : Scene) (t : Table) (was : List ℕ) → Rewritten s t was was 0
 rewritten_none s t was = record { values = λ m h. absurd (omega arith); kept = λ p b. refl }
 
-module _ {s : Scene} {pack was : List ℕ} {effects : List (Option ℕ)} {t : Table} (x : Caused s pack effects was t) where
+module _ {s : Scene} {pack effects was : List ℕ} {t : Table} (x : Caused s pack effects was t) where
   abbrev row : ℕ → ℕ
   row m = t.rows + m * t.width
 
@@ -90,14 +90,14 @@ module _ {s : Scene} {pack was : List ℕ} {effects : List (Option ℕ)} {t : Ta
   pub row_inside : (m : ℕ) → m < t.nodes → row m + t.width ≤ length was
   row_inside m h = omega (arith, row_in t.nodes t.width m h, x.tabled.fits.inside)
 
-  abbrev pub row_telling : (m : ℕ) → m < t.nodes → Telling pack (get_or effects m None)
+  abbrev pub row_telling : (m : ℕ) → m < t.nodes → Telling pack (get_or effects m 0)
   row_telling m h = record { dimensions = s.dimensions; small = x.tabled.over.small; effects = s.causes (at s t.characters m); stand = x.effects_stand m h }
 
   module _ {mid : List ℕ} {m : ℕ} (h : m < t.nodes) (long : length mid ≡ length was) where
-    pub row_tellable : Tellable pack (get_or effects m None) mid (row m) t.fluents
+    pub row_tellable : Tellable pack (get_or effects m 0) mid (row m) t.fluents
     row_tellable = record { telling = row_telling m h; wide = x.tabled.over.fluents; room = omega (arith, row_inside m h, x.tabled.fits.wide) }
 
-    pub rewritten_more : {now : List ℕ} → Rewritten s t was mid m → ToldWritten pack (get_or effects m None) 0 mid now (row m) t.fluents → Rewritten s t was now (m + 1)
+    pub rewritten_more : {now : List ℕ} → Rewritten s t was mid m → ToldWritten pack (get_or effects m 0) 0 mid now (row m) t.fluents → Rewritten s t was now (m + 1)
     rewritten_more {now} g w = record {
       values = below_more (λ i. cells now (row i) t.fluents ≡ write 0 (s.causes (at s t.characters i)) (cells was (row i) t.fluents)) m
           (λ i l. cells_same mid now (row i) (row i) t.fluents (λ q k. w.only.below (row i + q) (omega (arith, row_in m t.width i l, x.tabled.fits.wide))) ∙ g.values i l)
@@ -220,7 +220,7 @@ module _ {was : List ℕ} {t : Table} {slot : ℕ} (p : SlotTable was t slot) wh
           record { holds = rows_in holds; only = only }
 
 -- A round in a slot
-module _ {s : Scene} {pack places was : List ℕ} {effects : List (Option ℕ)} {h : Change} {t : Table} (x : Stands s pack places effects h was t) where
+module _ {s : Scene} {pack places effects was : List ℕ} {h : Change} {t : Table} (x : Stands s pack places effects h was t) where
   pub round_caused : Caused s pack effects was t
   round_caused = record { tabled = x.tabled; effects_stand = x.effects_stand; long = x.long }
 

@@ -27,7 +27,7 @@ use Rattle.chart.specs.Laws.MergedRows.{classed_apart}
 use Rattle.chart.specs.Laws.Numbering.{pigeons}
 use Rattle.transition.specs.declared.stop.Stop.{Stop}
 use Rattle.transition.specs.declared.stop.Stop.TheVariants.{States}
-use Rattle.std.specs.Prelude.{Ok, Err, Option}
+use Rattle.std.specs.Prelude.{Ok, Err}
 use Rattle.transition.specs.declared.change.Change.{Change}
 use Rattle.transition.specs.Happening.{change}
 use Rattle.transition.specs.Inner.Change.{Scene, Stands, at, Laid, ChangeMade}
@@ -96,7 +96,7 @@ as_many {C} {u} {w} cls o same written means = pigeons key (length w) (classes c
       | no a ↦ λ q. absurd (omega arith)
     ] e
 
-module _ {s : Scene} {pack places was : List ℕ} {effects : List (Option ℕ)} {h : Change} {t : Table} (x : Stands s pack places effects h was t) {slot : ℕ} (p : StageRoom was t slot) where
+module _ {s : Scene} {pack places effects was : List ℕ} {h : Change} {t : Table} (x : Stands s pack places effects h was t) {slot : ℕ} (p : StageRoom was t slot) where
   abbrev w : ℕ
   w = t.width
 

@@ -11,7 +11,7 @@ use pack::places::{ACTION, EFFECTS, OBSERVED};
 use pack::table::Table;
 
 // The lowest character that no effect at a place is meant for.
-pub fn lowest_untold(pack: &[u8], at: Option<u16>, characters: usize) -> Option<usize>
+pub fn lowest_untold(pack: &[u8], at: usize, characters: usize) -> Option<usize>
     requires { Telling pack.now at × (characters < 7) }
     ensures { OfEffects pack.now at (λ es. Untold es characters result) }
 {
@@ -37,8 +37,9 @@ pub fn act(
     ensures { ActsIn pack.now places.now action root t work.old
         work.new slot result }
 {
-    let at = Some(places[ACTION * action + EFFECTS]);
-    let effects = [at; 32];
+    let place = places[ACTION * action + EFFECTS];
+    let effects = [place; 32];
+    let at = place as usize;
     let observers = Change {
         table: t,
         acted: lowest_untold(pack, at, t.characters).unwrap_or(NO_SLOT),

@@ -1,4 +1,6 @@
-// What takes effect where: effects at a place of the pack, or none where there is no place, and who takes part.
+// What takes effect where: effects at a place of the pack, none at a place behind its end, and who takes part.
+//
+// A place behind the pack's end (8,192) stands for no effects: every place that is marked lies before it.
 ghost use Rattle.std.specs.Prelude.{◌≡◌};
 ghost use Rattle.transition.specs.Duties.Cause.{told, Telling, OfEffects, Tellable};
 ghost use Rattle.transition.specs.Duties.Cause.{ToldWritten, Watched, Took};
@@ -10,30 +12,20 @@ use pack::table::Table;
 use pack::write::write_effects;
 
 // Whether some effect at a place is meant for whom.
-pub fn tells(pack: &[u8], at: Option<u16>, whom: usize) -> bool
+pub fn tells(pack: &[u8], at: usize, whom: usize) -> bool
     requires { Telling pack.now at }
     ensures { OfEffects pack.now at (λ es. result ≡ told es whom) }
 {
-    match at {
-        None => false,
-        Some(at) => some_effect(pack, at as usize, Wanted::For(whom)),
-    }
+    at < pack.len() && some_effect(pack, at, Wanted::For(whom))
 }
 
 // Writes the effects at a place that are meant for whom into the values of a row.
-pub fn write_told(
-    pack: &[u8],
-    at: Option<u16>,
-    whom: usize,
-    work: &mut [u8],
-    row: usize,
-    fluents: usize,
-)
+pub fn write_told(pack: &[u8], at: usize, whom: usize, work: &mut [u8], row: usize, fluents: usize)
     requires { Tellable pack.now at work.old row fluents }
     ensures { ToldWritten pack.now at whom work.old work.new row fluents }
 {
-    if let Some(at) = at {
-        write_effects(pack, at as usize, whom, work, row, fluents);
+    if at < pack.len() {
+        write_effects(pack, at, whom, work, row, fluents);
     }
 }
 

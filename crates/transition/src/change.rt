@@ -8,7 +8,7 @@
 //
 // What a row is made of is told first (`made_of`), so that one call writes rows of all three kinds, and what is told
 // besides is one test.
-ghost use Rattle.std.specs.Prelude.{◌≡◌, false, List, ◌≢◌, ℕ, ◌+◌, ◌*◌, ◌<◌, ◌≤◌, length, Option};
+ghost use Rattle.std.specs.Prelude.{◌≡◌, false, List, ◌≢◌, ℕ, ◌+◌, ◌*◌, ◌<◌, ◌≤◌, length};
 ghost use Rattle.chart.specs.Duties.Numbers.{Numbering, key_at};
 ghost use Rattle.transition.specs.Laws.Changed.{acted, old, There};
 ghost use Rattle.transition.specs.Duties.Cause.{Tabled};
@@ -42,7 +42,7 @@ pub struct Change {
 pub fn slot_of(
     pack: &[u8],
     places: &[u16],
-    effects: &[Option<u16>],
+    effects: &[u16],
     h: Change,
     work: &[u8],
     m: usize,
@@ -54,7 +54,7 @@ pub fn slot_of(
         (λ s. SlotIs h h.table.nodes (believed s h.table.characters m d) result) }
 {
     let t = h.table;
-    if tells(pack, effects[m], d + 1) {
+    if tells(pack, effects[m] as usize, d + 1) {
         return m * 7 + d;
     }
     let q = t.belief(work, m, d);
@@ -69,7 +69,7 @@ pub fn slot_of(
 pub fn put_slots(
     pack: &[u8],
     places: &[u16],
-    effects: &[Option<u16>],
+    effects: &[u16],
     h: Change,
     work: &mut [u8],
     m: usize,
@@ -92,7 +92,7 @@ pub fn put_slots(
 pub fn put_acted(
     pack: &[u8],
     places: &[u16],
-    effects: &[Option<u16>],
+    effects: &[u16],
     h: Change,
     work: &mut [u8],
     m: usize,
@@ -106,7 +106,7 @@ pub fn put_acted(
     let t = h.table;
     let from = t.rows + m * t.width;
     copy_part(work, from, to, t.fluents);
-    write_told(pack, effects[m], 0, work, to, t.fluents);
+    write_told(pack, effects[m] as usize, 0, work, to, t.fluents);
     put_slots(pack, places, effects, h, work, m, to + t.fluents)
 }
 
@@ -136,9 +136,9 @@ pub struct Source {
 
 // What a slot's row is made of. The last slot is that of the root having taken part, where no other is.
 pub fn made_of(pack: &[u8], places: &[u16], h: Change, work: &[u8], slot: usize) -> Source
-    requires { ((effects : List (Option ℕ)) × Scened pack.now places.now effects h work.now)
+    requires { ((effects : List ℕ) × Scened pack.now places.now effects h work.now)
         × (slot < h.table.nodes * 7 + 1) × There h.table.characters (member_of h h.table.nodes slot) }
-    ensures { (s : Scene) (effects : List (Option ℕ))
+    ensures { (s : Scene) (effects : List ℕ)
         → Stands s pack.now places.now effects h work.now h.table
         → Sourced s h h.table slot result }
 {
@@ -178,7 +178,7 @@ pub fn made_of(pack: &[u8], places: &[u16], h: Change, work: &[u8], slot: usize)
 pub fn put_row(
     pack: &[u8],
     places: &[u16],
-    effects: &[Option<u16>],
+    effects: &[u16],
     h: Change,
     work: &mut [u8],
     s: Source,
@@ -200,7 +200,7 @@ pub fn put_row(
 pub fn put_member(
     pack: &[u8],
     places: &[u16],
-    effects: &[Option<u16>],
+    effects: &[u16],
     h: Change,
     work: &mut [u8],
     slot: usize,
@@ -214,14 +214,8 @@ pub fn put_member(
     let from = made_of(pack, places, h, work, slot);
     put_row(pack, places, effects, h, work, from, to);
     if from.told {
-        write_told(
-            pack,
-            effects[slot / 7],
-            slot % 7 + 1,
-            work,
-            to,
-            h.table.fluents,
-        )
+        let at = effects[slot / 7] as usize;
+        write_told(pack, at, slot % 7 + 1, work, to, h.table.fluents)
     }
 }
 
@@ -229,7 +223,7 @@ pub fn put_member(
 pub fn change_row(
     pack: &[u8],
     places: &[u16],
-    effects: &[Option<u16>],
+    effects: &[u16],
     h: Change,
     work: &mut [u8],
     i: usize,
@@ -267,7 +261,7 @@ pub fn first_slot(h: Change, nodes: usize) -> usize
 pub fn change_table(
     pack: &[u8],
     places: &[u16],
-    effects: &[Option<u16>],
+    effects: &[u16],
     h: Change,
     work: &mut [u8],
 ) -> usize

@@ -1,6 +1,6 @@
 // A round of triggers in a slot. Where it tells nobody anything, every belief stays where it was: the values change in
 // place, and rows that have become the same are merged.
-ghost use Rattle.std.specs.Prelude.{◌≡◌, true, ℕ, ◌<◌, ◌≤◌, length, get_or, Ok, None};
+ghost use Rattle.std.specs.Prelude.{◌≡◌, true, ℕ, ◌<◌, ◌≤◌, length, get_or, Ok};
 ghost use Rattle.pack.specs.Duties.Table.{table_of, state_of};
 ghost use Rattle.transition.specs.Duties.Cause.{Telling, OfEffects};
 ghost use Rattle.transition.specs.Inner.Change.{Scene, Scened, InScene};
@@ -20,25 +20,22 @@ use pack::effects::{Wanted, some_effect};
 use pack::table::Table;
 
 // Whether the effects at a place are meant for nobody's beliefs.
-pub fn silent(pack: &[u8], at: Option<u16>) -> bool
+pub fn silent(pack: &[u8], at: usize) -> bool
     requires { Telling pack.now at }
     ensures { OfEffects pack.now at (λ es. result ≡ true → Silent es) }
 {
-    match at {
-        None => true,
-        Some(at) => !some_effect(pack, at as usize, Wanted::Belief),
-    }
+    pack.len() <= at || !some_effect(pack, at, Wanted::Belief)
 }
 
 // Whether the effects in the first n rows are.
-pub fn all_silent(pack: &[u8], effects: &[Option<u16>], n: usize) -> bool
+pub fn all_silent(pack: &[u8], effects: &[u16], n: usize) -> bool
     requires { (n ≤ 32) × (n ≤ length effects.now)
-        × ((m : ℕ) → m < n → Telling pack.now (get_or effects.now m None)) }
+        × ((m : ℕ) → m < n → Telling pack.now (get_or effects.now m 0)) }
     ensures { result ≡ true → (m : ℕ) → m < n
-        → OfEffects pack.now (get_or effects.now m None) Silent }
+        → OfEffects pack.now (get_or effects.now m 0) Silent }
 {
     for at in &effects[..n] {
-        if !silent(pack, *at) {
+        if !silent(pack, *at as usize) {
             return false;
         }
     }
@@ -46,14 +43,14 @@ pub fn all_silent(pack: &[u8], effects: &[Option<u16>], n: usize) -> bool
 }
 
 // Writes the effects in each row of a table into its values.
-pub fn rewrite(pack: &[u8], effects: &[Option<u16>], work: &mut [u8], t: Table)
+pub fn rewrite(pack: &[u8], effects: &[u16], work: &mut [u8], t: Table)
     requires { CausedSome pack.now effects.now work.old t }
     ensures { (s : Scene) → Caused s pack.now effects.now work.old t
         → Rewritten s t work.old work.new t.nodes }
 {
     for m in 0..t.nodes {
-        let row = t.rows + m * t.width;
-        write_told(pack, effects[m], 0, work, row, t.fluents);
+        let at = effects[m] as usize;
+        write_told(pack, at, 0, work, t.rows + m * t.width, t.fluents);
     }
 }
 
@@ -81,7 +78,7 @@ pub fn merge_slot(work: &mut [u8], t: Table, slot: usize) -> usize
 pub fn round(
     pack: &[u8],
     places: &[u16],
-    effects: &[Option<u16>],
+    effects: &[u16],
     h: Change,
     work: &mut [u8],
     slot: usize,

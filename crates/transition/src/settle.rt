@@ -2,7 +2,7 @@
 ghost use Rattle.transition.specs.Duties.Play.{Settleable, SettlesIn};
 
 use crate::change::{Change, NO_SLOT};
-use crate::fire::fire_all;
+use crate::fire::{NOWHERE, fire_all};
 use crate::round::round;
 use crate::stop::Stop;
 use pack::places::PLACES;
@@ -27,7 +27,7 @@ pub fn settle(
     if triggers == 0 {
         return Ok(());
     }
-    let mut effects = [None; 32];
+    let mut effects = [NOWHERE; 32];
     let mut now = Table {
         rows: slot + 1,
         ..t

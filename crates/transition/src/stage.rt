@@ -29,7 +29,7 @@ pub fn put_down(work: &mut [u8], from: usize, n: usize, w: usize, slot: usize)
 pub fn stage(
     pack: &[u8],
     places: &[u16],
-    effects: &[Option<u16>],
+    effects: &[u16],
     h: Change,
     work: &mut [u8],
     slot: usize,

@@ -1,5 +1,5 @@
 -- Effects at a place of the pack, and who takes part in what happens. Assumes nothing.
-use Rattle.std.specs.Prelude.{◌≡◌, Bool, true, ◌≢◌, List, [], ℕ, ◌+◌, ◌<◌, ◌≤◌, length, get_or, eqb, Option, None, Some}
+use Rattle.std.specs.Prelude.{◌≡◌, Bool, true, ◌≢◌, List, [], ℕ, ◌+◌, ◌<◌, ◌≤◌, length, get_or, eqb}
 use Rattle.pack.specs.Syntax.{Condition, Effect, Node}
 use Rattle.pack.specs.State.{State, meaning}
 use Rattle.pack.specs.Condition.{holds, write}
@@ -16,30 +16,30 @@ use Rattle.pack.specs.declared.table.Table.{Table}
 abbrev pub told : List Effect → ℕ → Bool
 told es whom = some_of (λ e. eqb e.whom whom) es
 
--- at a place of the pack stand these effects; where there is no place, there are none
-pub record EffectsAt (d : Dimensions) (pack : List ℕ) (at : Option ℕ) (es : List Effect) : Type 0 where
-  pub none : at ≡ None → es ≡ []
-  pub some : (place : ℕ) → at ≡ Some place → Gives (effects_at d) pack place es
+-- at a place of the pack stand these effects; behind its end stand none
+pub record EffectsAt (d : Dimensions) (pack : List ℕ) (at : ℕ) (es : List Effect) : Type 0 where
+  pub none : length pack ≤ at → es ≡ []
+  pub some : at < length pack → Gives (effects_at d) pack at es
 
--- effects stand there, over small dimensions
-pub record Telling (pack : List ℕ) (at : Option ℕ) : Type 0 where
+-- effects stand at a place, over small dimensions
+pub record Telling (pack : List ℕ) (at : ℕ) : Type 0 where
   pub dimensions : Dimensions
   pub small : Small dimensions
   pub effects : List Effect
   pub stand : EffectsAt dimensions pack at effects
 
 -- what holds of whatever effects stand there
-abbrev pub OfEffects : (pack : List ℕ) (at : Option ℕ) (Q : List Effect → Type 0) → Type 0
+abbrev pub OfEffects : (pack : List ℕ) (at : ℕ) (Q : List Effect → Type 0) → Type 0
 OfEffects pack at Q = (d : Dimensions) → Small d → (es : List Effect) → EffectsAt d pack at es → Q es
 
 -- and a row of values to write into
-pub record Tellable (pack : List ℕ) (at : Option ℕ) (work : List ℕ) (row fluents : ℕ) : Type 0 where
+pub record Tellable (pack : List ℕ) (at : ℕ) (work : List ℕ) (row fluents : ℕ) : Type 0 where
   pub telling : Telling pack at
   pub wide : length telling.dimensions.domains ≡ fluents
   pub room : row + fluents ≤ length work
 
 -- the values of a row are what the effects at a place write, if they are meant for whom
-pub record ToldWritten (pack : List ℕ) (at : Option ℕ) (whom : ℕ) (was now : List ℕ) (row fluents : ℕ) : Type 0 where
+pub record ToldWritten (pack : List ℕ) (at whom : ℕ) (was now : List ℕ) (row fluents : ℕ) : Type 0 where
   pub values : (d : Dimensions) → Small d → length d.domains ≡ fluents → (es : List Effect) → EffectsAt d pack at es
       → cells now row fluents ≡ write whom es (cells was row fluents)
   pub only : RowOnly was now row fluents

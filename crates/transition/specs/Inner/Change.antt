@@ -1,7 +1,7 @@
 -- What happens in a table, as the pass makes it: the slots of the states that it meets, and their rows. Assumes
 -- nothing.
 use Rattle.std.specs.Prelude.{◌≡◌, Bool, true, false, cond, ◌≢◌, List, ℕ, suc, ◌+◌, ◌*◌, ◌/◌, ◌%◌, ◌<◌, ◌≤◌, length}
-use Rattle.std.specs.Prelude.{get_or, eqb, Option, None}
+use Rattle.std.specs.Prelude.{get_or, eqb}
 use Rattle.pack.specs.Syntax.{Effect, Node}
 use Rattle.pack.specs.State.{State, meaning, target}
 use Rattle.pack.specs.Reading.{pick}
@@ -65,20 +65,20 @@ member_of h n slot =
     (pick (eqb (slot % 7) h.acted) (acted (slot / 7)) (edge (slot / 7) (slot % 7))))
 
 -- the scene is what the pack, the places and the work buffer say
-pub record Stands (s : Scene) (pack places : List ℕ) (effects : List (Option ℕ)) (h : Change) (work : List ℕ) (t : Table) : Type 0 where
+pub record Stands (s : Scene) (pack places effects : List ℕ) (h : Change) (work : List ℕ) (t : Table) : Type 0 where
   pub tabled : Tabled s.dimensions s.table work t
   pub effects_stand : (m : ℕ) → m < t.nodes
-      → EffectsAt s.dimensions pack (get_or effects m None) (s.causes (at s t.characters m))
+      → EffectsAt s.dimensions pack (get_or effects m 0) (s.causes (at s t.characters m))
   pub long : t.nodes ≤ length effects
   pub observes : Observes s.dimensions pack places h.observed t.characters s.takes
   pub kinds : Kinds s t.nodes t.characters h
   pub root : h.root < t.nodes
 
-abbrev pub Scened : (pack places : List ℕ) (effects : List (Option ℕ)) (h : Change) (work : List ℕ) → Type 0
+abbrev pub Scened : (pack places effects : List ℕ) (h : Change) (work : List ℕ) → Type 0
 Scened pack places effects h work = (s : Scene) × Stands s pack places effects h work h.table
 
 -- what holds of whatever scene that is
-abbrev pub InScene : (pack places : List ℕ) (effects : List (Option ℕ)) (h : Change) (work : List ℕ) (Q : Scene → Type 0) → Type 0
+abbrev pub InScene : (pack places effects : List ℕ) (h : Change) (work : List ℕ) (Q : Scene → Type 0) → Type 0
 InScene pack places effects h work Q = (s : Scene) → Stands s pack places effects h work h.table → Q s
 
 -- its table alone

@@ -1,5 +1,5 @@
 -- A round in a slot that tells nobody anything: the values of a table's rows change where they stand. Assumes nothing.
-use Rattle.std.specs.Prelude.{◌≡◌, false, ◌⊎◌, List, ℕ, suc, ◌+◌, ◌*◌, ◌<◌, ◌≤◌, length, get_or, Option, None}
+use Rattle.std.specs.Prelude.{◌≡◌, false, ◌⊎◌, List, ℕ, suc, ◌+◌, ◌*◌, ◌<◌, ◌≤◌, length, get_or}
 use Rattle.pack.specs.Syntax.{Effect}
 use Rattle.pack.specs.Condition.{write}
 use Rattle.pack.specs.Duties.Places.{places_room}
@@ -17,13 +17,13 @@ abbrev pub Silent : List Effect → Type 0
 Silent es = (c : ℕ) → told es (suc c) ≡ false
 
 -- the scene's effects stand at the places for its rows
-pub record Caused (s : Scene) (pack : List ℕ) (effects : List (Option ℕ)) (work : List ℕ) (t : Table) : Type 0 where
+pub record Caused (s : Scene) (pack effects work : List ℕ) (t : Table) : Type 0 where
   pub tabled : Tabled s.dimensions s.table work t
   pub effects_stand : (m : ℕ) → m < t.nodes
-      → EffectsAt s.dimensions pack (get_or effects m None) (s.causes (at s t.characters m))
+      → EffectsAt s.dimensions pack (get_or effects m 0) (s.causes (at s t.characters m))
   pub long : t.nodes ≤ length effects
 
-abbrev pub CausedSome : (pack : List ℕ) (effects : List (Option ℕ)) (work : List ℕ) (t : Table) → Type 0
+abbrev pub CausedSome : (pack effects work : List ℕ) (t : Table) → Type 0
 CausedSome pack effects work t = (s : Scene) × Caused s pack effects work t
 
 -- p is no value of row i

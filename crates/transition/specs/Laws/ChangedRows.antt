@@ -1,6 +1,6 @@
 -- The slots of what is met in the pass, and the rows of what they stand for. Assumes nothing.
 use Rattle.std.specs.Prelude.{ℕ, ◌+◌, ◌*◌, ◌/◌, ◌%◌, ◌<◌, ◌≤◌, ◌≡◌, refl, Bool, true, false, cond, ◌≢◌, List, length}
-use Rattle.std.specs.Prelude.{get_or, set, Option, None}
+use Rattle.std.specs.Prelude.{get_or, set}
 use Rattle.std.proofs.Common.{sym, ap, ap₂, ◌∙◌, subst, add-one, get_or-set_same, get_or-set_other, below_more}
 use native.Mathlib.Omega.{arith}
 use borrow.Author.Tests.{eq-eqb, ne_eqb}
@@ -61,7 +61,7 @@ tabled_same {was = was} {now} {t} x low long =
       some = x.some;
     }
 
-pub stands_same : {s : Scene} {pack places was now : List ℕ} {effects : List (Option ℕ)} {h : Change} {t : Table}
+pub stands_same : {s : Scene} {pack places effects was now : List ℕ} {h : Change} {t : Table}
     → Stands s pack places effects h was t → Below was now (t.rows + t.nodes * t.width) → length now ≡ length was
     → Stands s pack places effects h now t
 stands_same x low long =
@@ -115,7 +115,7 @@ module _ {d : Dimensions} {T : List Node} {work : List ℕ} {t : Table} (x : Tab
       let l = belief_in m c hm hc in
       record { is = slot_old h t.nodes q (omega (arith, e)) few ∙ ap old e; below = omega (arith, e) }
 
-module _ {s : Scene} {pack places work : List ℕ} {effects : List (Option ℕ)} {h : Change} {t : Table}
+module _ {s : Scene} {pack places effects work : List ℕ} {h : Change} {t : Table}
     (x : Stands s pack places effects h work t) where
   abbrev C : ℕ
   C = t.characters
@@ -123,7 +123,7 @@ module _ {s : Scene} {pack places work : List ℕ} {effects : List (Option ℕ)}
   abbrev T : List Node
   T = s.table
 
-  pub telling : (m : ℕ) → m < t.nodes → Telling pack (get_or effects m None)
+  pub telling : (m : ℕ) → m < t.nodes → Telling pack (get_or effects m 0)
   telling m l =
       record {
         dimensions = s.dimensions;
@@ -133,7 +133,7 @@ module _ {s : Scene} {pack places work : List ℕ} {effects : List (Option ℕ)}
       }
 
   pub tellable : (m : ℕ) → m < t.nodes → {buffer : List ℕ} {row : ℕ} → row + t.fluents ≤ length buffer
-      → Tellable pack (get_or effects m None) buffer row t.fluents
+      → Tellable pack (get_or effects m 0) buffer row t.fluents
   unfolding telling
   tellable m l room = record { telling = telling m l; wide = x.tabled.over.fluents; room = room }
 
@@ -152,7 +152,7 @@ module _ {s : Scene} {pack places work : List ℕ} {effects : List (Option ℕ)}
   -- whether a row tells a character something, as it is read
   tells_is : {r : Bool} (m d : ℕ) → m < t.nodes
       → ((d' : Dimensions) → Rattle.pack.specs.Duties.Judge.Small d' → (es : List Rattle.pack.specs.Syntax.Effect)
-      → EffectsAt d' pack (get_or effects m None) es → r ≡ told es (d + 1)) → tells s C m d ≡ r
+      → EffectsAt d' pack (get_or effects m 0) es → r ≡ told es (d + 1)) → tells s C m d ≡ r
   tells_is m d l f =
       ap (told (s.causes (at s C m))) (sym (add-one d))
       ∙ sym (f s.dimensions x.tabled.over.small (s.causes (at s C m)) (x.effects_stand m l))
@@ -162,7 +162,7 @@ module _ {s : Scene} {pack places work : List ℕ} {effects : List (Option ℕ)}
 
   module _ {m d : ℕ} (hm : m < t.nodes) (hd : d < C) {r : Bool}
       (told-r : (d' : Dimensions) → Rattle.pack.specs.Duties.Judge.Small d'
-      → (es : List Rattle.pack.specs.Syntax.Effect) → EffectsAt d' pack (get_or effects m None) es
+      → (es : List Rattle.pack.specs.Syntax.Effect) → EffectsAt d' pack (get_or effects m 0) es
       → r ≡ told es (d + 1)) where
     pub slot_told : r ≡ true → SlotIs h t.nodes (believed s C m d) (m * 7 + d)
     slot_told e =
@@ -225,7 +225,7 @@ slots_all {h} {n} {d} {C} {next} {was} {now} {to} x a b =
     let e : d ≡ C = omega arith in subst (λ (d : ℕ). SlotsPut h n d next was now to) e x
 
 -- a row that took part
-module _ {s : Scene} {pack places was : List ℕ} {effects : List (Option ℕ)} {h : Change} {t : Table}
+module _ {s : Scene} {pack places effects was : List ℕ} {h : Change} {t : Table}
     (x : Stands s pack places effects h was t) {m to : ℕ} (l : m < t.nodes) (room : RowRoom was t to) where
   -- the parts of the row are written one after the other, all from `to` on
   pub later : {now : List ℕ} → Below was now to → length now ≡ length was → Stands s pack places effects h now t
@@ -237,7 +237,7 @@ module _ {s : Scene} {pack places was : List ℕ} {effects : List (Option ℕ)} 
       cells_same was mid (t.rows + m * t.width) to t.fluents (λ q g. c.part q g) ∙ values_are x.tabled m l
 
   pub acted_put : {mid then now : List ℕ} → PartCopied was mid (t.rows + m * t.width) to t.fluents
-      → ToldWritten pack (get_or effects m None) 0 mid then to t.fluents
+      → ToldWritten pack (get_or effects m 0) 0 mid then to t.fluents
       → SlotsPut h t.nodes t.characters (believed s t.characters m) then now (to + t.fluents)
       → Puts s h t (acted m) was now to
   acted_put {mid} {then} {now} c e p = record {
@@ -264,7 +264,7 @@ old_put s {was} {mid} {now} {h} {t} x {m} {to} l c p = record {
 }
 
 -- what a character believes in a row that took part
-module _ {s : Scene} {pack places was : List ℕ} {effects : List (Option ℕ)} {h : Change} {t : Table}
+module _ {s : Scene} {pack places effects was : List ℕ} {h : Change} {t : Table}
     (x : Stands s pack places effects h was t) (m c to : ℕ) (l : m < t.nodes) where
   abbrev n : ℕ
   n = target s.table m c
@@ -279,7 +279,7 @@ module _ {s : Scene} {pack places was : List ℕ} {effects : List (Option ℕ)} 
     believed_keeps hc g = x.kinds.keeps m c l hc (took_is x m c f ∙ g)
 
   pub edge_put : {mid now : List ℕ} → Puts s h t (took s t.characters m c) was mid to
-      → ToldWritten pack (get_or effects m None) (c + 1) mid now to t.fluents → Puts s h t (edge m c) was now to
+      → ToldWritten pack (get_or effects m 0) (c + 1) mid now to t.fluents → Puts s h t (edge m c) was now to
   edge_put {mid} {now} p e = record {
     values = e.values s.dimensions x.tabled.over.small x.tabled.over.fluents
         (s.causes (at s t.characters m)) (x.effects_stand m l)

@@ -4,13 +4,13 @@ use Prim.Native.Nat.{◌+◌, ◌*◌}
 use Rattle.transition.proofs.PartOne.{act_places, act_telling, scene, act_stands, acted_in}
 use Rattle.transition.proofs.act.act.Goals as goal
 
-pub overflow_mul-at : goal.overflow_mul-at
-overflow_mul-at c =
+pub overflow_mul-place : goal.overflow_mul-place
+overflow_mul-place c =
     let (p, (T, (n, (k, (x, l, i))))) = c.requires in
     omega (arith, act_places x l)
 
-pub overflow_add-at : goal.overflow_add-at
-overflow_add-at c =
+pub overflow_add-place : goal.overflow_add-place
+overflow_add-place c =
     let (p, (T, (n, (k, (x, l, i))))) = c.requires in
     omega (arith, act_places x l)
 
@@ -23,6 +23,9 @@ pub bounds-places-action : goal.bounds-places-action
 bounds-places-action c =
     let (p, (T, (n, (k, (x, l, i))))) = c.requires in
     omega (arith, act_places x l)
+
+pub overflow_cast-at : goal.overflow_cast-at
+overflow_cast-at c = omega (arith, c.type_inv.places (9 * c.args.action + 1))
 
 pub lowest_untold-requires : goal.lowest_untold-requires
 lowest_untold-requires c =

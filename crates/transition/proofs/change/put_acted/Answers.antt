@@ -28,6 +28,9 @@ offset_bounds-effects-m c = omega (arith, c.requires.1, c.requires.0.1.tabled.fe
 pub bounds-effects-m : goal.bounds-effects-m
 bounds-effects-m c = omega (arith, c.requires.1, c.requires.0.1.long)
 
+pub overflow_cast-effects : goal.overflow_cast-effects
+overflow_cast-effects c = omega (arith, c.type_inv.effects c.args.m)
+
 pub write_told-requires : goal.write_told-requires
 write_told-requires c =
     tellable c.requires.0.1 _ c.requires.1 (omega (arith, place (goal.at.write_told-requires c).After-struct_known-1, c.copy_part.auto.work))

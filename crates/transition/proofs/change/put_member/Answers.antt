@@ -27,6 +27,9 @@ pub bounds-effects-slot : goal.bounds-effects-slot
 bounds-effects-slot c =
     omega (arith, inside (goal.at.bounds-effects-slot c).Then-from, c.requires.0.1.long)
 
+pub overflow_cast-at : goal.overflow_cast-at
+overflow_cast-at c = omega (arith, c.type_inv.effects (c.args.slot / 7))
+
 pub overflow_add-slot : goal.overflow_add-slot
 overflow_add-slot c = omega arith
 

@@ -33,6 +33,9 @@ offset_bounds-effects-m c = omega (arith, c.requires.1, c.requires.0.1.tabled.fe
 pub bounds-effects-m : goal.bounds-effects-m
 bounds-effects-m c = omega (arith, c.requires.1, c.requires.0.1.long)
 
+pub overflow_cast-effects : goal.overflow_cast-effects
+overflow_cast-effects c = omega (arith, c.type_inv.effects c.args.m)
+
 pub overflow_add-d : goal.overflow_add-d
 overflow_add-d c = omega (arith, c.requires.2, small c.requires.0.1.tabled)
 

@@ -25,7 +25,7 @@ loop-m-preserved c =
     let (long, fired) = c.loop-m.invariant in (
       simp length-set long,
       λ d table ts x y.
-          fired_more d c.args.pack.now ts c.args.t.characters table (fired d table ts x y) (c.firing-at.ensures d table ts x y) (omega (arith, c.requires.1, c.loop-m-test.true, long)) c.is_some-any.ensures,
+          fired_more d c.args.pack.now ts c.args.t.characters table (fired d table ts x y) (c.firing-at.ensures d table ts x y) (omega (arith, c.requires.1, c.loop-m-test.true, long)) (ltb-true c.firing-at.result (length c.args.pack.now)) (ltb-false c.firing-at.result (length c.args.pack.now)),
     )
 
 pub shape_of-effects : goal.shape_of-effects

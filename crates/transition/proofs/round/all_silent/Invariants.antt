@@ -2,7 +2,6 @@
 use mathlib.Core.List.{List}
 use Prim.Native.Nat.{ℕ, ◌<◌}
 use lib.ListN.{get_or}
-use Rattle.std.specs.Prelude.{None}
 use Rattle.pack.specs.Syntax.{Effect}
 use Rattle.pack.specs.Grammar.{Dimensions}
 use Rattle.pack.specs.Duties.Judge.{Small}
@@ -12,4 +11,4 @@ use Rattle.transition.proofs.round.all_silent.Given as goal
 
 abbrev pub invariant-loop-at : goal.invariant-loop-at
 invariant-loop-at l =
-    (i : ℕ) → i < l.at-index → (d : Dimensions) → Small d → (es : List Effect) → EffectsAt d l.pack (get_or l.effects i None) es → Silent es
+    (i : ℕ) → i < l.at-index → (d : Dimensions) → Small d → (es : List Effect) → EffectsAt d l.pack (get_or l.effects i 0) es → Silent es

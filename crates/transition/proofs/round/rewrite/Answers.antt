@@ -18,13 +18,13 @@ bounds-effects-m c =
     let (s, x) = c.requires in
     omega (arith, x.long, c.loop-m-test.true)
 
-pub overflow_mul-row : goal.overflow_mul-row
-overflow_mul-row c =
+pub overflow_mul-m : goal.overflow_mul-m
+overflow_mul-m c =
     let (s, x) = c.requires in
     omega (arith, row_inside x _ c.loop-m-test.true)
 
-pub overflow_add-row : goal.overflow_add-row
-overflow_add-row c =
+pub overflow_add-t : goal.overflow_add-t
+overflow_add-t c =
     let (s, x) = c.requires in
     omega (arith, row_inside x _ c.loop-m-test.true)
 
