@@ -12,7 +12,8 @@ use Rattle.pack.specs.Duties.Answer.{dims}
 use Rattle.pack.specs.Duties.Contents.{ActionStands}
 use Rattle.pack.specs.declared.table.Table.{Table}
 use Rattle.pack.specs.declared.refusal.Stop.{Stop}
-use Rattle.std.specs.Prelude.{Result}
+use Rattle.std.specs.Prelude.{Result, Option, Some, None}
+use Rattle.std.specs.Option.{unwrap_or}
 use Rattle.transition.specs.declared.change.Change.{Change}
 use Rattle.transition.specs.Happening.{nothing, action_of, observes, act}
 use Rattle.transition.specs.Duties.Cause.{told, EffectsAt, Telling}
@@ -54,26 +55,27 @@ module _ {p : Theory} {T : List Node} {pack places : List ℕ} {actions triggers
 
   module _ (root : ℕ) (inside : root < t.nodes) where
     abbrev pub part : ℕ → Change
-    part u = record { table = t; acted = u; old = 6; observed = 9 * a + 3; root = root }
+    part k = record { table = t; acted = k; old = 6; observed = 9 * a + 3; root = root }
 
-    kinds : (u : ℕ) → Untold A.effects C u → Kinds scene t.nodes C (part u)
-    kinds u y = record {
-      edges = λ m d hm hd e. (
-        omega (arith, small x.tabled),
-        λ q. ⊎_elim
-            (λ (o : (u < C) × (told A.effects (suc u) ≡ false)). clash e (ap (λ (k : ℕ). told A.effects (suc k)) q ∙ o.1))
-            (λ (o : (u ≡ 7) × ((d : ℕ) → d < C → told A.effects (suc d) ≡ true)). omega (arith, o.0, q, small x.tabled)) y.one,
-      );
-      acts = λ m d hm hd e f. ⊎_elim
-          (λ (o : (u < C) × (told A.effects (suc u) ≡ false)). omega (arith, o.0, small x.tabled))
-          (λ (o : (u ≡ 7) × ((d : ℕ) → d < C → told A.effects (suc d) ≡ true)). clash (o.1 d hd) e) y.one;
-      apart = λ l. ⊎_elim (λ (o : (u < C) × (told A.effects (suc u) ≡ false)). omega (arith, o.0, small x.tabled)) (λ (o : (u ≡ 7) × ((d : ℕ) → d < C → told A.effects (suc d) ≡ true)). absurd (omega (arith, o.0, l))) y.one;
+    kinds : (u : Option ℕ) → Untold A.effects C u → Kinds scene t.nodes C (part (unwrap_or u 7))
+    kinds (Some c) y =
+        let (here, quiet) = y.one c refl in
+        record {
+          edges = λ m d hm hd e. (omega (arith, small x.tabled), λ q. clash e (ap (λ (k : ℕ). told A.effects (suc k)) q ∙ quiet));
+          acts = λ m d hm hd e f. omega (arith, here, small x.tabled);
+          apart = λ l. omega (arith, here, small x.tabled);
+          keeps = λ m d hm hd e. omega arith;
+        }
+    kinds None y = record {
+      edges = λ m d hm hd e. (omega (arith, small x.tabled), omega (arith, hd, small x.tabled));
+      acts = λ m d hm hd e f. clash (y.none refl d hd) e;
+      apart = λ l. omega arith;
       keeps = λ m d hm hd e. omega arith;
     }
 
-    pub act_stands : (u : ℕ) → ((d : Rattle.pack.specs.Grammar.Dimensions) → Rattle.pack.specs.Duties.Judge.Small d → (es : List Effect) → EffectsAt d pack (get_or places (9 * a + 1) 0) es → Untold es C u)
-        → Stands scene pack places (replicate 32 (get_or places (9 * a + 1) 0)) (part u) work t
-    act_stands u y = record {
+    pub act_stands : (u : Option ℕ) (k : ℕ) → k ≡ unwrap_or u 7 → ((d : Rattle.pack.specs.Grammar.Dimensions) → Rattle.pack.specs.Duties.Judge.Small d → (es : List Effect) → EffectsAt d pack (get_or places (9 * a + 1) 0) es → Untold es C u)
+        → Stands scene pack places (replicate 32 (get_or places (9 * a + 1) 0)) (part k) work t
+    act_stands u k e y = record {
       tabled = x.tabled;
       effects_stand = λ m hm. subst (λ (k : ℕ). EffectsAt (dims p.characters p.domains) pack k A.effects) (sym (get_or-replicate {A = ℕ} 32 m (get_or places (9 * a + 1) 0) 0 (omega (arith, x.tabled.few)))) act_effects;
       long = omega (arith, length-replicate {A = ℕ} 32 (get_or places (9 * a + 1) 0), x.tabled.few);
@@ -85,7 +87,7 @@ module _ {p : Theory} {T : List Node} {pack places : List ℕ} {actions triggers
         stands = λ h c lc. found.observed c (omega (arith, x.tabled.over.characters));
         judged = λ h c lc z. refl;
       };
-      kinds = kinds u (y (dims p.characters p.domains) x.theorized.small A.effects act_effects);
+      kinds = subst (λ (k : ℕ). Kinds scene t.nodes C (part k)) (sym e) (kinds u (y (dims p.characters p.domains) x.theorized.small A.effects act_effects));
       root = inside;
     }
 

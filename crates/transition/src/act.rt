@@ -4,25 +4,23 @@ ghost use Rattle.transition.specs.Duties.Cause.{Telling, OfEffects};
 ghost use Rattle.transition.specs.Duties.Play.{Untold, Actable, ActsIn};
 
 use crate::cause::tells;
-use crate::change::Change;
+use crate::change::{Change, NO_SLOT};
 use crate::stage::stage;
 use pack::places::{ACTION, EFFECTS, OBSERVED};
 use pack::refusal::Stop;
 use pack::table::Table;
 
-// The lowest character that no effect at a place is meant for, or 7.
-pub fn lowest_untold(pack: &[u8], at: usize, characters: usize) -> usize
+// The lowest character that no effect at a place is meant for.
+pub fn lowest_untold(pack: &[u8], at: usize, characters: usize) -> Option<usize>
     requires { Telling pack.now at × (characters < 7) }
     ensures { OfEffects pack.now at (λ es. Untold es characters result) }
 {
-    let mut c = 0;
-    while c < characters {
+    for c in 0..characters {
         if !tells(pack, at, c + 1) {
-            return c;
+            return Some(c);
         }
-        c += 1;
     }
-    7
+    None
 }
 
 // Part 1 of an action in what a row of a table means, into a slot; how many states that leaves.
@@ -44,7 +42,7 @@ pub fn act(
     let at = place as usize;
     let observers = Change {
         table: t,
-        acted: lowest_untold(pack, at, t.characters),
+        acted: lowest_untold(pack, at, t.characters).unwrap_or(NO_SLOT),
         old: 6,
         observed: ACTION * action + OBSERVED,
         root,

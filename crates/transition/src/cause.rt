@@ -16,10 +16,7 @@ pub fn tells(pack: &[u8], at: usize, whom: usize) -> bool
     requires { Telling pack.now at }
     ensures { OfEffects pack.now at (λ es. result ≡ told es whom) }
 {
-    if pack.len() <= at {
-        return false;
-    }
-    some_effect(pack, at, Wanted::For(whom))
+    at < pack.len() && some_effect(pack, at, Wanted::For(whom))
 }
 
 // Writes the effects at a place that are meant for whom into the values of a row.
@@ -46,8 +43,5 @@ pub fn takes(
     requires { Watched pack.now places.now observed work.now t m c }
     ensures { Took pack.now places.now observed work.now t m c result }
 {
-    if observed == PLACES {
-        return true;
-    }
-    holds(pack, places[observed + c] as usize, work, t, m)
+    observed == PLACES || holds(pack, places[observed + c] as usize, work, t, m)
 }

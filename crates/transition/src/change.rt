@@ -21,8 +21,11 @@ use crate::cause::{takes, tells, write_told};
 use crate::regions::{MADE, NUMBERS};
 use chart::bytes::{clear, copy_part};
 use chart::numbering::{more, name_beliefs, number_of};
-use pack::number::wide;
 use pack::table::Table;
+
+// A number that no slot of a row has, for `acted` and `old`: numbers, since slots are reckoned from them and compared
+// with them in every row.
+pub const NO_SLOT: usize = 7;
 
 // The table in which it happens; which of a row's seven slots stand for the row having taken part and for the row as it
 // was, the others being its characters'; where the observation conditions are; and the row in which it happens.
@@ -54,7 +57,7 @@ pub fn slot_of(
     if tells(pack, effects[m] as usize, d + 1) {
         return m * 7 + d;
     }
-    let q = wide(work[t.rows + m * t.width + t.fluents + d]);
+    let q = t.belief(work, m, d);
     if takes(pack, places, h.observed, work, t, m, d) {
         q * 7 + h.acted
     } else {
@@ -79,11 +82,9 @@ pub fn put_slots(
         (λ s. SlotsPut h h.table.nodes h.table.characters (believed s h.table.characters m)
         work.old work.new to) }
 {
-    let mut d = 0;
-    while d < h.table.characters {
+    for d in 0..h.table.characters {
         let x = slot_of(pack, places, effects, h, work, m, d);
         work[to + d] = x as u8;
-        d += 1;
     }
 }
 
@@ -119,11 +120,9 @@ pub fn put_old(h: Change, work: &mut [u8], m: usize, to: usize)
     let t = h.table;
     let from = t.rows + m * t.width;
     copy_part(work, from, to, t.fluents);
-    let mut d = 0;
-    while d < t.characters {
-        let q = wide(work[from + t.fluents + d]);
+    for d in 0..t.characters {
+        let q = t.belief(work, m, d);
         work[to + t.fluents + d] = (q * 7 + h.old) as u8;
-        d += 1;
     }
 }
 
@@ -165,7 +164,7 @@ pub fn made_of(pack: &[u8], places: &[u16], h: Change, work: &[u8], slot: usize)
             told: false,
         }
     } else {
-        let row = wide(work[t.rows + m * t.width + t.fluents + kind]);
+        let row = t.belief(work, m, kind);
         let took = takes(pack, places, h.observed, work, t, m, kind);
         Source {
             row,
@@ -240,7 +239,7 @@ pub fn change_row(
 {
     let t = h.table;
     let size = t.nodes * 7 + 1;
-    let slot = wide(work[NUMBERS + size + i]);
+    let slot = usize::from(work[NUMBERS + size + i]);
     let to = MADE + i * t.width;
     put_member(pack, places, effects, h, work, slot, to);
     name_beliefs(work, NUMBERS, size, to + t.fluents, t.characters, count)

@@ -24,13 +24,7 @@ pub fn silent(pack: &[u8], at: usize) -> bool
     requires { Telling pack.now at }
     ensures { OfEffects pack.now at (λ es. result ≡ true → Silent es) }
 {
-    if pack.len() <= at {
-        return true;
-    }
-    if some_effect(pack, at, Wanted::Belief) {
-        return false;
-    }
-    true
+    pack.len() <= at || !some_effect(pack, at, Wanted::Belief)
 }
 
 // Whether the effects in the first n rows are.
@@ -40,12 +34,10 @@ pub fn all_silent(pack: &[u8], effects: &[u16], n: usize) -> bool
     ensures { result ≡ true → (m : ℕ) → m < n
         → OfEffects pack.now (get_or effects.now m 0) Silent }
 {
-    let mut m = 0;
-    while m < n {
-        if !silent(pack, effects[m] as usize) {
+    for at in &effects[..n] {
+        if !silent(pack, *at as usize) {
             return false;
         }
-        m += 1;
     }
     true
 }
@@ -56,17 +48,9 @@ pub fn rewrite(pack: &[u8], effects: &[u16], work: &mut [u8], t: Table)
     ensures { (s : Scene) → Caused s pack.now effects.now work.old t
         → Rewritten s t work.old work.new t.nodes }
 {
-    let mut m = 0;
-    while m < t.nodes {
-        write_told(
-            pack,
-            effects[m] as usize,
-            0,
-            work,
-            t.rows + m * t.width,
-            t.fluents,
-        );
-        m += 1;
+    for m in 0..t.nodes {
+        let at = effects[m] as usize;
+        write_told(pack, at, 0, work, t.rows + m * t.width, t.fluents);
     }
 }
 

@@ -1,7 +1,7 @@
 // Rounds of triggers, until none holds anywhere.
 ghost use Rattle.transition.specs.Duties.Play.{Settleable, SettlesIn};
 
-use crate::change::Change;
+use crate::change::{Change, NO_SLOT};
 use crate::fire::{NOWHERE, fire_all};
 use crate::round::round;
 use pack::places::PLACES;
@@ -39,7 +39,7 @@ pub fn settle(
         let everyone = Change {
             table: now,
             acted: 6,
-            old: 7,
+            old: NO_SLOT,
             observed: PLACES,
             root: 0,
         };

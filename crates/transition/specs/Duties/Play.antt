@@ -1,5 +1,5 @@
 -- An action and the rounds after it, in a slot of the work buffer. Assumes nothing.
-use Rattle.std.specs.Prelude.{◌≡◌, true, false, ◌⊎◌, ◌≢◌, List, ℕ, suc, ◌+◌, ◌<◌, ◌≤◌, length, get_or, Result, Ok, Err}
+use Rattle.std.specs.Prelude.{◌≡◌, true, false, ◌⊎◌, ◌≢◌, List, ℕ, suc, ◌+◌, ◌<◌, ◌≤◌, length, get_or, Result, Ok, Err, Option, Some, None}
 use Rattle.pack.specs.Syntax.{Effect, Node, Theory}
 use Rattle.pack.specs.State.{State, meaning}
 use Rattle.pack.specs.Grammar.{longest_pack}
@@ -23,9 +23,10 @@ pub record Theorized (p : Theory) (pack places : List ℕ) (actions triggers : �
   pub short : length pack ≤ longest_pack
   pub marked : places_room ≤ length places
 
--- a character that no effect is meant for, or 7 where there is none
-pub record Untold (es : List Effect) (C u : ℕ) : Type 0 where
-  pub one : ((u < C) × (told es (suc u) ≡ false)) ⊎ ((u ≡ 7) × ((d : ℕ) → d < C → told es (suc d) ≡ true))
+-- a character that no effect is meant for, or none where there is none
+pub record Untold (es : List Effect) (C : ℕ) (u : Option ℕ) : Type 0 where
+  pub one : (c : ℕ) → u ≡ Some c → (c < C) × (told es (suc c) ≡ false)
+  pub none : u ≡ None → (d : ℕ) → d < C → told es (suc d) ≡ true
 
 -- a theory and a table
 pub record Setting (p : Theory) (T : List Node) (pack places : List ℕ) (actions triggers : ℕ) (work : List ℕ)

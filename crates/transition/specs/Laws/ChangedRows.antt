@@ -83,6 +83,10 @@ module _ {d : Dimensions} {T : List Node} {work : List ℕ} {t : Table} (x : Tab
       → get_or work (t.rows + m * w + t.fluents + c) 0 ≡ target T m c
   belief_is m c h l = sym (belief-at t work m c h l) ∙ ap (λ (T : List Node). target T m c) x.same
 
+  -- what a table says is believed
+  pub belief_told : (m c q : ℕ) → q ≡ target (table_of t work) m c → q ≡ target T m c
+  belief_told m c q e = e ∙ ap (λ (T : List Node). target T m c) x.same
+
   pub belief_in : (m c : ℕ) → m < t.nodes → c < t.characters → target T m c < t.nodes
   belief_in m c h l =
       omega (

@@ -45,8 +45,8 @@ overflow_add-observers c =
 pub stage-requires : goal.stage-requires
 stage-requires c =
     let (p, (T, (n, (k, (x, l, i))))) = c.requires in
-    ((scene x l, act_stands x l _ i _ c.lowest_untold.ensures), x.room)
+    ((scene x l, act_stands x l _ i _ _ c.unwrap_or.ensures c.lowest_untold.ensures), x.room)
 
 pub returns : goal.returns
 returns c =
-    λ p T n k x l i. acted_in x l _ i (c.stage.ensures (scene x l) (act_stands x l _ i _ c.lowest_untold.ensures))
+    λ p T n k x l i. acted_in x l _ i (c.stage.ensures (scene x l) (act_stands x l _ i _ _ c.unwrap_or.ensures c.lowest_untold.ensures))

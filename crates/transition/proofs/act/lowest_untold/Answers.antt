@@ -1,9 +1,8 @@
 -- The characters below c are told something. Assumes nothing.
-use mathlib.Core.Path.{◌≡◌, refl, sym, ap, ◌∙◌}
-use mathlib.Core.Bool.{true}
-use mathlib.Core.Logic.{inl, inr}
+use mathlib.Core.Path.{◌≡◌, sym, ap, ◌∙◌, subst}
+use mathlib.Core.Bool.{true, false}
 use mathlib.Core.List.{List}
-use Prim.Native.Nat.{suc}
+use Prim.Native.Nat.{ℕ, suc, ◌<◌}
 use native.Mathlib.Numerals.{add-one}
 use native.Mathlib.Omega.{arith}
 use borrow.Author.Count.{below_more}
@@ -21,7 +20,7 @@ here c d small es x =
     ap (told es) (sym (add-one c.loop-c.c)) ∙ sym (c.tells.ensures d small es x)
 
 pub loop-c-init : goal.loop-c-init
-loop-c-init c = (omega arith, λ d small es x k l. absurd (omega arith))
+loop-c-init c = λ d small es x k l. absurd (omega arith)
 
 pub overflow_add-c : goal.overflow_add-c
 overflow_add-c c = omega (arith, c.requires.1, c.loop-c-test.true)
@@ -31,15 +30,17 @@ tells-requires c = c.requires.0
 
 pub returns-then-not-tells : goal.returns-then-not-tells
 returns-then-not-tells c =
-    λ d small es x. record { one = inl (c.loop-c-test.true, here (goal.at.returns-then-not-tells c).After-tells d small es x ∙ c.if-not-tells.true) }
-
-pub overflow_add-c-in-loop-c : goal.overflow_add-c-in-loop-c
-overflow_add-c-in-loop-c c = omega (arith, c.requires.1, c.loop-c-test.true)
+    λ d small es x. record {
+      one = λ k e.
+          let same : c.loop-c.c ≡ k = cc in
+          subst (λ (k : ℕ). (k < c.args.characters) × (told es (suc k) ≡ false)) same (c.loop-c-test.true, here (goal.at.returns-then-not-tells c).After-tells d small es x ∙ c.if-not-tells.true);
+      none = λ e. absurd cc;
+    }
 
 pub loop-c-preserved : goal.loop-c-preserved
 loop-c-preserved c =
-    (omega (arith, c.loop-c-test.true), λ d small es x. below_more (λ k. told es (suc k) ≡ true) c.loop-c.c (c.loop-c.invariant.1 d small es x) (here (goal.at.loop-c-preserved c).After-tells d small es x ∙ c.if-not-tells.false))
+    λ d small es x. below_more (λ k. told es (suc k) ≡ true) c.loop-c.c (c.loop-c.invariant d small es x) (here (goal.at.loop-c-preserved c).After-tells d small es x ∙ c.if-not-tells.false)
 
 pub returns : goal.returns
 returns c =
-    λ d small es x. record { one = inr (refl, λ k l. c.loop-c.invariant.1 d small es x k (omega (arith, c.loop-c-test.false))) }
+    λ d small es x. record { one = λ k e. absurd cc; none = λ e k l. c.loop-c.invariant d small es x k (omega arith) }

@@ -2,7 +2,7 @@
 use mathlib.Core.Path.{◌≡◌}
 use mathlib.Core.Bool.{true}
 use mathlib.Core.List.{List}
-use Prim.Native.Nat.{ℕ, suc, ◌-◌, ◌<◌, ◌≤◌}
+use Prim.Native.Nat.{ℕ, suc, ◌<◌}
 use Rattle.pack.specs.Syntax.{Effect}
 use Rattle.pack.specs.Grammar.{Dimensions}
 use Rattle.pack.specs.Duties.Judge.{Small}
@@ -11,7 +11,4 @@ use Rattle.transition.proofs.act.lowest_untold.Given as goal
 
 abbrev pub invariant-loop-c : goal.invariant-loop-c
 invariant-loop-c l =
-    (l.c ≤ l.characters) × ((d : Dimensions) → Small d → (es : List Effect) → EffectsAt d l.pack l.at es → (k : ℕ) → k < l.c → told es (suc k) ≡ true)
-
-abbrev pub decreases-loop-c : goal.decreases-loop-c
-decreases-loop-c l = l.characters - l.c
+    (d : Dimensions) → Small d → (es : List Effect) → EffectsAt d l.pack l.at es → (k : ℕ) → k < l.c → told es (suc k) ≡ true

@@ -1,11 +1,14 @@
 -- Everyone, or those whose condition holds. Assumes nothing.
 use native.Mathlib.Omega.{arith}
 use Prim.Native.Nat.{◌+◌}
+use mathlib.Core.Path.{◌∙◌}
+use Rattle.std.proofs.Common.{eq-eqb}
 use Rattle.transition.proofs.Effects.{took_all, watched_judged, took_judged}
 use Rattle.transition.proofs.cause.takes.Goals as goal
 
 pub returns-then-observed-eq-PLACES : goal.returns-then-observed-eq-PLACES
-returns-then-observed-eq-PLACES c = took_all _ _ _ _ _ _ _ c.if-observed-eq-PLACES.true
+returns-then-observed-eq-PLACES c =
+    λ d T k s o. eq-eqb c.args.observed 327 c.if-observed-eq-PLACES.true ∙ took_all _ _ _ _ _ _ _ c.if-observed-eq-PLACES.true d T k s o
 
 pub overflow_add-observed : goal.overflow_add-observed
 overflow_add-observed c =
@@ -26,5 +29,5 @@ overflow_cast-places c = omega (arith, c.type_inv.places (c.args.observed + c.ar
 pub holds-requires : goal.holds-requires
 holds-requires c = watched_judged _ _ _ _ _ _ _ c.requires c.if-observed-eq-PLACES.false
 
-pub returns : goal.returns
-returns c = took_judged _ _ _ _ _ _ _ c.requires c.if-observed-eq-PLACES.false c.holds.ensures
+pub returns-else-observed-eq-PLACES : goal.returns-else-observed-eq-PLACES
+returns-else-observed-eq-PLACES c = took_judged _ _ _ _ _ _ _ c.requires c.if-observed-eq-PLACES.false c.holds.ensures

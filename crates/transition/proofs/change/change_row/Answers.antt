@@ -39,7 +39,7 @@ overflow_add-to c =
 
 pub put_member-requires : goal.put_member-requires
 put_member-requires c =
-    (c.requires.scened.0, omega (arith, c.wide-slot.ensures, c.requires.numbering.0.there _ c.requires.numbering.1), subst (λ (z : ℕ). There c.args.h.table.characters (member_of c.args.h c.args.h.table.nodes z)) c.wide-slot.ensures c.requires.numbering.2, record { behind = omega (arith, place (goal.at.put_member-requires c).After-struct_known-1, c.requires.scened.1.source); room = omega (arith, place (goal.at.put_member-requires c).After-struct_known-1) })
+    (c.requires.scened.0, omega (arith, c.from-slot.ensures, c.requires.numbering.0.there _ c.requires.numbering.1), subst (λ (z : ℕ). There c.args.h.table.characters (member_of c.args.h c.args.h.table.nodes z)) (sym c.from-slot.ensures) c.requires.numbering.2, record { behind = omega (arith, place (goal.at.put_member-requires c).After-struct_known-1, c.requires.scened.1.source); room = omega (arith, place (goal.at.put_member-requires c).After-struct_known-1) })
 
 pub overflow_add-to-2 : goal.overflow_add-to-2
 overflow_add-to-2 c =
@@ -54,4 +54,4 @@ shape_of-work c = c.name_beliefs.auto.work ∙ c.put_member.auto.work
 
 pub returns : goal.returns
 returns c =
-    λ s x. row_made x c.requires.scened.1 c.requires.numbering.0 c.requires.numbering.1 (sym c.wide-slot.ensures) (c.put_member.ensures s x) c.name_beliefs.ensures
+    λ s x. row_made x c.requires.scened.1 c.requires.numbering.0 c.requires.numbering.1 c.from-slot.ensures (c.put_member.ensures s x) c.name_beliefs.ensures

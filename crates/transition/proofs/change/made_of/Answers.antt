@@ -7,7 +7,7 @@ use mir.Syntax.{w64}
 use mir.Val.{Fits}
 use native.Mathlib.Omega.{arith}
 use Rattle.pack.specs.State.{target}
-use Rattle.transition.specs.Laws.ChangedRows.{row_inside, watched, belief_is, belief_in, believed_row, believed_keeps, member_first, member_old, member_acted, member_edge, member_there}
+use Rattle.transition.specs.Laws.ChangedRows.{watched, belief_told, believed_row, believed_keeps, member_first, member_old, member_acted, member_edge, member_there}
 use Rattle.transition.proofs.change.made_of.Goals as goal
 use Rattle.transition.proofs.change.made_of.Goals.{Else-kind-h-2}
 
@@ -17,29 +17,8 @@ inside : (c : Else-kind-h-2) →
 inside c =
     (omega (arith, c.requires.1, c.if-m-t.false), member_there _ _ _ _ c.if-m-t.false c.if-kind-h.false c.if-kind-h-2.false c.requires.2)
 
--- the row lies in the buffer, whose length is a number of the code
-place : (c : Else-kind-h-2) →
-    (c.args.h.table.rows + c.args.slot / 7 * c.args.h.table.width + c.args.h.table.fluents + c.args.h.table.characters ≤ c.args.h.table.rows + c.args.h.table.nodes * c.args.h.table.width) × (c.args.h.table.rows + c.args.h.table.nodes * c.args.h.table.width ≤ length c.args.work.now) × Fits w64 (length c.args.work.now)
-place c =
-    (row_inside c.requires.0.1.1.tabled _ (inside c).0, c.requires.0.1.1.tabled.fits.inside, omega (arith, c.well_formed.1.1.1.0.0))
-
-pub overflow_mul-m : goal.overflow_mul-m
-overflow_mul-m c = omega (arith, place (goal.at.overflow_mul-m c).Else-kind-h-2)
-
-pub overflow_add-t : goal.overflow_add-t
-overflow_add-t c = omega (arith, place (goal.at.overflow_add-t c).Else-kind-h-2)
-
-pub overflow_add-t-else-kind-h-2 : goal.overflow_add-t-else-kind-h-2
-overflow_add-t-else-kind-h-2 c =
-    omega (arith, place (goal.at.overflow_add-t-else-kind-h-2 c).Else-kind-h-2)
-
-pub overflow_add-t-else-kind-h-2-2 : goal.overflow_add-t-else-kind-h-2-2
-overflow_add-t-else-kind-h-2-2 c =
-    omega (arith, place (goal.at.overflow_add-t-else-kind-h-2-2 c).Else-kind-h-2, inside (goal.at.overflow_add-t-else-kind-h-2-2 c).Else-kind-h-2)
-
-pub bounds-work-t : goal.bounds-work-t
-bounds-work-t c =
-    omega (arith, place (goal.at.bounds-work-t c).Else-kind-h-2, inside (goal.at.bounds-work-t c).Else-kind-h-2)
+pub belief-row-requires : goal.belief-row-requires
+belief-row-requires c = (c.requires.0.1.1.tabled.fits, (inside c).0, (inside c).1)
 
 pub takes-took-requires : goal.takes-took-requires
 takes-took-requires c =
@@ -61,9 +40,9 @@ pub returns-else-kind-h-2 : goal.returns-else-kind-h-2
 returns-else-kind-h-2 c =
     let here = inside (goal.at.returns-else-kind-h-2 c).Else-kind-h-2 in
     λ s effects x.
-    let byte : c.wide-row.result ≡ target s.table (c.args.slot / 7) (c.args.slot % 7) = sym c.wide-row.ensures ∙ belief_is x.tabled _ _ here.0 here.1 in
+    let byte : c.belief-row.result ≡ target s.table (c.args.slot / 7) (c.args.slot % 7) = belief_told x.tabled _ _ _ c.belief-row.ensures.0 in
     record {
-      inside = omega (arith, byte, belief_in x.tabled _ _ here.0 here.1);
+      inside = c.belief-row.ensures.1;
       keeps = believed_keeps x _ _ 0 here.0 c.takes-took.ensures byte here.1;
       plain = λ e. absurd (true≢false e);
       told = λ e. (here.0, here.1, member_edge _ _ _ c.if-m-t.false c.if-kind-h.false c.if-kind-h-2.false, believed_row x _ _ 0 here.0 c.takes-took.ensures byte);

@@ -1,39 +1,31 @@
 -- A belief that is told something has its own slot, any other that of the row believed in. Assumes nothing.
-use mathlib.Core.Path.{sym, ◌∙◌}
 use Prim.Native.Nat.{ℕ, ◌+◌, ◌*◌, ◌<◌, ◌≤◌}
-use lib.ListN.{length}
 use mir.Syntax.{w64}
 use mir.Val.{Fits}
 use native.Mathlib.Omega.{arith}
 use Rattle.transition.specs.declared.change.Change.{Change}
 use Rattle.transition.specs.Laws.Changed.{Member}
 use Rattle.transition.specs.Inner.Change.{Scene, Stands, believed, SlotIs}
-use Rattle.transition.specs.Laws.ChangedRows.{telling, watched, small, belief_is, belief_in, row_inside, slot_told, slot_took, slot_kept}
+use Rattle.transition.specs.Laws.ChangedRows.{telling, watched, small, belief_told, slot_told, slot_took, slot_kept}
 use Rattle.transition.proofs.change.slot_of.Goals as goal
-use Rattle.transition.proofs.change.slot_of.Goals.{After-struct_known-1, After-wide-q, Else-takes, Then-takes}
+use Rattle.transition.proofs.change.slot_of.Goals.{After-belief-q, Else-takes, Then-takes}
 
--- the row lies in the buffer
-place : (s : After-struct_known-1) → (s.args.h.table.rows + s.args.m * s.args.h.table.width + s.args.h.table.fluents + s.args.h.table.characters ≤ s.args.h.table.rows + s.args.h.table.nodes * s.args.h.table.width) × (s.args.h.table.rows + s.args.h.table.nodes * s.args.h.table.width ≤ length s.args.work.now)
-place s =
-    (row_inside s.requires.0.1.tabled s.args.m s.requires.1, s.requires.0.1.tabled.fits.inside)
-
-few : (c : After-wide-q) → c.wide-q.result < 32
-few c =
-    omega (arith, c.wide-q.ensures, belief_is c.requires.0.1.tabled _ _ c.requires.1 c.requires.2, belief_in c.requires.0.1.tabled _ _ c.requires.1 c.requires.2, c.requires.0.1.tabled.few)
+few : (c : After-belief-q) → c.belief-q.result < 32
+few c = omega (arith, c.belief-q.ensures.1, c.requires.0.1.tabled.few)
 
 -- a slot is a number of the code
 slot-fits : {h : Change} {n slot : ℕ} {k : Member} → n ≤ 32 → SlotIs h n k slot → Fits w64 slot
 slot-fits few i = omega (arith, i.below)
 
 took : (c : Then-takes) {s : Scene} →
-    Stands s c.args.pack.now c.args.places.now c.args.effects.now c.args.h c.args.work.now c.args.h.table → SlotIs c.args.h c.args.h.table.nodes (believed s c.args.h.table.characters c.args.m c.args.d) (c.wide-q.result * 7 + c.args.h.acted)
+    Stands s c.args.pack.now c.args.places.now c.args.effects.now c.args.h c.args.work.now c.args.h.table → SlotIs c.args.h c.args.h.table.nodes (believed s c.args.h.table.characters c.args.m c.args.d) (c.belief-q.result * 7 + c.args.h.acted)
 took c x =
-    slot_took x c.requires.1 c.requires.2 c.tells.ensures c.if-tells.false (sym c.wide-q.ensures ∙ belief_is x.tabled _ _ c.requires.1 c.requires.2) c.takes.ensures c.if-takes.true
+    slot_took x c.requires.1 c.requires.2 c.tells.ensures c.if-tells.false (belief_told x.tabled _ _ _ c.belief-q.ensures.0) c.takes.ensures c.if-takes.true
 
 kept : (c : Else-takes) {s : Scene} →
-    Stands s c.args.pack.now c.args.places.now c.args.effects.now c.args.h c.args.work.now c.args.h.table → SlotIs c.args.h c.args.h.table.nodes (believed s c.args.h.table.characters c.args.m c.args.d) (c.wide-q.result * 7 + c.args.h.old)
+    Stands s c.args.pack.now c.args.places.now c.args.effects.now c.args.h c.args.work.now c.args.h.table → SlotIs c.args.h c.args.h.table.nodes (believed s c.args.h.table.characters c.args.m c.args.d) (c.belief-q.result * 7 + c.args.h.old)
 kept c x =
-    slot_kept x c.requires.1 c.requires.2 c.tells.ensures c.if-tells.false (sym c.wide-q.ensures ∙ belief_is x.tabled _ _ c.requires.1 c.requires.2) c.takes.ensures c.if-takes.false
+    slot_kept x c.requires.1 c.requires.2 c.tells.ensures c.if-tells.false (belief_told x.tabled _ _ _ c.belief-q.ensures.0) c.takes.ensures c.if-takes.false
 
 pub offset_bounds-effects-m : goal.offset_bounds-effects-m
 offset_bounds-effects-m c = omega (arith, c.requires.1, c.requires.0.1.tabled.few)
@@ -60,27 +52,15 @@ overflow_add-result c =
 pub returns-then-tells : goal.returns-then-tells
 returns-then-tells c = λ s x. slot_told x c.requires.1 c.requires.2 c.tells.ensures c.if-tells.true
 
-pub overflow_mul-m : goal.overflow_mul-m
-overflow_mul-m c = omega (arith, place c)
-
-pub overflow_add-t : goal.overflow_add-t
-overflow_add-t c = omega (arith, place (goal.at.overflow_add-t c).After-struct_known-1)
-
-pub overflow_add-t-2 : goal.overflow_add-t-2
-overflow_add-t-2 c = omega (arith, place (goal.at.overflow_add-t-2 c).After-struct_known-1)
-
-pub overflow_add-t-3 : goal.overflow_add-t-3
-overflow_add-t-3 c = omega (arith, place (goal.at.overflow_add-t-3 c).After-struct_known-1, c.requires.2)
-
-pub bounds-work-t : goal.bounds-work-t
-bounds-work-t c = omega (arith, place (goal.at.bounds-work-t c).After-struct_known-1, c.requires.2)
+pub belief-q-requires : goal.belief-q-requires
+belief-q-requires c = (c.requires.0.1.tabled.fits, c.requires.1, c.requires.2)
 
 pub takes-requires : goal.takes-requires
 takes-requires c = watched c.requires.0.1 _ _ c.requires.1 c.requires.2
 
 pub overflow_mul-result-then-takes : goal.overflow_mul-result-then-takes
 overflow_mul-result-then-takes c =
-    omega (arith, few (goal.at.overflow_mul-result-then-takes c).After-wide-q)
+    omega (arith, few (goal.at.overflow_mul-result-then-takes c).After-belief-q)
 
 pub overflow_add-result-then-takes : goal.overflow_add-result-then-takes
 overflow_add-result-then-takes c =
@@ -88,7 +68,7 @@ overflow_add-result-then-takes c =
 
 pub overflow_mul-result-else-takes : goal.overflow_mul-result-else-takes
 overflow_mul-result-else-takes c =
-    omega (arith, few (goal.at.overflow_mul-result-else-takes c).After-wide-q)
+    omega (arith, few (goal.at.overflow_mul-result-else-takes c).After-belief-q)
 
 pub overflow_add-result-else-takes : goal.overflow_add-result-else-takes
 overflow_add-result-else-takes c =

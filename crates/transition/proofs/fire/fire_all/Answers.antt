@@ -9,7 +9,7 @@ use Rattle.transition.proofs.FiringTriggers.{fired_none, fired_more, fired_all}
 use Rattle.transition.proofs.fire.fire_all.Goals as goal
 
 pub loop-m-init : goal.loop-m-init
-loop-m-init c = (omega arith, refl, λ d table ts x y. fired_none d _ ts _ table _)
+loop-m-init c = (refl, λ d table ts x y. fired_none d _ ts _ table _)
 
 pub firing-at-requires : goal.firing-at-requires
 firing-at-requires c = (c.requires.0, c.loop-m-test.true)
@@ -18,25 +18,20 @@ pub offset_bounds-effects-m : goal.offset_bounds-effects-m
 offset_bounds-effects-m c = omega (arith, c.requires.0.tabled.few, c.loop-m-test.true)
 
 pub bounds-effects-m : goal.bounds-effects-m
-bounds-effects-m c = omega (arith, c.requires.1, c.loop-m-test.true, c.loop-m.invariant.1)
-
-pub overflow_add-m : goal.overflow_add-m
-overflow_add-m c = omega (arith, c.requires.0.tabled.few, c.loop-m-test.true)
+bounds-effects-m c = omega (arith, c.requires.1, c.loop-m-test.true, c.loop-m.invariant.0)
 
 pub loop-m-preserved : goal.loop-m-preserved
 loop-m-preserved c =
-    let (few, long, fired) = c.loop-m.invariant in (
-      omega (arith, c.loop-m-test.true),
+    let (long, fired) = c.loop-m.invariant in (
       simp length-set long,
       λ d table ts x y.
-          subst (FiredBelow d c.args.pack.now ts c.args.t.characters table (c.loop-m.m + 1) (set c.loop-m.effects c.loop-m.m c.firing-at.result)) (sym c.either-any.ensures)
-          (fired_more d c.args.pack.now ts c.args.t.characters table (fired d table ts x y) (c.firing-at.ensures d table ts x y) (omega (arith, c.requires.1, c.loop-m-test.true, long)) (ltb-true c.firing-at.result (length c.args.pack.now)) (ltb-false c.firing-at.result (length c.args.pack.now))),
+          fired_more d c.args.pack.now ts c.args.t.characters table (fired d table ts x y) (c.firing-at.ensures d table ts x y) (omega (arith, c.requires.1, c.loop-m-test.true, long)) (ltb-true c.firing-at.result (length c.args.pack.now)) (ltb-false c.firing-at.result (length c.args.pack.now)),
     )
 
 pub shape_of-effects : goal.shape_of-effects
-shape_of-effects c = c.loop-m.invariant.1
+shape_of-effects c = c.loop-m.invariant.0
 
 pub returns : goal.returns
 returns c =
-    let (few, long, fired) = c.loop-m.invariant in
-    λ d table ts x y. fired_all d _ ts _ table (fired d table ts x y) few (omega (arith, c.loop-m-test.false))
+    let (long, fired) = c.loop-m.invariant in
+    λ d table ts x y. fired_all d _ ts _ table (fired d table ts x y) (omega arith) (omega arith)

@@ -1,7 +1,6 @@
 -- The rows below m are judged. Assumes nothing.
 use mathlib.Core.Path.{◌≡◌}
 use mathlib.Core.List.{List}
-use Prim.Native.Nat.{◌-◌, ◌≤◌}
 use lib.ListN.{length}
 use Rattle.pack.specs.Syntax.{Trigger, Node}
 use Rattle.pack.specs.Grammar.{Dimensions}
@@ -11,7 +10,4 @@ use Rattle.transition.proofs.fire.fire_all.Given as goal
 
 abbrev pub invariant-loop-m : goal.invariant-loop-m
 invariant-loop-m l =
-    (l.m ≤ l.t.nodes) × (length l.effects ≡ length l.initial.effects) × ((d : Dimensions) (table : List Node) (ts : List Trigger) → Tabled d table l.work l.t → Triggered d l.pack l.places ts l.triggers → FiredBelow d l.pack ts l.t.characters table l.m l.effects l.any)
-
-abbrev pub decreases-loop-m : goal.decreases-loop-m
-decreases-loop-m l = l.t.nodes - l.m
+    (length l.effects ≡ length l.initial.effects) × ((d : Dimensions) (table : List Node) (ts : List Trigger) → Tabled d table l.work l.t → Triggered d l.pack l.places ts l.triggers → FiredBelow d l.pack ts l.t.characters table l.m l.effects l.any)

@@ -51,9 +51,6 @@ pub returns-then-holds : goal.returns-then-holds
 returns-then-holds c =
     fires_here c.args.pack.now c.args.places.now c.args.work.now c.args.triggers c.args.m c.args.t c.loop-i.i c.loop-i-test.true c.holds.ensures c.loop-i.invariant c.if-holds.true _ refl
 
-pub overflow_add-i-in-loop-i : goal.overflow_add-i-in-loop-i
-overflow_add-i-in-loop-i c = omega (arith, few (goal.at.overflow_add-i-in-loop-i c).In-loop-i)
-
 pub loop-i-preserved : goal.loop-i-preserved
 loop-i-preserved c =
     idle_more c.args.pack.now c.args.places.now c.args.work.now c.args.triggers c.args.m c.args.t c.loop-i.i c.loop-i-test.true c.holds.ensures c.loop-i.invariant c.if-holds.false

@@ -6,7 +6,7 @@ use Rattle.transition.proofs.SilentRounds.{rewritten_none, row_inside, row_tella
 use Rattle.transition.proofs.round.rewrite.Goals as goal
 
 pub loop-m-init : goal.loop-m-init
-loop-m-init c = (omega arith, refl, λ s x. rewritten_none s _ _)
+loop-m-init c = (refl, λ s x. rewritten_none s _ _)
 
 pub offset_bounds-effects-m : goal.offset_bounds-effects-m
 offset_bounds-effects-m c =
@@ -17,9 +17,6 @@ pub bounds-effects-m : goal.bounds-effects-m
 bounds-effects-m c =
     let (s, x) = c.requires in
     omega (arith, x.long, c.loop-m-test.true)
-
-pub overflow_cast-effects : goal.overflow_cast-effects
-overflow_cast-effects c = omega (arith, c.type_inv.effects c.loop-m.m)
 
 pub overflow_mul-m : goal.overflow_mul-m
 overflow_mul-m c =
@@ -34,26 +31,18 @@ overflow_add-t c =
 pub write_told-requires : goal.write_told-requires
 write_told-requires c =
     let (s, x) = c.requires in
-    row_tellable x c.loop-m-test.true c.loop-m.invariant.1
-
-pub overflow_add-m : goal.overflow_add-m
-overflow_add-m c =
-    let (s, x) = c.requires in
-    omega (arith, x.tabled.few, c.loop-m-test.true)
-
-pub loop-m-smaller : goal.loop-m-smaller
-loop-m-smaller c = omega (arith, c.loop-m-test.true)
+    row_tellable x c.loop-m-test.true c.loop-m.invariant.0
 
 pub loop-m-preserved : goal.loop-m-preserved
 loop-m-preserved c =
-    let (few, long, done) = c.loop-m.invariant in
-    (omega (arith, c.loop-m-test.true), c.write_told.ensures.only.long ∙ long, λ s x. rewritten_more x c.loop-m-test.true long (done s x) c.write_told.ensures)
+    let (long, done) = c.loop-m.invariant in
+    (c.write_told.ensures.only.long ∙ long, λ s x. rewritten_more x c.loop-m-test.true long (done s x) c.write_told.ensures)
 
 pub shape_of-work : goal.shape_of-work
-shape_of-work c = c.loop-m.invariant.1
+shape_of-work c = c.loop-m.invariant.0
 
 pub returns : goal.returns
 returns c =
-    let (few, long, done) = c.loop-m.invariant in
-    let e : c.loop-m.m ≡ c.args.t.nodes = omega (arith, few, c.loop-m-test.false) in
+    let (long, done) = c.loop-m.invariant in
+    let e : c.loop-m.m ≡ c.args.t.nodes = omega arith in
     λ s x. subst (Rewritten s c.args.t c.args.work.now c.loop-m.work) e (done s x)
