@@ -1,8 +1,12 @@
 -- Pairs of rows met breadth first, over the bytes: an entry more, a mark more, and the way back. Assumes nothing.
 use mathlib.Core.Path.{◌≡◌, refl, sym, ◌∙◌, ap, subst}
 use mathlib.Core.Logic.{◌⊎◌, inl, inr, ⊎_elim, by_cases, ◌≢◌}
-use mathlib.Core.List.{List}
-use Prim.Native.Nat.{ℕ, ◌+◌, ◌*◌, ◌/◌, ◌%◌, ◌<◌, ◌≤◌}
+use mathlib.Core.List.{List, [], ◌∷◌}
+use borrow.Rule.Slice.PartMut.{put_mid}
+use Rattle.std.proofs.lemmas.Grind.{common_steps}
+use Rattle.std.proofs.lemmas.Slice.{drop-put_mid}
+use Rattle.std.proofs.Common.{get_or-drop}
+use Prim.Native.Nat.{ℕ, ◌+◌, ◌-◌, ◌*◌, ◌/◌, ◌%◌, ◌<◌, ◌≤◌}
 use native.Mathlib.Decide.{ℕ_discrete, dec_lt}
 use native.Mathlib.Omega.{arith}
 use lib.ListN.{get_or, length, set, length-set}
@@ -19,77 +23,39 @@ use Rattle.chart.proofs.PartitionLevels.{target_at}
 use Rattle.chart.specs.Inner.Pairs.{left_at, right_at, from_at, char_at, mark_at, Paired, Pairs, PairsIn, EntryPut, PairMet, FirstMet, Followed}
 
 -- What `meet` stores
-module _ (was : List ℕ) (m q count x y from d : ℕ) (hx : x < 64) (hy : y < 64) (order : m + 4096 ≤ q) (room : q + count * 5 + 5 ≤ length was) where
+module _ (was : List ℕ) (m q count x y from d : ℕ) (hx : x < 64) (hy : y < 64) (small : from < 65536) (order : m + 4096 ≤ q) (room : q + count * 5 + 5 ≤ length was) where
   abbrev mark : ℕ
   mark = m + x * 64 + y
 
   abbrev entry : ℕ
   entry = q + count * 5
 
-  abbrev l1 : List ℕ
-  l1 = set was mark 1
-
-  abbrev l2 : List ℕ
-  l2 = set l1 entry x
-
-  abbrev l3 : List ℕ
-  l3 = set l2 (entry + 1) y
-
-  abbrev l4 : List ℕ
-  l4 = set l3 (entry + 2) (from / 256)
-
-  abbrev l5 : List ℕ
-  l5 = set l4 (entry + 3) (from % 256)
+  abbrev pub written : List ℕ
+  written = x ∷ y ∷ from / 256 % 256 ∷ from % 256 ∷ d ∷ []
 
   abbrev pub stored : List ℕ
-  stored = set l5 (entry + 4) d
+  stored = put_mid entry (entry + 5 - entry) (set was mark 1) written
 
-  long : (length l1 ≡ length was) × (length l2 ≡ length was) × (length l3 ≡ length was) × (length l4 ≡ length was) × (length l5 ≡ length was)
-  long =
-      let e1 = length-set was mark 1 in
-      let e2 = length-set l1 entry x in
-      let e3 = length-set l2 (entry + 1) y in
-      let e4 = length-set l3 (entry + 2) (from / 256) in
-      let e5 = length-set l4 (entry + 3) (from % 256) in
-      (e1, e2 ∙ e1, e3 ∙ e2 ∙ e1, e4 ∙ e3 ∙ e2 ∙ e1, e5 ∙ e4 ∙ e3 ∙ e2 ∙ e1)
+  inside : (j : ℕ) → j < 5 → get_or stored (entry + j) 0 ≡ get_or written j 0
+  inside j h = grind (arith, common_steps)
 
-  pub stored_long : length stored ≡ length was
-  stored_long = length-set l5 (entry + 4) d ∙ long.4
+  below : (p : ℕ) → p < entry → get_or stored p 0 ≡ get_or (set was mark 1) p 0
+  below p h = grind (arith, common_steps)
 
-  -- each byte lies within what is stored before it
-  pub puts : (entry < length l1) × (entry + 1 < length l2) × (entry + 2 < length l3) × (entry + 3 < length l4) × (entry + 4 < length l5)
-  puts = (omega (arith, long), omega (arith, long), omega (arith, long), omega (arith, long), omega (arith, long))
+  above : (p : ℕ) → entry + 5 ≤ p → get_or stored p 0 ≡ get_or (set was mark 1) p 0
+  above p h =
+      let e = drop-put_mid entry (entry + 5 - entry) (set was mark 1) written p (omega arith) (omega (arith, length-set was mark 1)) (omega arith) in
+      let z : p ≡ p + 0 = omega arith in
+      rw z (sym (get_or-drop p stored 0 0) ∙ ap (λ (l : List ℕ). get_or l 0 0) e ∙ get_or-drop p (set was mark 1) 0 0)
 
-  at0 : get_or stored entry 0 ≡ x
-  at0 = get_or-set_other l5 (entry + 4) entry d 0 (omega arith) ∙ get_or-set_other l4 (entry + 3) entry (from % 256) 0 (omega arith) ∙ get_or-set_other l3 (entry + 2) entry (from / 256) 0 (omega arith)
-      ∙ get_or-set_other l2 (entry + 1) entry y 0 (omega arith) ∙ get_or-set_same l1 entry x 0 (omega (arith, long))
-
-  at1 : get_or stored (entry + 1) 0 ≡ y
-  at1 = get_or-set_other l5 (entry + 4) (entry + 1) d 0 (omega arith) ∙ get_or-set_other l4 (entry + 3) (entry + 1) (from % 256) 0 (omega arith) ∙ get_or-set_other l3 (entry + 2) (entry + 1) (from / 256) 0 (omega arith)
-      ∙ get_or-set_same l2 (entry + 1) y 0 (omega (arith, long))
-
-  at2 : get_or stored (entry + 2) 0 ≡ from / 256
-  at2 = get_or-set_other l5 (entry + 4) (entry + 2) d 0 (omega arith) ∙ get_or-set_other l4 (entry + 3) (entry + 2) (from % 256) 0 (omega arith) ∙ get_or-set_same l3 (entry + 2) (from / 256) 0 (omega (arith, long))
-
-  at3 : get_or stored (entry + 3) 0 ≡ from % 256
-  at3 = get_or-set_other l5 (entry + 4) (entry + 3) d 0 (omega arith) ∙ get_or-set_same l4 (entry + 3) (from % 256) 0 (omega (arith, long))
-
-  low : (p : ℕ) → p < entry → get_or stored p 0 ≡ get_or l1 p 0
-  low p h = get_or-set_other l5 (entry + 4) p d 0 (omega arith) ∙ get_or-set_other l4 (entry + 3) p (from % 256) 0 (omega arith) ∙ get_or-set_other l3 (entry + 2) p (from / 256) 0 (omega arith)
-      ∙ get_or-set_other l2 (entry + 1) p y 0 (omega arith) ∙ get_or-set_other l1 entry p x 0 (omega arith)
-
-  high : (p : ℕ) → entry + 5 ≤ p → get_or stored p 0 ≡ get_or l1 p 0
-  high p h = get_or-set_other l5 (entry + 4) p d 0 (omega arith) ∙ get_or-set_other l4 (entry + 3) p (from % 256) 0 (omega arith) ∙ get_or-set_other l3 (entry + 2) p (from / 256) 0 (omega arith)
-      ∙ get_or-set_other l2 (entry + 1) p y 0 (omega arith) ∙ get_or-set_other l1 entry p x 0 (omega arith)
-
-  pub entry_put : EntryPut was stored m q count x y from d
+  entry_put : EntryPut was stored m q count x y from d
   entry_put = record {
-    mark = low mark (omega arith) ∙ get_or-set_same was mark 1 0 (omega arith);
-    left = at0;
-    right = at1;
-    from_entry = omega (arith, at2, at3);
-    char = get_or-set_same l5 (entry + 4) d 0 (omega (arith, long));
-    kept = λ p n o. ⊎_elim (λ (h : p < entry). low p h) (λ (h : entry + 5 ≤ p). high p h) o ∙ get_or-set_other was mark p 1 0 n;
+    mark = below mark (omega arith) ∙ get_or-set_same was mark 1 0 (omega arith);
+    left = ap (λ (p : ℕ). get_or stored p 0) (omega arith) ∙ inside 0 (omega arith);
+    right = inside 1 (omega arith);
+    from_entry = omega (arith, inside 2 (omega arith), inside 3 (omega arith));
+    char = inside 4 (omega arith);
+    kept = λ p n o. ⊎_elim (below p) (above p) o ∙ get_or-set_other was mark p 1 0 n;
   }
 
   pub pair_new : mark_at was m x y ≡ 0 → PairMet was stored m q count x y from d (count + 1)

@@ -30,19 +30,9 @@ pub fn meet(work: &mut [u8], count: usize, x: usize, y: usize, from: usize, d: u
     }
     work[mark] = 1;
     let a = MET + count * 5;
-    work[a] = x as u8;
-    work[a + 1] = y as u8;
-    work[a + 2] = (from / 256) as u8;
-    work[a + 3] = (from % 256) as u8;
-    work[a + 4] = d as u8;
+    let [high, low] = (from as u16).to_be_bytes();
+    work[a..a + 5].copy_from_slice(&[x as u8, y as u8, high, low, d as u8]);
     count + 1
-}
-
-// The number of two bytes.
-pub fn of_bytes(high: u8, low: u8) -> usize
-    ensures { result ≡ high * 256 + low }
-{
-    (high as usize) * 256 + (low as usize)
 }
 
 // The entry that the one from a on was met from.
@@ -50,7 +40,7 @@ pub fn met_from(work: &[u8], a: usize) -> usize
     requires { a + 5 ≤ length work.now }
     ensures { result ≡ get_or work.now (a + 2) 0 * 256 + get_or work.now (a + 3) 0 }
 {
-    of_bytes(work[a + 2], work[a + 3])
+    usize::from(u16::from_be_bytes([work[a + 2], work[a + 3]]))
 }
 
 // Meets the pair of rows x and y, where none is met yet.
