@@ -40,14 +40,13 @@ pub fn value_class(
     requires { of_values (Chain work.now) t g.level g.firsts i count last }
     ensures { Found (of_values (SameValues work.now) t) (first_of work.now g) count i result }
 {
-    let mut q = last;
-    while 0 < q {
-        let p = q - 1;
+    let mut next = last;
+    while let Some(p) = next.checked_sub(1) {
         let j = usize::from(work[g.firsts + p]);
         if same_part(work, t.rows + j * t.width, t.rows + i * t.width, t.fluents) {
             return Some(p);
         }
-        q = usize::from(work[g.level + p]);
+        next = usize::from(work[g.level + p]);
     }
     None
 }
