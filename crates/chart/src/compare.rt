@@ -31,25 +31,17 @@ pub fn join(first: &[u8], second: &[u8], n: TwoCharts, work: &mut [u8])
     ensures { Joined first.now n.first second.now n.second n.fluents
         n.characters work.old work.new }
 {
-    let w = n.fluents + n.characters;
-    let one = Table {
-        rows: 1,
-        nodes: n.first,
-        fluents: n.fluents,
-        characters: n.characters,
-        width: w,
-    };
+    let one = Table::at(1, n.first, n.fluents, n.characters);
     put_rows(first, one, work, 1, Shift { more: 0, less: 1 });
     let other = Table {
-        rows: 1,
         nodes: n.second,
-        fluents: n.fluents,
-        characters: n.characters,
-        width: w,
+        ..one
     };
-    let more = n.first as u8;
-    let behind = Shift { more, less: 1 };
-    put_rows(second, other, work, 1 + n.first * w, behind)
+    let behind = Shift {
+        more: n.first as u8,
+        less: 1,
+    };
+    put_rows(second, other, work, 1 + n.first * one.width, behind)
 }
 
 // Compares the first rows of two charts, which stand as one table from 1 on; the chain to where they differ is written.
@@ -58,15 +50,7 @@ pub fn match_rows(work: &mut [u8], n: TwoCharts, chain: &mut [u8]) -> Matched
     ensures { RowsMatched work.old work.new n.first n.second n.fluents
         n.characters chain.old chain.new result }
 {
-    let nodes = n.first + n.second;
-    let width = n.fluents + n.characters;
-    let t = Table {
-        rows: 1,
-        nodes,
-        fluents: n.fluents,
-        characters: n.characters,
-        width,
-    };
+    let t = Table::at(1, n.first + n.second, n.fluents, n.characters);
     meet_first(work, 0, n.first);
     match seek(work, t) {
         None => Matched::Same,

@@ -1,7 +1,7 @@
 // A table of states in a lent buffer, and where chains lead in it.
-ghost use Rattle.std.specs.Prelude.{◌<◌, ◌+◌, ◌≤◌, length, ◌≡◌};
+ghost use Rattle.std.specs.Prelude.{◌<◌, ◌+◌, ◌^◌, ◌≤◌, length, ◌≡◌};
 ghost use Rattle.pack.specs.State.{walk, Valid};
-ghost use Rattle.pack.specs.Duties.Table.{table_of, TableFits, bytes_at};
+ghost use Rattle.pack.specs.Duties.Table.{table_at, table_of, TableFits, bytes_at};
 
 use crate::number::wide;
 
@@ -13,6 +13,22 @@ pub struct Table {
     pub fluents: usize,
     pub characters: usize,
     pub width: usize,
+}
+
+impl Table {
+    // The table of so many rows from a place on, each as wide as its values and beliefs are many.
+    pub fn at(rows: usize, nodes: usize, fluents: usize, characters: usize) -> Table
+        requires { fluents + characters < 2 ^ 64 }
+        ensures { result ≡ table_at rows nodes fluents characters }
+    {
+        Table {
+            rows,
+            nodes,
+            fluents,
+            characters,
+            width: fluents + characters,
+        }
+    }
 }
 
 // The node where a chain leads: count characters, from a place on.

@@ -12,8 +12,9 @@ merge_table-rows-requires c = read_merges c.requires.read c.requires.has_work_ro
 
 pub write_chart-length-requires : goal.write_chart-length-requires
 write_chart-length-requires c =
-    record { room = (start_writes c.requires c.copy_table.ensures c.merge_table-rows.ensures c.merge_table-rows.auto.work).0; sound = (start_writes c.requires c.copy_table.ensures c.merge_table-rows.ensures c.merge_table-rows.auto.work).1 }
+    let (room, sound) = start_writes c.requires c.copy_table.ensures c.merge_table-rows.ensures c.merge_table-rows.auto.work in
+    rw c.at-t.ensures (record { room = room; sound = sound })
 
 pub returns : goal.returns
 returns c =
-    λ x. start_put x c.copy_table.ensures c.merge_table-rows.ensures c.merge_table-rows.auto.work c.write_chart-length.ensures c.write_chart-length.auto.out c.clear.ensures (c.clear.auto.work ∙ c.merge_table-rows.auto.work ∙ c.copy_table.ensures.long)
+    λ x. start_put x c.copy_table.ensures c.merge_table-rows.ensures c.merge_table-rows.auto.work (rw c.at-t.ensures at c.write_chart-length.ensures) c.write_chart-length.auto.out c.clear.ensures (c.clear.auto.work ∙ c.merge_table-rows.auto.work ∙ c.copy_table.ensures.long)
