@@ -31,7 +31,7 @@ use Rattle.chart.specs.Inner.Pairs.{left_at, right_at, Paired, PairsIn, FirstMet
 use Rattle.chart.specs.Duties.Look.{NodesRead}
 use Rattle.chart.specs.Duties.Put.{Cleared}
 use Rattle.chart.specs.Inner.Match.{Joinable, Joined, Matchable, Said, RowsMatched, ChartsMatched}
-use Rattle.chart.specs.Laws.Cells.{cells-length, row_in, rows_node, rows_same, rows_most}
+use Rattle.chart.specs.Laws.Cells.{row_in, rows_node, rows_same, rows_most}
 use Rattle.chart.proofs.PartitionLevels.{sound_closed}
 use Rattle.chart.proofs.MetPairs.{entries_most, pairs_first}
 use Rattle.chart.specs.Laws.ChartBytes.{front_back}
@@ -143,9 +143,6 @@ module _ {work : List ℕ} {n m f c : ℕ} {chain : List ℕ} (p : Matchable wor
         value i q h l =
             ap (λ (x : Node). get_or x.values q 0) (rows_node work w f c 1 (n + m) i h) ∙ cells_at work (1 + i * w) f q l
             ∙ sym (low (1 + i * w + q) (omega (arith, rows_room, row_in (n + m) w i h)))
-
-        values_long : (i : ℕ) → i < n + m → length (node T i).values ≡ f
-        values_long i h = ap (λ (x : Node). length x.values) (rows_node work w f c 1 (n + m) i h) ∙ cells-length work (1 + i * w) f
 
         module _ {chain' : List ℕ} {size : ℕ} (l : LongWay now 6144 k size) (y : WayWritten now chain chain' 6144 k size) where
           z : FirstNot (SameByte now (1 + u * w) (1 + v * w)) f fluent

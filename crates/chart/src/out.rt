@@ -2,6 +2,7 @@
 // a chart's bytes, where a belief is a row's number plus 1.
 ghost use Rattle.std.specs.Prelude.{◌≡◌, ℕ, ◌+◌, ◌*◌, ◌<◌, ◌≤◌, length, set};
 ghost use Rattle.chart.specs.Duties.Numbers.{Sound};
+ghost use Rattle.chart.specs.Duties.OfTable.{of_table};
 ghost use Rattle.chart.specs.Duties.Out.{Shifts, PartPut, RowPutIn, RowsPut};
 
 use pack::table::Table;
@@ -54,7 +55,7 @@ pub fn put_rows(src: &[u8], t: Table, out: &mut [u8], to: usize, s: Shift)
 pub fn write_chart(work: &[u8], t: Table, out: &mut [u8]) -> usize
     requires room { (t.nodes < 256) × (t.fluents + t.characters ≤ t.width) × (t.width ≤ t.fluents + t.characters)
         × (t.rows + t.nodes * t.width ≤ length work.now) × (1 + t.nodes * t.width ≤ length out.old) }
-    requires sound { Sound work.now t.nodes t.width t.fluents t.characters t.rows }
+    requires sound { of_table (Sound work.now) t }
     ensures { (result ≡ 1 + t.nodes * t.width)
         × RowsPut work.now (set out.old 0 t.nodes) out.new t.width t.fluents
         t.characters t.rows 1 1 0 t.nodes }

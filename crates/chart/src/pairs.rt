@@ -6,6 +6,7 @@
 ghost use Rattle.std.specs.Prelude.{◌≡◌, ◌+◌, ◌*◌, ◌<◌, ◌≤◌, length, get_or};
 ghost use Rattle.chart.specs.Duties.Numbers.{Sound};
 ghost use Rattle.chart.specs.Duties.Level.{Agrees, SameByte};
+ghost use Rattle.chart.specs.Duties.OfTable.{of_table};
 ghost use Rattle.chart.specs.Inner.Pairs.{marks_at, met_at, mark_at, Paired, PairsIn, PairMet};
 ghost use Rattle.chart.specs.Inner.Pairs.{FirstMet, Followed, Sought, Ways, Writable, LongWay, WayWritten};
 
@@ -55,12 +56,9 @@ pub fn meet_first(work: &mut [u8], x: usize, y: usize)
 // Meets the pairs that the characters lead to from that of entry `done`, where `count` have been met; how many are met
 // then.
 pub fn meet_beliefs(work: &mut [u8], t: Table, done: usize, count: usize) -> usize
-    requires paired { Paired work.old t.nodes t.width t.fluents t.characters t.rows marks_at met_at
-        × Sound work.old t.nodes t.width t.fluents t.characters t.rows × (done < count) }
-    requires pairs_in { PairsIn work.old t.nodes t.width t.fluents t.characters t.rows marks_at met_at
-        count done 0 }
-    ensures { Followed work.old work.new t.nodes t.width t.fluents
-        t.characters t.rows marks_at met_at done count result }
+    requires paired { of_table (Paired work.old) t marks_at met_at × of_table (Sound work.old) t × (done < count) }
+    requires pairs_in { of_table (PairsIn work.old) t marks_at met_at count done 0 }
+    ensures { of_table (Followed work.old work.new) t marks_at met_at done count result }
 {
     let e = MET + done * 5;
     let a = t.rows + usize::from(work[e]) * t.width + t.fluents;
@@ -90,11 +88,9 @@ pub fn other_value(work: &[u8], t: Table, e: usize) -> Option<usize>
 // Goes through the pairs in the order met, and meets those that they lead to, up to the first whose rows have other
 // values: its entry, and the first value that is another in them.
 pub fn seek(work: &mut [u8], t: Table) -> Option<(usize, usize)>
-    requires paired { Paired work.old t.nodes t.width t.fluents t.characters t.rows marks_at met_at
-        × Sound work.old t.nodes t.width t.fluents t.characters t.rows }
-    requires pairs_in { PairsIn work.old t.nodes t.width t.fluents t.characters t.rows marks_at met_at 1 0 0 }
-    ensures { Sought work.old work.new t.nodes t.width t.fluents
-        t.characters t.rows marks_at met_at result }
+    requires paired { of_table (Paired work.old) t marks_at met_at × of_table (Sound work.old) t }
+    requires pairs_in { of_table (PairsIn work.old) t marks_at met_at 1 0 0 }
+    ensures { of_table (Sought work.old work.new) t marks_at met_at result }
 {
     let mut count = 1;
     let mut done = 0;

@@ -18,7 +18,7 @@ use Rattle.chart.specs.Laws.Merged.{classes, get_d_map, Numbered, no_more, all_a
 use Rattle.pack.specs.Duties.Table.{cells, rows_at, Below, Above}
 use Rattle.chart.specs.Duties.Put.{PartCopied}
 use Rattle.chart.specs.Duties.Numbers.{Sound}
-use Rattle.chart.specs.Duties.Classed.{class_at, Mapped, RowPut, ClassPut, Room, Classed, WrittenOut}
+use Rattle.chart.specs.Duties.Classed.{class_at, Mapped, ClassPut, Room, Classed, WrittenOut}
 use Rattle.pack.specs.Laws.Rows.{cells_at, rows_length}
 use Rattle.chart.specs.Laws.Cells.{cells-length, cells_same, row_in, rows_node, rows_same}
 
@@ -34,18 +34,6 @@ mapped_more {was} {now} {from} {to} {k} {d} b v p eb ev lb lv fits = record {
       (get_or-set_same now (to + d) v 0 fits ∙ ev ∙ p.low (k + b) lv ∙ ap (class_at was k) (eb ∙ p.low (from + d) lb));
   low = λ q l. get_or-set_other now (to + d) q v 0 (omega arith) ∙ p.low q l;
   high = λ q l. get_or-set_other now (to + d) q v 0 (omega arith) ∙ p.high q (omega arith);
-}
-
-pub row_put : {was mid now : List ℕ} {from to k f c : ℕ} (n : ℕ) → PartCopied was mid from to f
-    → Mapped mid now (from + f) (to + f) k c → from + f + c ≤ k → k + n ≤ to
-    → ((d : ℕ) → d < c → get_or was (from + f + d) 0 < n) → RowPut was now from to k f c
-row_put {was} {mid} {now} {from} {to} {k} {f} {c} n p m a b below = record {
-  values = λ q l. m.low (to + q) (omega arith) ∙ p.part q l;
-  beliefs = λ d l.
-      m.part d l ∙ ap (class_at mid k) (p.low (from + f + d) (omega arith))
-      ∙ p.low (k + get_or was (from + f + d) 0) (omega (arith, below d l));
-  low = λ q l. m.low q (omega arith) ∙ p.low q l;
-  high = λ q l. m.high q l ∙ p.high q (omega arith);
 }
 
 -- one row more

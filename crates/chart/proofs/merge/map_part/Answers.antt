@@ -5,7 +5,7 @@ use Rattle.chart.proofs.merge.map_part.Goals as goal
 use Rattle.chart.proofs.merge.map_part.Goals.{After-from}
 
 -- the belief names a row
-below : (c : After-from) → c.from.result < c.args.n
+below : (c : After-from) → c.args.k + c.from.result < c.args.to
 below c =
     omega (arith, c.loop-d.invariant.low (c.args.from + c.loop-d.d) (omega arith), c.requires.below c.loop-d.d c.loop-d-test.true)
 
