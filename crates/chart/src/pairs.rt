@@ -94,6 +94,7 @@ pub fn seek(work: &mut [u8], t: Table) -> Option<(usize, usize)>
 {
     let mut count = 1;
     let mut done = 0;
+    // `count` grows as pairs are followed, so that no range has the end.
     while done < count {
         if let Some(fluent) = other_value(work, t, MET + done * 5) {
             return Some((done, fluent));
@@ -111,6 +112,7 @@ pub fn way_length(work: &[u8], e: usize) -> usize
 {
     let mut at = e;
     let mut k = 0;
+    // The way back is followed to the first pair, entry 0.
     while at != 0 {
         at = met_from(work, MET + at * 5);
         k += 1;
@@ -125,9 +127,7 @@ pub fn write_way(work: &[u8], e: usize, k: usize, chain: &mut [u8])
     ensures { WayWritten work.now chain.old chain.new met_at e k }
 {
     let mut at = e;
-    let mut i = k;
-    while at != 0 {
-        i -= 1;
+    for i in (0..k).rev() {
         chain[i] = work[MET + at * 5 + 4];
         at = met_from(work, MET + at * 5);
     }

@@ -109,6 +109,7 @@ pub fn partition(work: &mut [u8], t: Table, g: Regions, limit: usize) -> usize
     if limit < count {
         return count;
     }
+    // How many levels it takes is known at the end only.
     while count < t.nodes {
         let next = level(work, t, g);
         if limit < next {

@@ -1,7 +1,6 @@
 // The first level of the partition: rows of equal values get one class, found by a hash of the values.
 //
-// A row is held against the classes of its hash only. There are 131 hashes, since 2 is a primitive root of that prime,
-// so that no value is lost; nothing is proved of how they spread.
+// A row is held against the classes of its hash only. Nothing is proved of how the hashes spread.
 ghost use Rattle.std.specs.Prelude.{◌≡◌, ◌+◌, ◌<◌, ◌≤◌, length, get_or};
 ghost use Rattle.chart.specs.Duties.Level.{Found, SameValues, Levels};
 ghost use Rattle.chart.specs.Inner.Values.{hash_of, Chain, Chained, Valuable, RowValued, Valued};
@@ -9,6 +8,9 @@ ghost use Rattle.chart.specs.Duties.OfTable.{of_table, of_values, in_regions, fi
 
 use crate::bytes::{digest, same_part};
 use pack::table::Table;
+
+// How many hashes there are: 2 is a primitive root of that prime, so that no value is lost.
+const HASHES: usize = 131;
 
 // Where the classes stand in the work buffer: those of the level that is made, those so far, and the first row of each.
 #[derive(Clone, Copy)]
@@ -23,7 +25,7 @@ pub fn value_hash(work: &[u8], a: usize, f: usize) -> usize
     requires { a + f ≤ length work.now }
     ensures { (result ≡ hash_of work.now a f) × (result < 131) }
 {
-    digest::<2>(work, a, f) % 131
+    digest::<2>(work, a, f) % HASHES
 }
 
 // The class, of `count`, whose leading row has the values of row i. Only those of row i's hash are looked
@@ -84,7 +86,7 @@ pub fn value_level(work: &mut [u8], t: Table, g: Regions) -> usize
     requires { in_regions (of_table (Levels work.old) t) g }
     ensures { in_regions (of_values (Valued work.old work.new t.nodes) t) g result }
 {
-    let mut heads = [0u8; 131];
+    let mut heads = [0u8; HASHES];
     let mut count = 0;
     for i in 0..t.nodes {
         count = value_row(work, &mut heads, t, g, i, count);

@@ -43,9 +43,8 @@ both_there b e f = ap (λ (x : Bool). x && b) (sym f ∙ e)
 pub not_there : {a r : Bool} (b : Bool) → r ≡ a → r ≡ false → false ≡ (a && b)
 not_there b e f = ap (λ (x : Bool). x && b) (sym f ∙ e)
 
-module _ (C : ℕ) where
-  pub below_valid : (chain : List ℕ) → all_below C chain ≡ true → Valid C chain
-  unfolding all_below Valid
-  below_valid [] e = tt
-  below_valid (c ∷ chain) e =
-      let (x, y) = and_true (ltb c C) (all_below C chain) e in (ltb-true c C x, below_valid chain y)
+pub below_valid : (C : ℕ) (chain : List ℕ) → all_below C chain ≡ true → Valid C chain
+unfolding all_below Valid
+below_valid C [] e = tt
+below_valid C (c ∷ chain) e =
+    let (x, y) = and_true (ltb c C) (all_below C chain) e in (ltb-true c C x, below_valid C chain y)
