@@ -1,10 +1,7 @@
 -- A pair that is marked, or one that is stored. Assumes nothing.
 use Rattle.std.proofs.Common.{arith}
-use Rattle.chart.proofs.MetPairs.{pair_again, pair_new}
+use Rattle.chart.proofs.MetPairs.{pair_new}
 use Rattle.chart.proofs.pairs.meet.Goals as goal
-
-pub returns-then-work-mark-ne0 : goal.returns-then-work-mark-ne0
-returns-then-work-mark-ne0 c = pair_again c.if-work-mark-ne0.true
 
 pub returns : goal.returns
 returns c =

@@ -1,13 +1,7 @@
 -- The characters from i on are written. Assumes nothing.
 use Rattle.std.proofs.Common.{arith}
-use Rattle.chart.proofs.WayBack.{tracing_start, tracing_more, tracing_end}
+use Rattle.chart.proofs.WayBack.{tracing_more, tracing_end}
 use Rattle.chart.proofs.pairs.write_way.Goals as goal
-
-pub loop-i-init : goal.loop-i-init
-loop-i-init c = tracing_start
-
-pub overflow_mul-chain : goal.overflow_mul-chain
-overflow_mul-chain c = omega (arith, c.loop-i.invariant.within, c.requires.ways.room)
 
 pub loop-i-preserved : goal.loop-i-preserved
 loop-i-preserved c =

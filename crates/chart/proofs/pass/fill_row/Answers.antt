@@ -32,20 +32,11 @@ overflow_add-m-2 c = omega (arith, room c, c.requires.laid.0)
 pub bounds-work-m : goal.bounds-work-m
 bounds-work-m c = omega (arith, room (goal.at.bounds-work-m c).After-struct_known-1, c.requires.laid.0)
 
-pub overflow_mul-from : goal.overflow_mul-from
-overflow_mul-from c = omega (arith, place (goal.at.overflow_mul-from c).After-from-x, c.requires.laid.0)
-
-pub overflow_add-from : goal.overflow_add-from
-overflow_add-from c = omega (arith, place (goal.at.overflow_add-from c).After-from-x, c.requires.laid.0)
-
 pub overflow_mul-to : goal.overflow_mul-to
 overflow_mul-to c = omega (arith, place (goal.at.overflow_mul-to c).After-from-x)
 
 pub overflow_add-to : goal.overflow_add-to
 overflow_add-to c = omega (arith, place (goal.at.overflow_add-to c).After-from-x)
-
-pub overflow_add-s : goal.overflow_add-s
-overflow_add-s c = omega (arith, place (goal.at.overflow_add-s c).After-from-x, c.requires.laid.0)
 
 pub copy_part-requires : goal.copy_part-requires
 copy_part-requires c =

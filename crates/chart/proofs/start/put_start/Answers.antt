@@ -1,11 +1,8 @@
 -- Loaded, merged, written out, cleared. Assumes nothing.
 use mathlib.Core.Path.{◌∙◌}
-use Rattle.chart.specs.Laws.LoadedNodes.{read_copies, read_merges}
+use Rattle.chart.specs.Laws.LoadedNodes.{read_merges}
 use Rattle.chart.proofs.MergedStart.{start_writes, start_put}
 use Rattle.chart.proofs.start.put_start.Goals as goal
-
-pub copy_table-requires : goal.copy_table-requires
-copy_table-requires c = read_copies c.requires.read c.requires.has_work_room
 
 pub merge_table-rows-requires : goal.merge_table-rows-requires
 merge_table-rows-requires c = read_merges c.requires.read c.requires.has_work_room c.copy_table.ensures
