@@ -14,9 +14,6 @@ use native.Mathlib.Decide.{dec_lt}
 true_not_false : {r : Bool} → r ≡ true → r ≡ false → ⊥
 true_not_false p q = let z : ◌≡◌ {A = ℕ} 0 1 = cc in omega arith
 
-pub decided_no : {P : Type 0} → (P → ⊥) → Decides false P
-decided_no n = (λ e. absurd (true_not_false e refl), λ p. absurd (n p))
-
 pub refuted : {r : Bool} {P : Type 0} → Decides r P → r ≡ false → P → ⊥
 refuted d e p = true_not_false (d.1 p) e
 

@@ -18,7 +18,7 @@ use Rattle.pack.specs.Laws.Rows.{cells_at, rows_length}
 use Rattle.chart.specs.declared.Matched.{Matched}
 use Rattle.chart.specs.declared.Matched.TheVariants as matched
 use Rattle.chart.specs.Compare.{Verdict, same, differ, Compared, Differ}
-use Rattle.chart.specs.Call.{chain_room, work_room}
+use Rattle.chart.specs.Call.{work_room}
 use Rattle.chart.specs.Promises.{after}
 use Rattle.chart.specs.Laws.Answers.{compare_table_iff}
 use Rattle.chart.specs.Laws.Tables.{IsFull}
@@ -36,7 +36,6 @@ use Rattle.chart.proofs.PartitionLevels.{sound_closed}
 use Rattle.chart.proofs.MetPairs.{entries_most, pairs_first}
 use Rattle.chart.specs.Laws.ChartBytes.{front_back}
 use Rattle.chart.specs.Laws.LookedUp.{cleared_all}
-use Rattle.chart.specs.Laws.LoadedNodes.{read_slim}
 use Rattle.chart.proofs.JoinedCharts.{read_long, read_closed, read_values}
 
 module _ {work : List ℕ} {n m f c : ℕ} {chain : List ℕ} (p : Matchable work n m f c chain) where
@@ -179,15 +178,6 @@ read_full r = let long = read_long r in ((read_closed r, omega (arith, r.some)),
 
 -- two charts
 module _ {first second work : List ℕ} {n m f c : ℕ} (p : Joinable first n second m f c work) {mid : List ℕ} (x : Joined first n second m f c work mid) (long : length mid ≡ length work) where
-  pub charts_matchable : (chain : List ℕ) → chain_room ≤ length chain → Matchable mid n m f c chain
-  charts_matchable chain room = record {
-    some = (p.read.some, p.read_other.some);
-    few = (p.read.few, p.read_other.few);
-    slim = read_slim p.read;
-    sound = x.sound;
-    room = omega (arith, long, p.room);
-    has_chain_room = room;
-  }
 
   pub charts_matched : {chain chain' mid' now : List ℕ} {r : Matched} → RowsMatched mid mid' n m f c chain chain' r → Cleared mid' now 0 work_room → length now ≡ length work → ChartsMatched first n second m f c chain chain' work now r
   charts_matched {chain} {chain'} {r = r} y z same-long = record {

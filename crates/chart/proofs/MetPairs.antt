@@ -20,7 +20,7 @@ use Rattle.chart.specs.Duties.Put.{Cleared}
 use Rattle.chart.specs.Duties.Numbers.{Sound}
 use Rattle.chart.specs.Laws.Cells.{row_in}
 use Rattle.chart.proofs.PartitionLevels.{target_at}
-use Rattle.chart.specs.Inner.Pairs.{left_at, right_at, from_at, char_at, mark_at, Paired, Pairs, PairsIn, EntryPut, PairMet, FirstMet, Followed}
+use Rattle.chart.specs.Inner.Pairs.{left_at, right_at, from_at, char_at, mark_at, Paired, Pairs, EntryPut, PairMet, FirstMet}
 
 -- What `meet` stores
 module _ (was : List ℕ) (m q count x y from d : ℕ) (hx : x < 64) (hy : y < 64) (small : from < 65536) (order : m + 4096 ≤ q) (room : q + count * 5 + 5 ≤ length was) where
@@ -60,9 +60,6 @@ module _ (was : List ℕ) (m q count x y from d : ℕ) (hx : x < 64) (hy : y < 6
 
   pub pair_new : mark_at was m x y ≡ 0 → PairMet was stored m q count x y from d (count + 1)
   pair_new z = record { again = λ n. absurd (n z); new = λ _. (refl, entry_put) }
-
-pub pair_again : {was : List ℕ} {m q count x y from d : ℕ} → mark_at was m x y ≢ 0 → PairMet was was m q count x y from d count
-pair_again n = record { again = λ _. (refl, refl); new = λ z. absurd (n z) }
 
 -- places of two pairs are the same only where the pairs are
 place_one : (x y u v : ℕ) → y < 64 → v < 64 → x * 64 + y ≡ u * 64 + v → (x ≡ u) × (y ≡ v)
@@ -174,10 +171,6 @@ module _ {T : List Node} {r s : ℕ} {bytes : List ℕ} {n c m q count done d : 
         (λ z. let (e, o) = p.new z in (subst (λ (k : ℕ). Pairs T r s now n c m q k done (d + 1)) (sym e) (pairs_new z o), omega arith, λ i h. (left_same z o i h, right_same z o i h)))
         (λ z. let (e, o) = p.again z in (subst (λ (k : ℕ). Pairs T r s now n c m q k done (d + 1)) (sym e) (subst (λ (b : List ℕ). Pairs T r s b n c m q count done (d + 1)) (sym o) (pairs_known z)), omega arith, λ i h. (ap (λ (b : List ℕ). left_at b q i) o, ap (λ (b : List ℕ). right_at b q i) o)))
 
--- all characters are followed
-pairs_all : {T : List Node} {r s : ℕ} {bytes : List ℕ} {n c m q count done d : ℕ} → Pairs T r s bytes n c m q count done d → d ≡ c → Pairs T r s bytes n c m q count done c
-pairs_all {T} {r} {s} {bytes} {n} {c} {m} {q} {count} {done} g e = subst (λ (d : ℕ). Pairs T r s bytes n c m q count done d) e g
-
 -- bytes but marks and entries are as they were
 pub meet_frame : {was now : List ℕ} {m q count x y from d k : ℕ} → PairMet was now m q count x y from d k → m + 4096 ≤ q → x < 64 → y < 64 → (mark_at was m x y ≡ 0 → count < 4096) → Below was now m × Above was now (q + 20480)
 meet_frame {was} {now} {m} {q} {count} {x} {y} p marks hx hy few =
@@ -230,20 +223,6 @@ pub record Follows (was now : List ℕ) (n w f c t m q done count a b met d : �
   pub low : Below was now m
   pub high : Above was now (q + 20480)
 
-pub follows_start : {was : List ℕ} {n w f c t m q done count x y : ℕ} → done < count → PairsIn was n w f c t m q count done 0 → left_at was q done ≡ x → right_at was q done ≡ y → Follows was was n w f c t m q done count (t + x * w + f) (t + y * w + f) count 0
-follows_start {w = w} {f} {t = t} h g ex ey = record {
-  long = refl;
-  most = omega arith;
-  there = h;
-  more = omega arith;
-  kept = λ e l. (refl, refl);
-  left = ap (λ (i : ℕ). t + i * w + f) (sym ex);
-  right = ap (λ (i : ℕ). t + i * w + f) (sym ey);
-  pairs = g;
-  low = λ j l. refl;
-  high = λ j l. refl;
-}
-
 module _ {was : List ℕ} {n w f c t m q : ℕ} (l : Paired was n w f c t m q) {now : List ℕ} {done count a b met d : ℕ} (o : Follows was now n w f c t m q done count a b met d) where
   -- both rows' beliefs lie within the buffer
   pub follows_left : a + c ≤ length now
@@ -295,7 +274,3 @@ module _ {was : List ℕ} {n w f c t m q : ℕ} (l : Paired was n w f c t m q) {
             low = λ j h. below j h ∙ o.low j h;
             high = λ j h. above j h ∙ o.high j h;
           }
-
-  -- all are
-  pub follows_all : c ≤ d → Followed was now n w f c t m q done count met
-  follows_all h = record { pairs = pairs_all o.pairs (omega (arith, o.most)); more = o.more; kept = o.kept; low = o.low; high = o.high }

@@ -32,9 +32,6 @@ put_row {src} {from = from} {to = to} a b = record {
   high = λ p h. b.high p h ∙ a.high p (omega arith);
 }
 
-pub rows_start : (src was : List ℕ) (w f c from to more less : ℕ) → RowsPut src was was w f c from to more less 0
-rows_start src was w f c from to more less = record { values = λ j q l. absurd (omega arith); beliefs = λ j d l. absurd (omega arith); low = λ p l. refl; high = λ p l. refl }
-
 pub rows_next : {src was now now' : List ℕ} {w f c from to more less i : ℕ} → f + c ≤ w → w ≤ f + c → RowsPut src was now w f c from to more less i → RowPutIn src now now' (from + i * w) (to + i * w) f c more less
     → RowsPut src was now' w f c from to more less (i + 1)
 rows_next {src} {was} {now} {now'} {w} {f} {c} {from} {to} {more} {less} {i} wide slim g x = record {

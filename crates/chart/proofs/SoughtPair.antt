@@ -28,9 +28,6 @@ pub record Seeking (was now : List ℕ) (n w f c t m q count done : ℕ) : Type 
   pub low : Below was now m
   pub high : Above was now (q + 20480)
 
-pub seeking_start : {was : List ℕ} {n w f c t m q : ℕ} → PairsIn was n w f c t m q 1 0 0 → Seeking was was n w f c t m q 1 0
-seeking_start g = record { within = omega arith; pairs = g; roots = (refl, refl); same = λ e h. absurd (omega arith); low = λ p h. refl; high = λ p h. refl }
-
 -- the same under another name
 pairs_as : {T T' : List Node} {r r' s s' : ℕ} {bytes : List ℕ} {n c m q count done d : ℕ} → T ≡ T' → r ≡ r' → s ≡ s' → Pairs T r s bytes n c m q count done d → Pairs T' r' s' bytes n c m q count done d
 pairs_as {T} {T'} {r} {r'} {s} {s'} {bytes} {n} {c} {m} {q} {count} {done} {d} a b e g =

@@ -1,5 +1,5 @@
 -- The way back from an entry to the first, written as a chain from its end on. Assumes nothing.
-use mathlib.Core.Path.{◌≡◌, refl, sym, ◌∙◌, ap}
+use mathlib.Core.Path.{◌≡◌, sym, ◌∙◌, ap}
 use mathlib.Core.Logic.{by_cases}
 use mathlib.Core.List.{List, [], ◌∷◌, ◌++◌}
 use Prim.Native.Nat.{ℕ, suc, ◌+◌, ◌-◌, ◌<◌, ◌≤◌}
@@ -34,9 +34,6 @@ pub record Tracing (bytes was now : List ℕ) (q e k at i : ℕ) : Type 0 where
   pub written : (x : Ways bytes q e) → length (x.way e) ≡ k → (j : ℕ) → i ≤ j → j < k → get_or now j 0 ≡ get_or (x.way e) j 0
   pub shorter : i ≤ k
   pub high : Above was now k
-
-pub tracing_start : {bytes was : List ℕ} {q e k : ℕ} → Tracing bytes was was q e k e k
-tracing_start = record { within = omega arith; long = λ x h. h; low = λ x h j l. refl; written = λ x h j l g. absurd (omega arith); shorter = omega arith; high = λ p h. refl }
 
 module _ {bytes was now : List ℕ} {q e k at i : ℕ} (g : Tracing bytes was now q e k at i) where
   -- while characters are left the entry is not the first

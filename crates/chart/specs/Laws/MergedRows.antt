@@ -1,6 +1,6 @@
 -- Writing the merged table: beliefs by class, a row, the rows of the new classes. Assumes nothing.
-use Rattle.std.specs.Prelude.{◌≡◌, refl, set}
-use Rattle.std.proofs.Common.{sym, ◌∙◌, suc-mul, arith, get_or-set_same, get_or-set_other, ext_get_or}
+use Rattle.std.specs.Prelude.{◌≡◌, refl}
+use Rattle.std.proofs.Common.{sym, ◌∙◌, suc-mul, arith, ext_get_or}
 use Rattle.std.proofs.Math.Path.{ap, subst}
 use Rattle.std.proofs.Math.Logic.{by_cases}
 use mathlib.Core.List.{List, map}
@@ -18,23 +18,9 @@ use Rattle.chart.specs.Laws.Merged.{classes, get_d_map, Numbered, no_more, all_a
 use Rattle.pack.specs.Duties.Table.{cells, rows_at, Below, Above}
 use Rattle.chart.specs.Duties.Put.{PartCopied}
 use Rattle.chart.specs.Duties.Numbers.{Sound}
-use Rattle.chart.specs.Duties.Classed.{class_at, Mapped, ClassPut, Room, Classed, WrittenOut}
+use Rattle.chart.specs.Duties.Classed.{class_at, ClassPut, Room, Classed, WrittenOut}
 use Rattle.pack.specs.Laws.Rows.{cells_at, rows_length}
 use Rattle.chart.specs.Laws.Cells.{cells-length, cells_same, row_in, rows_node, rows_same}
-
-pub mapped_none : (was : List ℕ) (from to k : ℕ) → Mapped was was from to k 0
-mapped_none was from to k = record { part = λ d l. absurd (omega arith); low = λ p l. refl; high = λ p l. refl }
-
-pub mapped_more : {was now : List ℕ} {from to k d : ℕ} (b v : ℕ) → Mapped was now from to k d
-    → b ≡ get_or now (from + d) 0 → v ≡ get_or now (k + b) 0 → from + d < to → k + b < to → to + d < length now
-    → Mapped was (set now (to + d) v) from to k (d + 1)
-mapped_more {was} {now} {from} {to} {k} {d} b v p eb ev lb lv fits = record {
-  part = below_more (λ q. get_or (set now (to + d) v) (to + q) 0 ≡ class_at was k (get_or was (from + q) 0)) d
-      (λ q l. get_or-set_other now (to + d) (to + q) v 0 (omega arith) ∙ p.part q l)
-      (get_or-set_same now (to + d) v 0 fits ∙ ev ∙ p.low (k + b) lv ∙ ap (class_at was k) (eb ∙ p.low (from + d) lb));
-  low = λ q l. get_or-set_other now (to + d) q v 0 (omega arith) ∙ p.low q l;
-  high = λ q l. get_or-set_other now (to + d) q v 0 (omega arith) ∙ p.high q (omega arith);
-}
 
 -- one row more
 times_next : (n w : ℕ) → (n + 1) * w ≡ n * w + w
