@@ -1,10 +1,6 @@
 -- Compare: what the checks leave, as matching two charts asks it, and what it gives. Assumes nothing.
-use Prim.Native.Nat.{ℕ, ◌≤◌}
-use mathlib.Core.Path.{◌≡◌, refl, sym, ap, ap₂, ◌∙◌, subst}
-use mathlib.Core.Bool.{Bool, true, false, ◌&&◌}
-use mathlib.Core.List.{List, [], ◌∷◌, map}
-use lib.ListN.{length, get_or}
-use borrow.Author.Tests.{leb-true}
+use Rattle.std.proofs.Common.{ℕ, ◌≤◌, ◌≡◌, refl, sym, ap, ap₂, ◌∙◌, subst, Bool, true, false, ◌&&◌, List, [], ◌∷◌, map}
+use Rattle.std.proofs.Common.{length, get_or, leb-true}
 use Rattle.pack.specs.Syntax.{Node, Pack}
 use Rattle.pack.specs.Reading.{Reply, gives, refuses, with, told}
 use Rattle.pack.specs.Duties.Contents.{PackRead, replied, replied_count}
@@ -21,7 +17,8 @@ use Rattle.chart.specs.Promises.{Comparison, difference}
 use Rattle.chart.specs.Duties.Look.{NodesRead}
 use Rattle.chart.specs.Inner.Match.{Joinable, ChartsMatched}
 use Rattle.chart.specs.Laws.Arguments.{and_true}
-use Rattle.chart.specs.Laws.Checks.{counted, lent, checks, Accepted, FirstRead, first_read, nodes_read, refused_by, accepted_by, left_alone, check_first, check_second}
+use Rattle.chart.specs.Laws.Checks.{counted, lent, checks, Accepted, FirstRead, first_read, nodes_read, refused_by}
+use Rattle.chart.specs.Laws.Checks.{accepted_by, left_alone, check_first, check_second}
 
 module _ {pack places : List ℕ} (first second chain work : List ℕ) {p : Contents} (got : PackRead pack places p) (nodes : Number) (under : replied_count nodes ≡ with (replied p.answer) (λ u. counted p first)) where
   abbrev enough : Bool

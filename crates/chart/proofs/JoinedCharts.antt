@@ -1,13 +1,8 @@
 -- Two charts loaded as one table: each row stands, its beliefs counted on, and means what it meant. Assumes nothing.
-use Prim.Native.Nat.{ℕ, ◌+◌, ◌*◌, ◌-◌, ◌<◌, ◌≤◌}
-use mathlib.Core.Path.{◌≡◌, refl, sym, ap, ◌∙◌, subst}
-use mathlib.Core.Logic.{by_cases}
-use mathlib.Core.List.{List}
-use native.Mathlib.Decide.{dec_lt}
-use native.Mathlib.Nat.{add-zero, zero-mul, add-mul}
-use native.Mathlib.Omega.{arith}
-use lib.ListN.{length, get_or}
-use lib.Seq.{ext_get_or}
+use Rattle.std.proofs.Common.{ℕ, ◌+◌, ◌*◌, ◌-◌, ◌<◌, ◌≤◌, ◌≡◌, refl, sym, ap, ◌∙◌, subst, List, add-zero, zero-mul}
+use Rattle.std.proofs.Common.{add-mul, arith, length, get_or, ext_get_or}
+use Rattle.std.proofs.Math.Logic.{by_cases}
+use Rattle.std.proofs.Math.Decide.{dec_lt}
 use Rattle.pack.specs.Syntax.{Node}
 use Rattle.pack.specs.State.{node, nowhere, target, meaning, Closed}
 use Rattle.pack.specs.Duties.Table.{cells, rows_at}

@@ -1,15 +1,12 @@
 -- One level of the partition over the bytes: rows held against the leading rows of the classes so far, and one row more. Assumes nothing.
-use mathlib.Core.Path.{◌≡◌, refl, sym, ◌∙◌, ap, subst}
-use mathlib.Core.Logic.{◌↔◌, by_cases}
-use mathlib.Core.List.{List}
-use Prim.Native.Nat.{ℕ, ◌+◌, ◌*◌, ◌<◌, ◌≤◌}
-use native.Mathlib.Decide.{dec_lt}
-use native.Mathlib.Omega.{arith}
-use lib.ListN.{get_or, length}
+use Rattle.std.proofs.Common.{◌≡◌, refl, sym, ◌∙◌, ap, subst, ◌↔◌, List, ℕ, ◌+◌, ◌*◌, ◌<◌, ◌≤◌, arith, get_or, length}
+use Rattle.std.proofs.Math.Logic.{by_cases}
+use Rattle.std.proofs.Math.Decide.{dec_lt}
 use Rattle.pack.specs.Duties.Table.{Below, Above, Between}
 use Rattle.chart.specs.Duties.Numbers.{Sound}
 use Rattle.chart.specs.Duties.Classed.{class_at}
-use Rattle.chart.specs.Duties.Level.{Placed, SameValues, Alike, RowOk, Against, Levels, Finer, Sorted, RowClassed, Leveled}
+use Rattle.chart.specs.Duties.Level.{Placed, SameValues, Alike, RowOk, Against, Levels, Finer, Sorted, RowClassed}
+use Rattle.chart.specs.Duties.Level.{Leveled}
 use Rattle.chart.specs.Laws.Cells.{row_in}
 use Rattle.chart.proofs.Classes.{Equivalence, finer_above, sorted_none, sorted_row}
 use Rattle.chart.proofs.ValueClasses.{values_equivalence, values_same}

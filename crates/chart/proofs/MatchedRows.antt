@@ -1,12 +1,9 @@
 -- Rows compared: the first pair whose values differ, and the verdict on what they mean. Assumes nothing.
-use Prim.Native.Nat.{ℕ, ◌+◌, ◌*◌, ◌<◌, ◌≤◌}
-use mathlib.Core.Path.{◌≡◌, refl, sym, ap, ap₂, ◌∙◌, subst}
-use mathlib.Core.Logic.{by_cases}
-use mathlib.Core.List.{List, ◌++◌, List-discrete}
-use native.Mathlib.Decide.{ℕ_discrete, dec_le}
-use native.Mathlib.Nat.{le_trans}
-use native.Mathlib.Omega.{arith}
-use lib.ListN.{length, get_or, drop}
+use Rattle.std.proofs.Common.{ℕ, ◌+◌, ◌*◌, ◌<◌, ◌≤◌, ◌≡◌, refl, sym, ap, ap₂, ◌∙◌, subst, List, ◌++◌, le_trans, arith}
+use Rattle.std.proofs.Common.{length, get_or, drop}
+use Rattle.std.proofs.Math.Logic.{by_cases}
+use mathlib.Core.List.{List-discrete}
+use Rattle.std.proofs.Math.Decide.{ℕ_discrete, dec_le}
 use Rattle.std.specs.Prelude.{Option, Some, None}
 use Rattle.std.proofs.lemmas.Option.{MatchOption-at_some, MatchOption-at_none}
 use Rattle.pack.specs.Syntax.{Node}
@@ -27,7 +24,8 @@ use Rattle.chart.specs.Laws.Comparing.{differ_valid}
 use Rattle.chart.specs.Laws.Moore as moore
 use Rattle.chart.specs.Duties.Numbers.{Sound}
 use Rattle.chart.specs.Duties.Level.{FirstNot, SameByte}
-use Rattle.chart.specs.Inner.Pairs.{left_at, right_at, Paired, PairsIn, FirstMet, FirstOther, Sought, Ways, Writable, LongWay, WayWritten}
+use Rattle.chart.specs.Inner.Pairs.{left_at, right_at, Paired, PairsIn, FirstMet, FirstOther, Sought, Ways, Writable}
+use Rattle.chart.specs.Inner.Pairs.{LongWay, WayWritten}
 use Rattle.chart.specs.Duties.Look.{NodesRead}
 use Rattle.chart.specs.Duties.Put.{Cleared}
 use Rattle.chart.specs.Inner.Match.{Joinable, Joined, Matchable, Said, RowsMatched, ChartsMatched}

@@ -1,16 +1,12 @@
 -- Pairs of rows met breadth first, over the bytes: an entry more, a mark more, and the way back. Assumes nothing.
-use mathlib.Core.Path.{◌≡◌, refl, sym, ◌∙◌, ap, subst}
-use mathlib.Core.Logic.{◌⊎◌, inl, inr, ⊎_elim, by_cases, ◌≢◌}
-use mathlib.Core.List.{List, [], ◌∷◌}
+use Rattle.std.proofs.Common.{◌≡◌, refl, sym, ◌∙◌, ap, subst, ◌⊎◌, inl, inr, ⊎_elim, ◌≢◌, List, [], ◌∷◌, get_or-drop, ℕ}
+use Rattle.std.proofs.Common.{◌+◌, ◌-◌, ◌*◌, ◌/◌, ◌%◌, ◌<◌, ◌≤◌, arith, get_or, length, set, length-set}
+use Rattle.std.proofs.Common.{get_or-set_same, get_or-set_other}
+use Rattle.std.proofs.Math.Logic.{by_cases}
 use borrow.Rule.Slice.PartMut.{put_mid}
 use Rattle.std.proofs.lemmas.Grind.{common_steps}
 use Rattle.std.proofs.lemmas.Slice.{drop-put_mid}
-use Rattle.std.proofs.Common.{get_or-drop}
-use Prim.Native.Nat.{ℕ, ◌+◌, ◌-◌, ◌*◌, ◌/◌, ◌%◌, ◌<◌, ◌≤◌}
-use native.Mathlib.Decide.{ℕ_discrete, dec_lt}
-use native.Mathlib.Omega.{arith}
-use lib.ListN.{get_or, length, set, length-set}
-use lib.Seq.{get_or-set_same, get_or-set_other}
+use Rattle.std.proofs.Math.Decide.{ℕ_discrete, dec_lt}
 use Rattle.pack.specs.Syntax.{Node}
 use Rattle.pack.specs.State.{target}
 use Rattle.chart.specs.Laws.Count.{all, count_all, count_inj}
@@ -20,7 +16,8 @@ use Rattle.chart.specs.Duties.Put.{Cleared}
 use Rattle.chart.specs.Duties.Numbers.{Sound}
 use Rattle.chart.specs.Laws.Cells.{row_in}
 use Rattle.chart.proofs.PartitionLevels.{target_at}
-use Rattle.chart.specs.Inner.Pairs.{left_at, right_at, from_at, char_at, mark_at, Paired, Pairs, EntryPut, PairMet, FirstMet}
+use Rattle.chart.specs.Inner.Pairs.{left_at, right_at, from_at, char_at, mark_at, Paired, Pairs, EntryPut, PairMet}
+use Rattle.chart.specs.Inner.Pairs.{FirstMet}
 
 -- What `meet` stores
 module _ (was : List ℕ) (m q count x y from d : ℕ) (hx : x < 64) (hy : y < 64) (small : from < 65536) (order : m + 4096 ≤ q) (room : q + count * 5 + 5 ≤ length was) where

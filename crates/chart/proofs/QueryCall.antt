@@ -1,11 +1,6 @@
 -- Query: what the checks leave, as looking a value up asks it, and what it gives. Assumes nothing.
-use Prim.Native.Nat.{ℕ}
-use mathlib.Core.Path.{◌≡◌, sym, ap, ap₂, ◌∙◌}
-use mathlib.Core.Bool.{Bool, ◌&&◌}
-use mathlib.Core.List.{List, [], ◌∷◌, map}
-use lib.ListN.{length, get_or}
-use lib.Dec.{ltb}
-use borrow.Author.Tests.{ltb-true, leb-true}
+use Rattle.std.proofs.Common.{ℕ, ◌≡◌, sym, ap, ap₂, ◌∙◌, Bool, ◌&&◌, List, [], ◌∷◌, map, length, get_or, ltb, ltb-true}
+use Rattle.std.proofs.Common.{leb-true}
 use Rattle.pack.specs.Syntax.{Theory, Node, Pack}
 use Rattle.pack.specs.State.{meaning}
 use Rattle.pack.specs.Reading.{Reply, gives, with, told}
@@ -20,7 +15,8 @@ use Rattle.chart.specs.Replies.{all_below, first_of, query_reply}
 use Rattle.chart.specs.Promises.{Asked}
 use Rattle.chart.specs.Duties.Look.{NodesRead, Lookable, Looked}
 use Rattle.chart.specs.Laws.Arguments.{and_true, below_valid}
-use Rattle.chart.specs.Laws.Checks.{counted, lent, checks, Accepted, FirstRead, first_read, nodes_read, refused_by, accepted_by, left_alone, check_one}
+use Rattle.chart.specs.Laws.Checks.{counted, lent, checks, Accepted, FirstRead, first_read, nodes_read, refused_by}
+use Rattle.chart.specs.Laws.Checks.{accepted_by, left_alone, check_one}
 
 module _ {pack places : List ℕ} (chart chain : List ℕ) (fluent : ℕ) (work : List ℕ) {p : Contents} (got : PackRead pack places p) (nodes : Number) (under : replied_count nodes ≡ with (replied p.answer) (λ u. counted p chart))
     (there : Bool) (here : there ≡ (all_below p.characters chain && ltb fluent p.fluents)) (r : Number) (says : replied_count r ≡ with (replied_count nodes) (λ v. lent (fits work_room work) there (gives v))) where

@@ -1,10 +1,5 @@
 -- Start: what the checks leave, as writing the chart asks it, and what it gives. Assumes nothing.
-use Prim.Native.Nat.{ℕ}
-use mathlib.Core.Path.{◌≡◌, refl, sym, ap, ◌∙◌, subst}
-use mathlib.Core.Bool.{Bool, true, ◌&&◌}
-use mathlib.Core.List.{List, []}
-use lib.ListN.{length}
-use borrow.Author.Tests.{leb-true}
+use Rattle.std.proofs.Common.{ℕ, ◌≡◌, refl, sym, ap, ◌∙◌, subst, Bool, true, ◌&&◌, List, [], length, leb-true}
 use Rattle.pack.specs.Syntax.{Node, Pack}
 use Rattle.pack.specs.Reading.{Reply, gives, with, told}
 use Rattle.pack.specs.Layout.{chart_bytes, ChartFits}
@@ -21,7 +16,8 @@ use Rattle.chart.specs.Replies.{start_reply}
 use Rattle.chart.specs.Promises.{Started}
 use Rattle.chart.specs.Duties.Start.{Startable, StartPut}
 use Rattle.chart.specs.Laws.Arguments.{and_true}
-use Rattle.chart.specs.Laws.Checks.{nodes_packed, lent, checks, Accepted, refused_by, accepted_by, left_alone, check_none}
+use Rattle.chart.specs.Laws.Checks.{nodes_packed, lent, checks, Accepted, refused_by, accepted_by, left_alone}
+use Rattle.chart.specs.Laws.Checks.{check_none}
 
 module _ {pack places : List ℕ} (chart work : List ℕ) {p : Contents} (got : PackRead pack places p) (nodes : Number) (under : replied_count nodes ≡ with (replied p.answer) (λ u. gives p.nodes))
     (enough : Bool) (here : enough ≡ (fits chart_room chart && fits work_room work)) (r : Number) (says : replied_count r ≡ with (replied_count nodes) (λ v. lent enough true (gives v))) where

@@ -1,14 +1,10 @@
 -- The first level of the partition over the bytes: rows of the same values have the same mark, and are looked for among the leading rows of that mark. Assumes nothing.
-use mathlib.Core.Path.{◌≡◌, refl, sym, ◌∙◌, ap, subst}
-use mathlib.Core.Logic.{◌↔◌, by_cases}
-use mathlib.Core.List.{List}
+use Rattle.std.proofs.Common.{◌≡◌, refl, sym, ◌∙◌, ap, subst, ◌↔◌, List, ℕ, suc, ◌+◌, ◌*◌, ◌%◌, ◌<◌, ◌≤◌, arith, get_or}
+use Rattle.std.proofs.Common.{length, set, length-set, get_or-set_same, get_or-set_other}
+use Rattle.std.proofs.Math.Logic.{by_cases}
 use Rattle.std.specs.Prelude.{Bool, Some, None}
 use Rattle.std.specs.Bool.{Decides}
-use Prim.Native.Nat.{ℕ, suc, ◌+◌, ◌*◌, ◌%◌, ◌<◌, ◌≤◌}
-use native.Mathlib.Decide.{dec_lt}
-use native.Mathlib.Omega.{arith}
-use lib.ListN.{get_or, length, set, length-set}
-use lib.Seq.{get_or-set_same, get_or-set_other}
+use Rattle.std.proofs.Math.Decide.{dec_lt}
 use Rattle.pack.specs.Duties.Table.{Below, Above}
 use Rattle.chart.specs.Duties.Classed.{class_at}
 use Rattle.chart.specs.Duties.Level.{Found, Placed, SameByte, SameValues, Levels, Sorted}

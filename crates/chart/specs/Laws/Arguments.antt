@@ -1,11 +1,9 @@
 -- The checks that the public calls share: what each passes on, and the chain and the fluent that are there. Assumes
 -- nothing.
-use Prim.Native.Nat.{ℕ}
+use Rattle.std.proofs.Common.{ℕ, sym, ◌∙◌, arith, ltb-true, List, [], ◌∷◌}
 use Rattle.std.specs.Prelude.{◌≡◌, Bool}
 use Rattle.std.proofs.Math.Path.{refl, ap}
-use Rattle.std.proofs.Common.{sym, ◌∙◌, arith, ltb-true}
 use Rattle.std.proofs.Math.Bool.{true, false, ◌&&◌}
-use mathlib.Core.List.{List, [], ◌∷◌}
 use Rattle.std.proofs.Math.Dec.{ltb}
 use Rattle.pack.specs.State.{Valid}
 use Rattle.pack.specs.Reading.{Reply, gives, refuses, with, pick}

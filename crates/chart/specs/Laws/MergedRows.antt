@@ -1,15 +1,12 @@
 -- Writing the merged table: beliefs by class, a row, the rows of the new classes. Assumes nothing.
 use Rattle.std.specs.Prelude.{◌≡◌, refl}
-use Rattle.std.proofs.Common.{sym, ◌∙◌, suc-mul, arith, ext_get_or}
+use Rattle.std.proofs.Common.{sym, ◌∙◌, suc-mul, arith, ext_get_or, List, map, ℕ, ◌+◌, ◌*◌, ◌<◌, ◌≤◌, below_more}
 use Rattle.std.proofs.Math.Path.{ap, subst}
 use Rattle.std.proofs.Math.Logic.{by_cases}
-use mathlib.Core.List.{List, map}
-use Prim.Native.Nat.{ℕ, ◌+◌, ◌*◌, ◌<◌, ◌≤◌}
 use Rattle.std.proofs.Math.Decide.{dec_lt}
 use Rattle.std.proofs.Math.Numerals.{add-one}
 use Rattle.std.proofs.Math.ListN.{length, get_or}
 use Rattle.std.proofs.lemmas.List.{length-map}
-use borrow.Author.Count.{below_more}
 use Rattle.pack.specs.Syntax.{Node}
 use Rattle.pack.specs.State.{node, meaning}
 use Rattle.chart.specs.Chart.{Ordered, Written}

@@ -1,5 +1,5 @@
 -- Joined, compared, cleared. Assumes nothing.
-use mathlib.Core.Path.{◌∙◌}
+use Rattle.std.proofs.Common.{◌∙◌}
 use Rattle.chart.proofs.MatchedRows.{charts_matched}
 use Rattle.chart.proofs.compare.match_charts.Goals as goal
 

@@ -1,6 +1,7 @@
 -- Up to the first pair whose values differ, and the way back from there. Assumes nothing.
 use Rattle.std.proofs.Common.{◌∙◌, refl}
-use Rattle.chart.proofs.MatchedRows.{match_paired, match_sound, match_pairs, match_writable, matched_same, matched_differ}
+use Rattle.chart.proofs.MatchedRows.{match_paired, match_sound, match_pairs, match_writable, matched_same}
+use Rattle.chart.proofs.MatchedRows.{matched_differ}
 use Rattle.chart.proofs.compare.match_rows.Goals as goal
 
 pub seek-requires : goal.seek-requires

@@ -1,7 +1,5 @@
 -- The characters below d are followed. Assumes nothing.
-use mathlib.Core.Path.{sym}
-use Prim.Native.Nat.{◌<◌}
-use native.Mathlib.Omega.{arith}
+use Rattle.std.proofs.Common.{sym, ◌<◌, arith}
 use Rattle.chart.specs.Laws.Cells.{row_in}
 use Rattle.chart.proofs.MetPairs.{entries_most, follows_left, follows_right, follows_meet, follows_more}
 use Rattle.chart.proofs.pairs.meet_beliefs.Goals as goal

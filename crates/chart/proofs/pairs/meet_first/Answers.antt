@@ -1,5 +1,5 @@
 -- All marks are cleared, then one pair is met. Assumes nothing.
-use native.Mathlib.Omega.{arith}
+use Rattle.std.proofs.Common.{arith}
 use Rattle.chart.proofs.MetPairs.{first-met}
 use Rattle.chart.proofs.pairs.meet_first.Goals as goal
 

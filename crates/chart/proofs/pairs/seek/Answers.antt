@@ -1,8 +1,7 @@
 -- The entries below `done` are of rows with the same values, and there are at most 4096. Assumes nothing.
-use mathlib.Core.Path.{◌∙◌}
-use Prim.Native.Nat.{◌<◌}
-use native.Mathlib.Omega.{arith}
-use Rattle.chart.proofs.SoughtPair.{seeking_few, seeking_place, seeking_paired, seeking_sound, seeking_pairs, seeking_other, seeking_more, seeking_none}
+use Rattle.std.proofs.Common.{◌∙◌, ◌<◌, arith}
+use Rattle.chart.proofs.SoughtPair.{seeking_few, seeking_place, seeking_paired, seeking_sound, seeking_pairs}
+use Rattle.chart.proofs.SoughtPair.{seeking_other, seeking_more, seeking_none}
 use Rattle.chart.proofs.pairs.seek.Goals as goal
 use Rattle.chart.proofs.pairs.seek.Goals.{In-loop-done}
 

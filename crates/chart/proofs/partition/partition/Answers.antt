@@ -1,7 +1,8 @@
 -- The old classes are exact at some depth, and there are `count` of them, at most `limit`; so `limit - count` falls. Assumes nothing.
-use mathlib.Core.Path.{refl, ◌∙◌}
-use native.Mathlib.Omega.{arith}
-use Rattle.chart.proofs.PartitionLevels.{levels_same, valued-many, ordered_valued, parting_start, parted_since, parting_sound, parting_finer, parting_many, parting_done, parting_apart, parting_more}
+use Rattle.std.proofs.Common.{refl, ◌∙◌, arith}
+use Rattle.chart.proofs.PartitionLevels.{levels_same, valued-many, ordered_valued, parting_start, parted_since}
+use Rattle.chart.proofs.PartitionLevels.{parting_sound, parting_finer, parting_many, parting_done, parting_apart}
+use Rattle.chart.proofs.PartitionLevels.{parting_more}
 use Rattle.chart.proofs.partition.partition.Goals as goal
 
 pub returns-then-limit-count : goal.returns-then-limit-count

@@ -1,7 +1,5 @@
 -- The rows below i are filled, and those that they name have numbers. Assumes nothing.
-use mathlib.Core.Path.{◌∙◌}
-use native.Mathlib.Omega.{arith}
-use borrow.Author.Rules.{rules}
+use Rattle.std.proofs.Common.{◌∙◌, arith, rules}
 use Rattle.chart.proofs.CopyPass.{copying_start, copying_row, copying_end, laid_same, sound_same}
 use Rattle.chart.proofs.pass.copy_reachable.Goals as goal
 

@@ -1,8 +1,5 @@
 -- The row is copied as it is, then its beliefs are named. Assumes nothing.
-use mathlib.Core.Path.{◌∙◌, ap}
-use Prim.Native.Nat.{ℕ, ◌<◌, ◌≤◌, ◌+◌, ◌*◌}
-use lib.ListN.{length, get_or}
-use native.Mathlib.Omega.{arith}
+use Rattle.std.proofs.Common.{◌∙◌, ap, ℕ, ◌<◌, ◌≤◌, ◌+◌, ◌*◌, length, get_or, arith}
 use Rattle.pack.specs.Duties.Table.{cells}
 use Rattle.chart.specs.Laws.Cells.{cells_same, row_in, part_behind}
 use Rattle.chart.specs.Laws.Numbering.{few, numbering_same}

@@ -1,5 +1,5 @@
 -- Loaded, merged, written out, cleared. Assumes nothing.
-use mathlib.Core.Path.{◌∙◌}
+use Rattle.std.proofs.Common.{◌∙◌}
 use Rattle.chart.specs.Laws.LoadedNodes.{read_merges}
 use Rattle.chart.proofs.MergedStart.{start_writes, start_put}
 use Rattle.chart.proofs.start.put_start.Goals as goal

@@ -1,7 +1,5 @@
 -- From class `next` on no leading row has the values of row i. Assumes nothing.
-use mathlib.Core.Path.{◌≡◌}
-use Prim.Native.Nat.{suc}
-use native.Mathlib.Omega.{arith}
+use Rattle.std.proofs.Common.{◌≡◌, suc, arith}
 use Rattle.chart.proofs.Classes.{refuted}
 use Rattle.chart.proofs.ValueClasses.{same_decides, looking_start, looking_next}
 use Rattle.chart.proofs.values.value_class.Goals as goal
