@@ -92,12 +92,12 @@ module _ {pack places : List ℕ} (first second chain work : List ℕ) {p : Cont
       right : NodesRead second m p.fluents p.characters two.table
       right = let x = both_read.0 in nodes_read x.accepted x.found two.read (sizes 1)
 
-      pub compare_ready : Joinable first n second m p.fluents p.characters work × (chain_room ≤ length chain)
+      pub compare_ready : Joinable first second work n m p.fluents p.characters × (chain_room ≤ length chain)
       compare_ready =
           let (has_chain_room, has_work_room) = and_true (fits chain_room chain) (fits work_room work) both_read.0.enough_there in
           (record { table = one.table; read = left; other = two.table; read_other = right; room = leb-true work_room (length work) has_work_room }, leb-true chain_room (length chain) has_chain_room)
 
-      pub compare_done : (chain' work' : List ℕ) (k : Matched) → ChartsMatched first n second m p.fluents p.characters chain chain' work work' k → Comparison pack first second chain work chain' work' k
+      pub compare_done : (chain' work' : List ℕ) (k : Matched) → ChartsMatched first second chain chain' work work' k n m p.fluents p.characters → Comparison pack first second chain work chain' work' k
       unfolding result_after work_after
       compare_done chain' work' k z =
           let (x, replies) = both_read in

@@ -36,7 +36,7 @@ use Rattle.chart.specs.Laws.ChartBytes.{front_back}
 use Rattle.chart.specs.Laws.LookedUp.{cleared_all}
 use Rattle.chart.proofs.JoinedCharts.{read_long, read_closed, read_values}
 
-module _ {work : List ℕ} {n m f c : ℕ} {chain : List ℕ} (p : Matchable work n m f c chain) where
+module _ {work : List ℕ} {n m f c : ℕ} {chain : List ℕ} (p : Matchable work chain n m f c) where
   abbrev w : ℕ
   w = f + c
 
@@ -68,7 +68,7 @@ module _ {work : List ℕ} {n m f c : ℕ} {chain : List ℕ} (p : Matchable wor
       high : Above work now 26624
       high q h = x.high q (omega arith) ∙ b.high q (omega arith)
 
-      pub matched_same : r ≡ None → RowsMatched work now n m f c chain chain matched.Same
+      pub matched_same : r ≡ None → RowsMatched work now chain chain matched.Same n m f c
       matched_same e = record {
         verdict = same;
         true = ap₂ (λ (t : List Node) (i : ℕ). meaning c t i) (sym kept) (sym b.left) ∙ MatchOption-at_none _ _ e x.found ∙ ap₂ (λ (t : List Node) (i : ℕ). meaning c t i) kept b.right;
@@ -155,7 +155,7 @@ module _ {work : List ℕ} {n m f c : ℕ} {chain : List ℕ} (p : Matchable wor
             lowest = λ q l. ap (λ (l : List ℕ). get_or l q 0) left ∙ alike q l ∙ ap (λ (l : List ℕ). get_or l q 0) (sym right);
           }
 
-          pub matched_differ : length chain' ≡ length chain → RowsMatched work now n m f c chain chain' (matched.Differ size fluent)
+          pub matched_differ : length chain' ≡ length chain → RowsMatched work now chain chain' (matched.Differ size fluent) n m f c
           unfolding ways
           matched_differ same-long =
               let e : length way ≡ size = l ways in
@@ -175,9 +175,8 @@ read_full : {chart : List ℕ} {n f c : ℕ} {t : List Node} → NodesRead chart
 read_full r = let long = read_long r in ((read_closed r, omega (arith, r.some)), λ j h. read_values r j (omega arith))
 
 -- two charts
-module _ {first second work : List ℕ} {n m f c : ℕ} (p : Joinable first n second m f c work) {mid : List ℕ} (x : Joined first n second m f c work mid) (long : length mid ≡ length work) where
-
-  pub charts_matched : {chain chain' mid' now : List ℕ} {r : Matched} → RowsMatched mid mid' n m f c chain chain' r → Cleared mid' now 0 work_room → length now ≡ length work → ChartsMatched first n second m f c chain chain' work now r
+module _ {first second work : List ℕ} {n m f c : ℕ} (p : Joinable first second work n m f c) {mid : List ℕ} (x : Joined first second work mid n m f c) (long : length mid ≡ length work) where
+  pub charts_matched : {chain chain' mid' now : List ℕ} {r : Matched} → RowsMatched mid mid' chain chain' r n m f c → Cleared mid' now 0 work_room → length now ≡ length work → ChartsMatched first second chain chain' work now r n m f c
   charts_matched {chain} {chain'} {r = r} y z same-long = record {
     said = λ t u a b.
         subst (λ (v : Verdict). Said v chain chain' r)

@@ -34,7 +34,6 @@ module _ {was : List ℕ} {n w f c : ℕ} (p : Mergeable was n w f c) where
   small k h = omega (arith, rows_most h p.slim, p.few)
 
   module _ {mid : List ℕ} {k : ℕ} (x : Copied was mid n w f c 1 1024 1100 0 k) (long : length mid ≡ length was) where
-
     module _ {mid' : List ℕ} {count : ℕ} (y : Parted mid mid' k w f c 1100 2100 2200 2300 32 count) (long' : length mid' ≡ length mid) where
       -- the rows are where they were
       same_table : rows_at mid' w f c 1100 k ≡ rows_at mid w f c 1100 k

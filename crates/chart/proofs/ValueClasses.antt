@@ -56,7 +56,6 @@ module _ {bytes : List ℕ} {w f t a r i count last : ℕ} (x : Chain bytes w f 
   }
 
   module _ {q p : ℕ} (g : Looking bytes w f t r i count q) (e : q ≡ suc p) where
-
     pub looking_next : {j m : ℕ} → j ≡ get_or bytes (r + p) 0 → (SameValues bytes w f t j i → ⊥) → m ≡ get_or bytes (a + p) 0 → Looking bytes w f t r i count m
     looking_next {j} {m} z n y =
         let before : Last (lead_mark bytes w f t r) p (lead_mark bytes w f t r p) m = subst (Last (lead_mark bytes w f t r) p (lead_mark bytes w f t r p)) (sym y) (x.nexts p (omega (arith, g.within))) in
@@ -220,7 +219,6 @@ valuing_none was heads n w f t a k r long zeros = record {
 }
 
 module _ {was now heads : List ℕ} {n w f c t a k r i count : ℕ} (l : Levels was n w f c t a k r) (long : length now ≡ length was) (g : Valuing was now heads n w f t a k r i count) where
-
   pub valuing_row : i < n → {now' heads' : List ℕ} {more : ℕ} → RowValued now now' heads' w f t a k r i count more → Valuing was now' heads' n w f t a k r (i + 1) more
   valuing_row h {now'} {heads'} {more} x = record {
     within = omega arith;

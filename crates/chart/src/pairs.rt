@@ -136,8 +136,7 @@ pub fn write_way(work: &[u8], e: usize, k: usize, chain: &mut [u8])
 // Writes the chain that leads to entry e; its length.
 pub fn write_chain(work: &[u8], e: usize, chain: &mut [u8]) -> usize
     requires { Writable work.now chain.old met_at e }
-    ensures { LongWay work.now met_at e result
-        × WayWritten work.now chain.old chain.new met_at e result }
+    ensures { LongWay work.now met_at e result × WayWritten work.now chain.old chain.new met_at e result }
 {
     let k = way_length(work, e);
     write_way(work, e, k, chain);

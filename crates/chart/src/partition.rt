@@ -54,8 +54,7 @@ pub fn alike(work: &[u8], t: Table, k: usize, i: usize, j: usize) -> bool
 // The first of `count` classes whose leading row is alike to row i. No class below row i's old one has such a row.
 pub fn class_of(work: &[u8], t: Table, g: Regions, i: usize, count: usize) -> Option<usize>
     requires { of_rows (Against work.now) t g.classes g.firsts count i }
-    ensures { Found (of_rows (Alike work.now) t g.classes)
-        (first_of work.now g) count i result }
+    ensures { Found (of_rows (Alike work.now) t g.classes) (first_of work.now g) count i result }
 {
     for q in usize::from(work[g.classes + i])..count {
         let j = usize::from(work[g.firsts + q]);

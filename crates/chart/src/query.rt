@@ -22,8 +22,7 @@ pub fn look(
     work: &mut [u8],
 ) -> u8
     requires { Lookable chart.now nodes fluents characters chain.now fluent work.old }
-    ensures { Looked chart.now nodes fluents characters chain.now fluent
-        work.old work.new result }
+    ensures { Looked chart.now nodes fluents characters chain.now fluent work.old work.new result }
 {
     copy_table(chart, 1, nodes, work, 0, fluents, characters);
     let t = Table::at(1, nodes, fluents, characters);

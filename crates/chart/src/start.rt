@@ -76,10 +76,8 @@ pub fn put_start(
     work: &mut [u8],
 ) -> usize
     requires { Startable pack.now first nodes fluents characters chart.old work.old }
-    ensures { (x : Startable pack.now first nodes fluents characters chart.old
-        work.old)
-        → StartPut characters x.table chart.old chart.new work.old
-        work.new result }
+    ensures { (x : Startable pack.now first nodes fluents characters chart.old work.old)
+        → StartPut characters x.table chart.old chart.new work.old work.new result }
 {
     copy_table(pack, first, nodes, work, 0, fluents, characters);
     let width = fluents + characters;

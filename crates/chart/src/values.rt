@@ -65,8 +65,7 @@ pub fn value_row(
 ) -> usize
     requires valuable { in_regions (of_values (Valuable work.old t.nodes) t) g i count }
     requires chained { of_values (Chained work.old heads.old) t g.level g.firsts count }
-    ensures { in_regions (of_values (RowValued work.old work.new heads.new) t)
-        g i count result }
+    ensures { in_regions (of_values (RowValued work.old work.new heads.new) t) g i count result }
 {
     let b = value_hash(work, t.rows + i * t.width, t.fluents);
     let last = heads[b];

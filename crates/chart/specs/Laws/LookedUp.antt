@@ -62,7 +62,6 @@ module _ {chart : List ℕ} {nodes f c : ℕ} {chain : List ℕ} {fluent : ℕ} 
 
     module _ {there : ℕ} (at : there ≡ walk (table_of look_table mid) 0 (bytes_at chain 0 (length chain)))
         (in_table : there < nodes) where
-
       look_value : (t : List Node) → NodesRead chart nodes f c t
           → get_or mid ((1 + there * (f + c)) + fluent) 0 ≡ get_or (meaning c t 0 chain) fluent 0
       look_value t r =
