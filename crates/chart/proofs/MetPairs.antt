@@ -1,11 +1,9 @@
 -- Pairs of rows met breadth first, over the bytes: an entry more, a mark more, and the way back. Assumes nothing.
-use Rattle.std.proofs.Common.{◌≡◌, refl, sym, ◌∙◌, ap, subst, ◌⊎◌, inl, inr, ⊎_elim, ◌≢◌, List, [], ◌∷◌, get_or-drop, ℕ}
-use Rattle.std.proofs.Common.{◌+◌, ◌-◌, ◌*◌, ◌/◌, ◌%◌, ◌<◌, ◌≤◌, arith, get_or, length, set, length-set}
+use Rattle.std.proofs.Common.{◌≡◌, refl, sym, ◌∙◌, ap, subst, ◌⊎◌, inl, inr, ⊎_elim, ◌≢◌, List, ℕ}
+use Rattle.std.proofs.Common.{◌+◌, ◌*◌, ◌/◌, ◌%◌, ◌<◌, ◌≤◌, arith, get_or, length, set}
 use Rattle.std.proofs.Common.{get_or-set_same, get_or-set_other}
 use Rattle.std.proofs.Math.Logic.{by_cases}
-use borrow.Rule.Slice.PartMut.{put_mid}
 use Rattle.std.proofs.lemmas.Grind.{common_steps}
-use Rattle.std.proofs.lemmas.Slice.{drop-put_mid}
 use Rattle.std.proofs.Math.Decide.{ℕ_discrete, dec_lt}
 use Rattle.pack.specs.Syntax.{Node}
 use Rattle.pack.specs.State.{target}
@@ -27,32 +25,35 @@ module _ (was : List ℕ) (m q count x y from d : ℕ) (hx : x < 64) (hy : y < 6
   abbrev entry : ℕ
   entry = q + count * 5
 
-  abbrev pub written : List ℕ
-  written = x ∷ y ∷ from / 256 % 256 ∷ from % 256 ∷ d ∷ []
-
   abbrev pub stored : List ℕ
-  stored = put_mid entry (entry + 5 - entry) (set was mark 1) written
+  stored = set (set (set (set (set (set was mark 1) entry x) (entry + 1) y) (entry + 2) (from / 256 % 256)) (entry + 3) (from % 256)) (entry + 4) d
 
-  inside : (j : ℕ) → j < 5 → get_or stored (entry + j) 0 ≡ get_or written j 0
-  inside j h = grind (arith, common_steps)
+  at0 : get_or stored entry 0 ≡ x
+  at0 = grind (arith, common_steps)
 
-  below : (p : ℕ) → p < entry → get_or stored p 0 ≡ get_or (set was mark 1) p 0
-  below p h = grind (arith, common_steps)
+  at1 : get_or stored (entry + 1) 0 ≡ y
+  at1 = grind (arith, common_steps)
 
-  above : (p : ℕ) → entry + 5 ≤ p → get_or stored p 0 ≡ get_or (set was mark 1) p 0
-  above p h =
-      let e = drop-put_mid entry (entry + 5 - entry) (set was mark 1) written p (omega arith) (omega (arith, length-set was mark 1)) (omega arith) in
-      let z : p ≡ p + 0 = omega arith in
-      rw z (sym (get_or-drop p stored 0 0) ∙ ap (λ (l : List ℕ). get_or l 0 0) e ∙ get_or-drop p (set was mark 1) 0 0)
+  at2 : get_or stored (entry + 2) 0 ≡ from / 256 % 256
+  at2 = grind (arith, common_steps)
+
+  at3 : get_or stored (entry + 3) 0 ≡ from % 256
+  at3 = grind (arith, common_steps)
+
+  at4 : get_or stored (entry + 4) 0 ≡ d
+  at4 = grind (arith, common_steps)
+
+  outside : (p : ℕ) → (p < entry) ⊎ (entry + 5 ≤ p) → get_or stored p 0 ≡ get_or (set was mark 1) p 0
+  outside p o = grind (arith, common_steps)
 
   entry_put : EntryPut was stored m q count x y from d
   entry_put = record {
-    mark = below mark (omega arith) ∙ get_or-set_same was mark 1 0 (omega arith);
-    left = ap (λ (p : ℕ). get_or stored p 0) (omega arith) ∙ inside 0 (omega arith);
-    right = inside 1 (omega arith);
-    from_entry = omega (arith, inside 2 (omega arith), inside 3 (omega arith));
-    char = inside 4 (omega arith);
-    kept = λ p n o. ⊎_elim (below p) (above p) o ∙ get_or-set_other was mark p 1 0 n;
+    mark = outside mark (inl (omega arith)) ∙ get_or-set_same was mark 1 0 (omega arith);
+    left = at0;
+    right = at1;
+    from_entry = omega (arith, at2, at3);
+    char = at4;
+    kept = λ p n o. outside p o ∙ get_or-set_other was mark p 1 0 n;
   }
 
   pub pair_new : mark_at was m x y ≡ 0 → PairMet was stored m q count x y from d (count + 1)

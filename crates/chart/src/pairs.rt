@@ -32,7 +32,12 @@ pub fn meet(work: &mut [u8], count: usize, x: usize, y: usize, from: usize, d: u
     work[mark] = 1;
     let a = MET + count * 5;
     let [high, low] = (from as u16).to_be_bytes();
-    work[a..a + 5].copy_from_slice(&[x as u8, y as u8, high, low, d as u8]);
+    // Five writes are quicker than one copy of an array of five.
+    work[a] = x as u8;
+    work[a + 1] = y as u8;
+    work[a + 2] = high;
+    work[a + 3] = low;
+    work[a + 4] = d as u8;
     count + 1
 }
 

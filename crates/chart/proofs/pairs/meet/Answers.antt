@@ -5,5 +5,5 @@ use Rattle.chart.proofs.pairs.meet.Goals as goal
 
 pub returns : goal.returns
 returns c =
-    rw (c.copy_from_slice.ensures.after, c.to_be_bytes.ensures)
+    rw c.to_be_bytes.ensures
     (pair_new c.args.work.now 2048 6144 c.args.count c.args.x c.args.y c.args.from c.args.d c.requires.small.0 c.requires.small.1 (omega arith) (omega arith) (omega (arith, c.requires.room)) c.if-work-mark-ne0.false)
