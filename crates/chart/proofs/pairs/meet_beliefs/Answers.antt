@@ -3,12 +3,7 @@ use Rattle.std.proofs.Common.{sym, ◌<◌, arith}
 use Rattle.chart.specs.Laws.Cells.{row_in}
 use Rattle.chart.proofs.MetPairs.{entries_most, follows_left, follows_right, follows_meet, follows_more}
 use Rattle.chart.proofs.pairs.meet_beliefs.Goals as goal
-use Rattle.chart.proofs.pairs.meet_beliefs.Goals.{After-slice_known-1, After-from, After-from-2}
-
--- the entries end within the buffer
-few : (c : After-slice_known-1) → c.args.done < 4096
-few c =
-    omega (arith, entries_most c.requires.paired.0.few c.requires.pairs_in, c.requires.paired.2)
+use Rattle.chart.proofs.pairs.meet_beliefs.Goals.{After-from, After-from-2}
 
 -- the rows of entry `done` are there
 left_in : (c : After-from) →
@@ -17,13 +12,13 @@ left_in c =
     omega (arith, c.from.ensures, (c.requires.pairs_in.inside _ c.requires.paired.2).0)
 
 pub overflow_mul-e : goal.overflow_mul-e
-overflow_mul-e c = omega (arith, few c)
+overflow_mul-e c = omega (arith, entries_most c.requires.paired.0.few c.requires.pairs_in)
 
 pub overflow_add-e : goal.overflow_add-e
-overflow_add-e c = omega (arith, few c, c.requires.paired.0, c.well_formed)
+overflow_add-e c = omega (arith, entries_most c.requires.paired.0.few c.requires.pairs_in, c.requires.paired.0, c.well_formed)
 
 pub bounds-work-e : goal.bounds-work-e
-bounds-work-e c = omega (arith, few (goal.at.bounds-work-e c).After-slice_known-1, c.requires.paired.0)
+bounds-work-e c = omega (arith, entries_most c.requires.paired.0.few c.requires.pairs_in, c.requires.paired.0)
 
 pub overflow_add-a-2 : goal.overflow_add-a-2
 overflow_add-a-2 c =
@@ -31,11 +26,11 @@ overflow_add-a-2 c =
 
 pub overflow_add-e-2 : goal.overflow_add-e-2
 overflow_add-e-2 c =
-    omega (arith, few (goal.at.overflow_add-e-2 c).After-slice_known-1, c.requires.paired.0, c.well_formed)
+    omega (arith, entries_most c.requires.paired.0.few c.requires.pairs_in, c.requires.paired.0, c.well_formed)
 
 pub bounds-work-e-2 : goal.bounds-work-e-2
 bounds-work-e-2 c =
-    omega (arith, few (goal.at.bounds-work-e-2 c).After-slice_known-1, c.requires.paired.0)
+    omega (arith, entries_most c.requires.paired.0.few c.requires.pairs_in, c.requires.paired.0)
 
 pub overflow_add-a-in-loop-d : goal.overflow_add-a-in-loop-d
 overflow_add-a-in-loop-d c =
