@@ -1,21 +1,14 @@
 -- One more row in a numbering by classes: with the number of an earlier row of its class, or with the next number. Assumes nothing.
-use mathlib.Core.Path.{◌≡◌, refl, sym, ◌∙◌, ap, subst}
-use mathlib.Core.Bool.{Bool, true, false}
-use mathlib.Core.Logic.{◌↔◌, ⊎_elim, by_cases}
-use Prim.Native.Nat.{ℕ, zero, suc, ◌+◌, ◌<◌, ◌≤◌}
-use native.Mathlib.Numerals.{add-one}
-use native.Mathlib.Nat.{eq-or-lt_of_le, le_of_suc-le-suc}
-use native.Mathlib.Omega.{arith}
+use Rattle.std.proofs.Common.{◌≡◌, refl, sym, ◌∙◌, ap, subst, Bool, true, false, ◌↔◌, ⊎_elim, ℕ, zero, suc, ◌+◌, ◌<◌}
+use Rattle.std.proofs.Common.{◌≤◌, add-one, eq-or-lt_of_le, le_of_suc-le-suc, arith}
+use Rattle.std.proofs.Math.Logic.{by_cases}
 use Rattle.chart.specs.Laws.Merged.{classes, grows, Numbered, first}
 use Rattle.std.specs.Bool.{Decides}
 use Rattle.chart.specs.Duties.Level.{Placed, Sorted}
-use native.Mathlib.Decide.{dec_lt}
+use Rattle.std.proofs.Math.Decide.{dec_lt}
 
 true_not_false : {r : Bool} → r ≡ true → r ≡ false → ⊥
 true_not_false p q = let z : ◌≡◌ {A = ℕ} 0 1 = cc in omega arith
-
-pub decided_no : {P : Type 0} → (P → ⊥) → Decides false P
-decided_no n = (λ e. absurd (true_not_false e refl), λ p. absurd (n p))
 
 pub refuted : {r : Bool} {P : Type 0} → Decides r P → r ≡ false → P → ⊥
 refuted d e p = true_not_false (d.1 p) e

@@ -1,10 +1,6 @@
 -- Compare: what the checks leave, as matching two charts asks it, and what it gives. Assumes nothing.
-use Prim.Native.Nat.{ℕ, ◌≤◌}
-use mathlib.Core.Path.{◌≡◌, refl, sym, ap, ap₂, ◌∙◌, subst}
-use mathlib.Core.Bool.{Bool, true, false, ◌&&◌}
-use mathlib.Core.List.{List, [], ◌∷◌, map}
-use lib.ListN.{length, get_or}
-use borrow.Author.Tests.{leb-true}
+use Rattle.std.proofs.Common.{ℕ, ◌≤◌, ◌≡◌, refl, sym, ap, ap₂, ◌∙◌, subst, Bool, true, false, ◌&&◌, List, [], ◌∷◌, map}
+use Rattle.std.proofs.Common.{length, get_or, leb-true}
 use Rattle.pack.specs.Syntax.{Node, Pack}
 use Rattle.pack.specs.Reading.{Reply, gives, refuses, with, told}
 use Rattle.pack.specs.Refusals.{refusal_number, place_of}
@@ -114,12 +110,12 @@ module _ (pack first second chain work : List ℕ) where
           right : NodesRead second m p.domains.fluents p.characters two.table
           right = let x = both_read.0 in nodes_read x.accepted x.found two.read (sizes 1)
 
-          pub compare_ready : Joinable first n second m p.domains.fluents p.characters work × (chain_room ≤ length chain)
+          pub compare_ready : Joinable first second work n m p.domains.fluents p.characters × (chain_room ≤ length chain)
           compare_ready =
               let (has_chain_room, has_work_room) = and_true (fits chain_room chain) (fits work_room work) both_read.0.enough_there in
               (record { table = one.table; read = left; other = two.table; read_other = right; room = leb-true work_room (length work) has_work_room }, leb-true chain_room (length chain) has_chain_room)
 
-          pub compare_done : (chain' work' : List ℕ) (k : Option found.Difference) → ChartsMatched first n second m p.domains.fluents p.characters chain chain' work work' k → Comparison pack first second chain work chain' work' (Ok k)
+          pub compare_done : (chain' work' : List ℕ) (k : Option found.Difference) → ChartsMatched first second chain chain' work work' k n m p.domains.fluents p.characters → Comparison pack first second chain work chain' work' (Ok k)
           unfolding result_after work_after
           compare_done chain' work' k z =
               let (x, replies) = both_read in

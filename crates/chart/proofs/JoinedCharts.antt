@@ -1,13 +1,8 @@
 -- Two charts loaded as one table: each row stands, its beliefs counted on, and means what it meant. Assumes nothing.
-use Prim.Native.Nat.{ℕ, ◌+◌, ◌*◌, ◌-◌, ◌<◌, ◌≤◌}
-use mathlib.Core.Path.{◌≡◌, refl, sym, ap, ◌∙◌, subst}
-use mathlib.Core.Logic.{by_cases}
-use mathlib.Core.List.{List}
-use native.Mathlib.Decide.{dec_lt}
-use native.Mathlib.Nat.{add-zero, zero-mul, add-mul}
-use native.Mathlib.Omega.{arith}
-use lib.ListN.{length, get_or}
-use lib.Seq.{ext_get_or}
+use Rattle.std.proofs.Common.{ℕ, ◌+◌, ◌*◌, ◌-◌, ◌<◌, ◌≤◌, ◌≡◌, refl, sym, ap, ◌∙◌, subst, List, add-zero, zero-mul}
+use Rattle.std.proofs.Common.{add-mul, arith, length, get_or, ext_get_or}
+use Rattle.std.proofs.Math.Logic.{by_cases}
+use Rattle.std.proofs.Math.Decide.{dec_lt}
 use Rattle.pack.specs.Syntax.{Node}
 use Rattle.pack.specs.State.{node, nowhere, target, meaning, Closed}
 use Rattle.pack.specs.Duties.Table.{cells, rows_at}
@@ -85,7 +80,7 @@ module _ {src : List ℕ} {n f c : ℕ} {t : List Node} (r : NodesRead src n f c
   placed_below j d h l = omega (arith, placed_byte j d h l, read_closed r j d (omega (arith, read_long r)) l, read_long r)
 
 -- both charts
-module _ {first second work : List ℕ} {n m f c : ℕ} (p : Joinable first n second m f c work) where
+module _ {first second work : List ℕ} {n m f c : ℕ} (p : Joinable first second work n m f c) where
   abbrev w : ℕ
   w = f + c
 
@@ -117,7 +112,7 @@ module _ {first second work : List ℕ} {n m f c : ℕ} (p : Joinable first n se
         (λ g. let z : 0 + i ≡ i = omega arith in omega (arith, ap (λ (i : ℕ). get_or now (1 + i * w + f + d) 0) z, placed_below p.read now (n + m) 0 here (omega arith) values beliefs i d g l))
         (λ g. let z : n + (i - n) ≡ i = omega arith in omega (arith, ap (λ (i : ℕ). get_or now (1 + i * w + f + d) 0) z, placed_below p.read_other now (n + m) n refl (omega arith) y.values y.beliefs (i - n) d (omega arith) l))
 
-    pub joined : Joined first n second m f c work now
+    pub joined : Joined first second work now n m f c
     joined = record {
       sound = record { beliefs = sound };
       left = λ t r. placed_means r now (n + m) 0 here (omega arith) values beliefs;

@@ -1,55 +1,19 @@
 -- One level of the partition over the bytes: rows held against the leading rows of the classes so far, and one row more. Assumes nothing.
-use mathlib.Core.Path.{◌≡◌, refl, sym, ◌∙◌, ap, subst}
-use mathlib.Core.Logic.{◌↔◌, by_cases}
-use mathlib.Core.List.{List}
-use Rattle.std.specs.Prelude.{Some, None}
-use Prim.Native.Nat.{ℕ, ◌+◌, ◌*◌, ◌<◌, ◌≤◌}
-use native.Mathlib.Decide.{dec_lt}
-use native.Mathlib.Omega.{arith}
-use lib.ListN.{get_or, length, set, length-set}
-use lib.Seq.{get_or-set_same, get_or-set_other}
+use Rattle.std.proofs.Common.{◌≡◌, refl, sym, ◌∙◌, ap, subst, ◌↔◌, List, ℕ, ◌+◌, ◌*◌, ◌<◌, ◌≤◌, arith, get_or, length}
+use Rattle.std.proofs.Math.Logic.{by_cases}
+use Rattle.std.proofs.Math.Decide.{dec_lt}
 use Rattle.pack.specs.Duties.Table.{Below, Above, Between}
 use Rattle.chart.specs.Duties.Numbers.{Sound}
 use Rattle.chart.specs.Duties.Classed.{class_at}
-use Rattle.chart.specs.Duties.Level.{Found, Placed, SameValues, Alike, RowOk, Against, Levels, Finer, Sorted, RowClassed, Leveled}
+use Rattle.chart.specs.Duties.Level.{Placed, SameValues, Alike, RowOk, Against, Levels, Finer, Sorted, RowClassed}
+use Rattle.chart.specs.Duties.Level.{Leveled}
 use Rattle.chart.specs.Laws.Cells.{row_in}
-use Rattle.chart.proofs.Classes.{Equivalence, finer_above, placed_found, placed_next, sorted_none, sorted_row}
+use Rattle.chart.proofs.Classes.{Equivalence, finer_above, sorted_none, sorted_row}
 use Rattle.chart.proofs.ValueClasses.{values_equivalence, values_same}
 
 -- of the first `count` classes none below q has a leading row that is alike to row i
 pub record NoneBelow (bytes : List ℕ) (w f c t k r count i q : ℕ) : Type 0 where
   pub none : (p : ℕ) → p < count → p < q → Alike bytes w f c t k (get_or bytes (r + p) 0) i → ⊥
-
-module _ {bytes : List ℕ} {w f c t k r count i : ℕ} where
-  -- the leading row of class q against row i
-  pub against_row : Against bytes w f c t k r count i → (q : ℕ) → q < count → (j : ℕ) → j ≡ get_or bytes (r + q) 0 → (f + c ≤ w) × RowOk bytes w f c t k j × RowOk bytes w f c t k i
-  against_row a q h j e = (a.wide, subst (RowOk bytes w f c t k) (sym e) (a.leads q h), a.row)
-
-  pub against_values : Against bytes w f c t k r count i → (q : ℕ) → q < count → (j : ℕ) → j ≡ get_or bytes (r + q) 0 → get_or bytes (k + j) 0 ≡ get_or bytes (k + i) 0 → SameValues bytes w f t j i
-  against_values a q h j e x = subst (λ (j : ℕ). SameValues bytes w f t j i) (sym e) (a.values q h (ap (λ (j : ℕ). get_or bytes (k + j) 0) (sym e) ∙ x))
-
-  pub against_finer : Against bytes w f c t k r count i → (q : ℕ) → q < count → (j : ℕ) → j ≡ get_or bytes (r + q) 0 → Alike bytes w f c t k j i → get_or bytes (k + j) 0 ≡ get_or bytes (k + i) 0
-  against_finer a q h j e x = ap (λ (j : ℕ). get_or bytes (k + j) 0) e ∙ a.finer q h (subst (λ (j : ℕ). Alike bytes w f c t k j i) e x)
-
-  -- so it is with those below the old class
-  pub none_since : Against bytes w f c t k r count i → (q : ℕ) → q ≡ class_at bytes k i → NoneBelow bytes w f c t k r count i q
-  none_since a q e = record { none = λ p h l x. absurd (omega (arith, a.since p h x)) }
-
--- what is alike to the leading row of class q is of that class
-pub class_found : {bytes : List ℕ} {w f c t k : ℕ} (r : ℕ) {count i q : ℕ} → q < count → (j : ℕ) → j ≡ get_or bytes (r + q) 0 → Alike bytes w f c t k j i
-    → Found (Alike bytes w f c t k) (λ p. get_or bytes (r + p) 0) count i (Some q)
-class_found {bytes} {w} {f} {c} {t} {k} r {i = i} h j e x = (h, subst (λ (j : ℕ). Alike bytes w f c t k j i) e x)
-
-module _ {bytes : List ℕ} {w f c t k r count i : ℕ} where
-  pub class_none : (q : ℕ) → count ≤ q → NoneBelow bytes w f c t k r count i q → Found (Alike bytes w f c t k) (λ p. get_or bytes (r + p) 0) count i None
-  class_none q h z p l = z.none p l (omega arith)
-
-  -- one more that is not alike
-  pub none_more : (q j : ℕ) → j ≡ get_or bytes (r + q) 0 → (Alike bytes w f c t k j i → ⊥) → NoneBelow bytes w f c t k r count i q → NoneBelow bytes w f c t k r count i (q + 1)
-  none_more q j e x z = record {
-    none = λ p m l y. by_cases (dec_lt p q) (λ h. z.none p m h y)
-        (λ h. let z : p ≡ q = omega arith in x (subst (λ (j : ℕ). Alike bytes w f c t k j i) (ap (λ (p : ℕ). get_or bytes (r + p) 0) z ∙ sym e) y));
-  }
 
 -- `Alike` is an equivalence
 pub alike_equivalence : (bytes : List ℕ) (w f c t k : ℕ) → Equivalence (Alike bytes w f c t k)
@@ -162,36 +126,3 @@ module _ {was now : List ℕ} {n w f c t a k r i count : ℕ} (l : Levels was n 
   pub leveling_end : n ≤ i → Leveled was now n w f c t a k r count
   leveling_end h = let e : i ≡ n = omega (arith, g.within) in
       record { sorted = subst (λ (i : ℕ). Sorted (Alike was w f c t k) (class_at now a) (λ q. get_or now (r + q) 0) i count) e g.sorted; fewer = omega (arith, g.fewer); low = g.low; mid = g.mid; high = g.high }
-
--- What `class_row` stores
-module _ {was : List ℕ} {w f c t a k r i count : ℕ} (order : a + i + 1 ≤ r) (room : r + count < length was) where
-  pub row_old : {q : ℕ} → Found (Alike was w f c t k) (λ p. get_or was (r + p) 0) count i (Some q) → RowClassed was (set was (a + i) q) w f c t a k r i count count
-  row_old {q} found = let h = found.0 in record {
-    class = q;
-    is = placed_found found;
-    here = get_or-set_same was (a + i) q 0 (omega arith);
-    old = λ _. refl;
-    new = λ z. absurd (omega arith);
-    classed = λ j l. get_or-set_other was (a + i) (a + j) q 0 (omega arith);
-    led = λ p l. get_or-set_other was (a + i) (r + p) q 0 (omega arith);
-    low = λ p l. get_or-set_other was (a + i) p q 0 (omega arith);
-    mid = λ p l z. get_or-set_other was (a + i) p q 0 (omega arith);
-    high = λ p l. get_or-set_other was (a + i) p q 0 (omega arith);
-  }
-
-  pub row_new : Found (Alike was w f c t k) (λ p. get_or was (r + p) 0) count i None → RowClassed was (set (set was (a + i) count) (r + count) i) w f c t a k r i count (count + 1)
-  row_new none =
-      let mid = set was (a + i) count in
-      let over : (p : ℕ) → (p ≡ r + count → ⊥) → get_or (set mid (r + count) i) p 0 ≡ get_or mid p 0 = λ p n. get_or-set_other mid (r + count) p i 0 n in
-      record {
-        class = count;
-        is = placed_next none;
-        here = over (a + i) (omega arith) ∙ get_or-set_same was (a + i) count 0 (omega arith);
-        old = λ z. absurd (omega arith);
-        new = λ _. (refl, get_or-set_same mid (r + count) i 0 (omega (arith, length-set was (a + i) count)));
-        classed = λ j l. over (a + j) (omega arith) ∙ get_or-set_other was (a + i) (a + j) count 0 (omega arith);
-        led = λ p l. over (r + p) (omega arith) ∙ get_or-set_other was (a + i) (r + p) count 0 (omega arith);
-        low = λ p l. over p (omega arith) ∙ get_or-set_other was (a + i) p count 0 (omega arith);
-        mid = λ p l z. over p (omega arith) ∙ get_or-set_other was (a + i) p count 0 (omega arith);
-        high = λ p l. over p (omega arith) ∙ get_or-set_other was (a + i) p count 0 (omega arith);
-      }

@@ -1,12 +1,9 @@
 -- Rows compared: the first pair whose values differ, and the verdict on what they mean. Assumes nothing.
-use Prim.Native.Nat.{ℕ, ◌+◌, ◌*◌, ◌<◌, ◌≤◌}
-use mathlib.Core.Path.{◌≡◌, refl, sym, ap, ap₂, ◌∙◌, subst}
-use mathlib.Core.Logic.{by_cases}
-use mathlib.Core.List.{List, ◌++◌, List-discrete}
-use native.Mathlib.Decide.{ℕ_discrete, dec_le}
-use native.Mathlib.Nat.{le_trans}
-use native.Mathlib.Omega.{arith}
-use lib.ListN.{length, get_or, drop}
+use Rattle.std.proofs.Common.{ℕ, ◌+◌, ◌*◌, ◌<◌, ◌≤◌, ◌≡◌, refl, sym, ap, ap₂, ◌∙◌, subst, List, ◌++◌, le_trans, arith}
+use Rattle.std.proofs.Common.{length, get_or, drop}
+use Rattle.std.proofs.Math.Logic.{by_cases}
+use mathlib.Core.List.{List-discrete}
+use Rattle.std.proofs.Math.Decide.{ℕ_discrete, dec_le}
 use Rattle.std.specs.Prelude.{Option, Some, None}
 use Rattle.std.proofs.lemmas.Option.{MatchOption-at_some, MatchOption-at_none}
 use Rattle.pack.specs.Syntax.{Node}
@@ -18,7 +15,7 @@ use Rattle.pack.specs.Laws.Rows.{cells_at, rows_length}
 use Rattle.std.specs.Prelude.{Option, Some, None}
 use Rattle.chart.specs.declared.Difference as parting
 use Rattle.chart.specs.Compare.{Verdict, same, differ, Compared, Differ}
-use Rattle.chart.specs.Call.{chain_room, work_room}
+use Rattle.chart.specs.Call.{work_room}
 use Rattle.chart.specs.Promises.{after}
 use Rattle.chart.specs.Laws.Answers.{compare_table_iff}
 use Rattle.chart.specs.Laws.Tables.{IsFull}
@@ -27,19 +24,19 @@ use Rattle.chart.specs.Laws.Comparing.{differ_valid}
 use Rattle.chart.specs.Laws.Moore as moore
 use Rattle.chart.specs.Duties.Numbers.{Sound}
 use Rattle.chart.specs.Duties.Level.{FirstNot, SameByte}
-use Rattle.chart.specs.Inner.Pairs.{left_at, right_at, Paired, PairsIn, FirstMet, FirstOther, Sought, Ways, Writable, LongWay, WayWritten}
+use Rattle.chart.specs.Inner.Pairs.{left_at, right_at, Paired, PairsIn, FirstMet, FirstOther, Sought, Ways, Writable}
+use Rattle.chart.specs.Inner.Pairs.{LongWay, WayWritten}
 use Rattle.chart.specs.Duties.Look.{NodesRead}
 use Rattle.chart.specs.Duties.Put.{Cleared}
 use Rattle.chart.specs.Inner.Match.{Joinable, Joined, Matchable, Said, RowsMatched, ChartsMatched}
-use Rattle.chart.specs.Laws.Cells.{cells-length, row_in, rows_node, rows_same, rows_most}
+use Rattle.chart.specs.Laws.Cells.{row_in, rows_node, rows_same, rows_most}
 use Rattle.chart.proofs.PartitionLevels.{sound_closed}
 use Rattle.chart.proofs.MetPairs.{entries_most, pairs_first}
 use Rattle.chart.specs.Laws.ChartBytes.{front_back}
 use Rattle.chart.specs.Laws.LookedUp.{cleared_all}
-use Rattle.chart.specs.Laws.LoadedNodes.{read_slim}
 use Rattle.chart.proofs.JoinedCharts.{read_long, read_closed, read_values}
 
-module _ {work : List ℕ} {n m f c : ℕ} {chain : List ℕ} (p : Matchable work n m f c chain) where
+module _ {work : List ℕ} {n m f c : ℕ} {chain : List ℕ} (p : Matchable work chain n m f c) where
   abbrev w : ℕ
   w = f + c
 
@@ -71,7 +68,7 @@ module _ {work : List ℕ} {n m f c : ℕ} {chain : List ℕ} (p : Matchable wor
       high : Above work now 26624
       high q h = x.high q (omega arith) ∙ b.high q (omega arith)
 
-      pub matched_same : r ≡ None → RowsMatched work now n m f c chain chain None
+      pub matched_same : r ≡ None → RowsMatched work now chain chain None n m f c
       matched_same e = record {
         verdict = same;
         true = ap₂ (λ (t : List Node) (i : ℕ). meaning c t i) (sym kept) (sym b.left) ∙ MatchOption-at_none _ _ e x.found ∙ ap₂ (λ (t : List Node) (i : ℕ). meaning c t i) kept b.right;
@@ -144,9 +141,6 @@ module _ {work : List ℕ} {n m f c : ℕ} {chain : List ℕ} (p : Matchable wor
             ap (λ (x : Node). get_or x.values q 0) (rows_node work w f c 1 (n + m) i h) ∙ cells_at work (1 + i * w) f q l
             ∙ sym (low (1 + i * w + q) (omega (arith, rows_room, row_in (n + m) w i h)))
 
-        values_long : (i : ℕ) → i < n + m → length (node T i).values ≡ f
-        values_long i h = ap (λ (x : Node). length x.values) (rows_node work w f c 1 (n + m) i h) ∙ cells-length work (1 + i * w) f
-
         module _ {chain' : List ℕ} {size : ℕ} (l : LongWay now 6144 k size) (y : WayWritten now chain chain' 6144 k size) where
           z : FirstNot (SameByte now (1 + u * w) (1 + v * w)) f fluent
           z = found.1
@@ -161,7 +155,7 @@ module _ {work : List ℕ} {n m f c : ℕ} {chain : List ℕ} (p : Matchable wor
             lowest = λ q l. ap (λ (l : List ℕ). get_or l q 0) left ∙ alike q l ∙ ap (λ (l : List ℕ). get_or l q 0) (sym right);
           }
 
-          pub matched_differ : length chain' ≡ length chain → RowsMatched work now n m f c chain chain' (Some (record { length = size; fluent = fluent }))
+          pub matched_differ : length chain' ≡ length chain → RowsMatched work now chain chain' (Some (record { length = size; fluent = fluent })) n m f c
           unfolding ways
           matched_differ same-long =
               let e : length way ≡ size = l ways in
@@ -181,18 +175,8 @@ read_full : {chart : List ℕ} {n f c : ℕ} {t : List Node} → NodesRead chart
 read_full r = let long = read_long r in ((read_closed r, omega (arith, r.some)), λ j h. read_values r j (omega arith))
 
 -- two charts
-module _ {first second work : List ℕ} {n m f c : ℕ} (p : Joinable first n second m f c work) {mid : List ℕ} (x : Joined first n second m f c work mid) (long : length mid ≡ length work) where
-  pub charts_matchable : (chain : List ℕ) → chain_room ≤ length chain → Matchable mid n m f c chain
-  charts_matchable chain room = record {
-    some = (p.read.some, p.read_other.some);
-    few = (p.read.few, p.read_other.few);
-    slim = read_slim p.read;
-    sound = x.sound;
-    room = omega (arith, long, p.room);
-    has_chain_room = room;
-  }
-
-  pub charts_matched : {chain chain' mid' now : List ℕ} {r : Option parting.Difference} → RowsMatched mid mid' n m f c chain chain' r → Cleared mid' now 0 work_room → length now ≡ length work → ChartsMatched first n second m f c chain chain' work now r
+module _ {first second work : List ℕ} {n m f c : ℕ} (p : Joinable first second work n m f c) {mid : List ℕ} (x : Joined first second work mid n m f c) (long : length mid ≡ length work) where
+  pub charts_matched : {chain chain' mid' now : List ℕ} {r : Option parting.Difference} → RowsMatched mid mid' chain chain' r n m f c → Cleared mid' now 0 work_room → length now ≡ length work → ChartsMatched first second chain chain' work now r n m f c
   charts_matched {chain} {chain'} {r = r} y z same-long = record {
     said = λ t u a b.
         subst (λ (v : Verdict). Said v chain chain' r)

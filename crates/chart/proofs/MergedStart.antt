@@ -1,11 +1,8 @@
 -- A table's rows from place 1 on, merged: where things lie, and that what is left is the written chart of what row 0 means. Assumes nothing.
-use Prim.Native.Nat.{ℕ, ◌+◌, ◌*◌, ◌<◌, ◌≤◌}
-use mathlib.Core.Path.{◌≡◌, refl, sym, ap, ◌∙◌, subst}
-use mathlib.Core.Logic.{by_cases}
-use mathlib.Core.List.{List, ◌++◌}
-use native.Mathlib.Decide.{dec_lt}
-use native.Mathlib.Omega.{arith}
-use lib.ListN.{length, drop, set}
+use Rattle.std.proofs.Common.{ℕ, ◌+◌, ◌*◌, ◌<◌, ◌≤◌, ◌≡◌, refl, sym, ap, ◌∙◌, subst, List, ◌++◌, arith, length, drop}
+use Rattle.std.proofs.Common.{set}
+use Rattle.std.proofs.Math.Logic.{by_cases}
+use Rattle.std.proofs.Math.Decide.{dec_lt}
 use Rattle.pack.specs.Syntax.{Node}
 use Rattle.pack.specs.State.{meaning, Closed}
 use Rattle.pack.specs.Duties.Table.{rows_at}
@@ -14,11 +11,11 @@ use Rattle.pack.specs.Duties.Copy.{TableCopied}
 use Rattle.pack.specs.Laws.Rows.{rows_length}
 use Rattle.chart.specs.Answers.{start_table}
 use Rattle.chart.specs.Call.{work_room}
-use Rattle.chart.specs.Duties.Numbers.{Laid, Copied, Sound}
+use Rattle.chart.specs.Duties.Numbers.{Copied, Sound}
 use Rattle.chart.specs.Duties.Put.{Cleared, PartCopied}
 use Rattle.chart.specs.Duties.Out.{RowsPut}
 use Rattle.chart.specs.Duties.Classed.{class_at, Room, Classed, WrittenOut}
-use Rattle.chart.specs.Duties.Level.{Levels, Parted}
+use Rattle.chart.specs.Duties.Level.{Parted}
 use Rattle.chart.specs.Duties.Start.{Mergeable, Merged, Startable, StartPut}
 use Rattle.chart.specs.States.{AtMost}
 use Rattle.chart.specs.Laws.Merged.{classes, grows, no_more}
@@ -36,13 +33,7 @@ module _ {was : List ℕ} {n w f c : ℕ} (p : Mergeable was n w f c) where
   small : (k : ℕ) → k ≤ n → k * w ≤ 960
   small k h = omega (arith, rows_most h p.slim, p.few)
 
-  pub merge_laid : Laid was n w f c 1 1024 1100
-  merge_laid = record { few = omega (arith, p.few); wide = p.wide; source = omega (arith, small n (omega arith)); scratch = omega (arith, p.few); target = omega (arith, small n (omega arith), p.room) }
-
   module _ {mid : List ℕ} {k : ℕ} (x : Copied was mid n w f c 1 1024 1100 0 k) (long : length mid ≡ length was) where
-    pub merge_levels : Levels mid k w f c 1100 2100 2200 2300
-    merge_levels = record { few = omega (arith, x.few, p.few); wide = p.wide; source = omega (arith, small k x.few); new = omega (arith, x.few, p.few); old = omega (arith, x.few, p.few); leads = omega (arith, x.few, p.few, p.room) }
-
     module _ {mid' : List ℕ} {count : ℕ} (y : Parted mid mid' k w f c 1100 2100 2200 2300 32 count) (long' : length mid' ≡ length mid) where
       -- the rows are where they were
       same_table : rows_at mid' w f c 1100 k ≡ rows_at mid w f c 1100 k
@@ -60,9 +51,6 @@ module _ {was : List ℕ} {n w f c : ℕ} (p : Mergeable was n w f c) where
               let pos : 0 < length t = omega (arith, x.some) in
               let written = chart (tabled-at c t closed 0 pos) in
               (few_rows written 32).1 (omega (arith, written_short c written.rows t written.written closed pos written.means, x.few, p.few))
-
-      pub merge_target : 2400 + k * w ≤ length mid'
-      merge_target = omega (arith, small k x.few, long, long', p.room)
 
       pub merge_room : Room mid' k w f c 1100 2200 2400
       merge_room = record { wide = p.wide; source = omega (arith, small k x.few); classes = omega (arith, x.few, p.few); most = k; below = λ i l. omega (arith, grows (class_at mid' 2200) i k l, no_more (class_at mid' 2200) k merge_classed.0.numbered); target = omega (arith, small k x.few, p.room) }

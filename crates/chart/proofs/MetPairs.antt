@@ -1,12 +1,10 @@
 -- Pairs of rows met breadth first, over the bytes: an entry more, a mark more, and the way back. Assumes nothing.
-use mathlib.Core.Path.{◌≡◌, refl, sym, ◌∙◌, ap, subst}
-use mathlib.Core.Logic.{◌⊎◌, inl, inr, ⊎_elim, by_cases, ◌≢◌}
-use mathlib.Core.List.{List}
-use Prim.Native.Nat.{ℕ, ◌+◌, ◌*◌, ◌/◌, ◌%◌, ◌<◌, ◌≤◌}
-use native.Mathlib.Decide.{ℕ_discrete, dec_lt}
-use native.Mathlib.Omega.{arith}
-use lib.ListN.{get_or, length, set, length-set}
-use lib.Seq.{get_or-set_same, get_or-set_other}
+use Rattle.std.proofs.Common.{◌≡◌, refl, sym, ◌∙◌, ap, subst, ◌⊎◌, inl, inr, ⊎_elim, ◌≢◌, List, ℕ}
+use Rattle.std.proofs.Common.{◌+◌, ◌*◌, ◌/◌, ◌%◌, ◌<◌, ◌≤◌, arith, get_or, length, set}
+use Rattle.std.proofs.Common.{get_or-set_same, get_or-set_other}
+use Rattle.std.proofs.Math.Logic.{by_cases}
+use Rattle.std.proofs.lemmas.Grind.{common_steps}
+use Rattle.std.proofs.Math.Decide.{ℕ_discrete, dec_lt}
 use Rattle.pack.specs.Syntax.{Node}
 use Rattle.pack.specs.State.{target}
 use Rattle.chart.specs.Laws.Count.{all, count_all, count_inj}
@@ -16,87 +14,50 @@ use Rattle.chart.specs.Duties.Put.{Cleared}
 use Rattle.chart.specs.Duties.Numbers.{Sound}
 use Rattle.chart.specs.Laws.Cells.{row_in}
 use Rattle.chart.proofs.PartitionLevels.{target_at}
-use Rattle.chart.specs.Inner.Pairs.{left_at, right_at, from_at, char_at, mark_at, Paired, Pairs, PairsIn, EntryPut, PairMet, FirstMet, Followed}
+use Rattle.chart.specs.Inner.Pairs.{left_at, right_at, from_at, char_at, mark_at, Paired, Pairs, EntryPut, PairMet}
+use Rattle.chart.specs.Inner.Pairs.{FirstMet}
 
 -- What `meet` stores
-module _ (was : List ℕ) (m q count x y from d : ℕ) (hx : x < 64) (hy : y < 64) (order : m + 4096 ≤ q) (room : q + count * 5 + 5 ≤ length was) where
+module _ (was : List ℕ) (m q count x y from d : ℕ) (hx : x < 64) (hy : y < 64) (small : from < 65536) (order : m + 4096 ≤ q) (room : q + count * 5 + 5 ≤ length was) where
   abbrev mark : ℕ
   mark = m + x * 64 + y
 
   abbrev entry : ℕ
   entry = q + count * 5
 
-  abbrev l1 : List ℕ
-  l1 = set was mark 1
-
-  abbrev l2 : List ℕ
-  l2 = set l1 entry x
-
-  abbrev l3 : List ℕ
-  l3 = set l2 (entry + 1) y
-
-  abbrev l4 : List ℕ
-  l4 = set l3 (entry + 2) (from / 256)
-
-  abbrev l5 : List ℕ
-  l5 = set l4 (entry + 3) (from % 256)
-
   abbrev pub stored : List ℕ
-  stored = set l5 (entry + 4) d
-
-  long : (length l1 ≡ length was) × (length l2 ≡ length was) × (length l3 ≡ length was) × (length l4 ≡ length was) × (length l5 ≡ length was)
-  long =
-      let e1 = length-set was mark 1 in
-      let e2 = length-set l1 entry x in
-      let e3 = length-set l2 (entry + 1) y in
-      let e4 = length-set l3 (entry + 2) (from / 256) in
-      let e5 = length-set l4 (entry + 3) (from % 256) in
-      (e1, e2 ∙ e1, e3 ∙ e2 ∙ e1, e4 ∙ e3 ∙ e2 ∙ e1, e5 ∙ e4 ∙ e3 ∙ e2 ∙ e1)
-
-  pub stored_long : length stored ≡ length was
-  stored_long = length-set l5 (entry + 4) d ∙ long.4
-
-  -- each byte lies within what is stored before it
-  pub puts : (entry < length l1) × (entry + 1 < length l2) × (entry + 2 < length l3) × (entry + 3 < length l4) × (entry + 4 < length l5)
-  puts = (omega (arith, long), omega (arith, long), omega (arith, long), omega (arith, long), omega (arith, long))
+  stored = set (set (set (set (set (set was mark 1) entry x) (entry + 1) y) (entry + 2) (from / 256 % 256)) (entry + 3) (from % 256)) (entry + 4) d
 
   at0 : get_or stored entry 0 ≡ x
-  at0 = get_or-set_other l5 (entry + 4) entry d 0 (omega arith) ∙ get_or-set_other l4 (entry + 3) entry (from % 256) 0 (omega arith) ∙ get_or-set_other l3 (entry + 2) entry (from / 256) 0 (omega arith)
-      ∙ get_or-set_other l2 (entry + 1) entry y 0 (omega arith) ∙ get_or-set_same l1 entry x 0 (omega (arith, long))
+  at0 = grind (arith, common_steps)
 
   at1 : get_or stored (entry + 1) 0 ≡ y
-  at1 = get_or-set_other l5 (entry + 4) (entry + 1) d 0 (omega arith) ∙ get_or-set_other l4 (entry + 3) (entry + 1) (from % 256) 0 (omega arith) ∙ get_or-set_other l3 (entry + 2) (entry + 1) (from / 256) 0 (omega arith)
-      ∙ get_or-set_same l2 (entry + 1) y 0 (omega (arith, long))
+  at1 = grind (arith, common_steps)
 
-  at2 : get_or stored (entry + 2) 0 ≡ from / 256
-  at2 = get_or-set_other l5 (entry + 4) (entry + 2) d 0 (omega arith) ∙ get_or-set_other l4 (entry + 3) (entry + 2) (from % 256) 0 (omega arith) ∙ get_or-set_same l3 (entry + 2) (from / 256) 0 (omega (arith, long))
+  at2 : get_or stored (entry + 2) 0 ≡ from / 256 % 256
+  at2 = grind (arith, common_steps)
 
   at3 : get_or stored (entry + 3) 0 ≡ from % 256
-  at3 = get_or-set_other l5 (entry + 4) (entry + 3) d 0 (omega arith) ∙ get_or-set_same l4 (entry + 3) (from % 256) 0 (omega (arith, long))
+  at3 = grind (arith, common_steps)
 
-  low : (p : ℕ) → p < entry → get_or stored p 0 ≡ get_or l1 p 0
-  low p h = get_or-set_other l5 (entry + 4) p d 0 (omega arith) ∙ get_or-set_other l4 (entry + 3) p (from % 256) 0 (omega arith) ∙ get_or-set_other l3 (entry + 2) p (from / 256) 0 (omega arith)
-      ∙ get_or-set_other l2 (entry + 1) p y 0 (omega arith) ∙ get_or-set_other l1 entry p x 0 (omega arith)
+  at4 : get_or stored (entry + 4) 0 ≡ d
+  at4 = grind (arith, common_steps)
 
-  high : (p : ℕ) → entry + 5 ≤ p → get_or stored p 0 ≡ get_or l1 p 0
-  high p h = get_or-set_other l5 (entry + 4) p d 0 (omega arith) ∙ get_or-set_other l4 (entry + 3) p (from % 256) 0 (omega arith) ∙ get_or-set_other l3 (entry + 2) p (from / 256) 0 (omega arith)
-      ∙ get_or-set_other l2 (entry + 1) p y 0 (omega arith) ∙ get_or-set_other l1 entry p x 0 (omega arith)
+  outside : (p : ℕ) → (p < entry) ⊎ (entry + 5 ≤ p) → get_or stored p 0 ≡ get_or (set was mark 1) p 0
+  outside p o = grind (arith, common_steps)
 
-  pub entry_put : EntryPut was stored m q count x y from d
+  entry_put : EntryPut was stored m q count x y from d
   entry_put = record {
-    mark = low mark (omega arith) ∙ get_or-set_same was mark 1 0 (omega arith);
+    mark = outside mark (inl (omega arith)) ∙ get_or-set_same was mark 1 0 (omega arith);
     left = at0;
     right = at1;
     from_entry = omega (arith, at2, at3);
-    char = get_or-set_same l5 (entry + 4) d 0 (omega (arith, long));
-    kept = λ p n o. ⊎_elim (λ (h : p < entry). low p h) (λ (h : entry + 5 ≤ p). high p h) o ∙ get_or-set_other was mark p 1 0 n;
+    char = at4;
+    kept = λ p n o. outside p o ∙ get_or-set_other was mark p 1 0 n;
   }
 
   pub pair_new : mark_at was m x y ≡ 0 → PairMet was stored m q count x y from d (count + 1)
   pair_new z = record { again = λ n. absurd (n z); new = λ _. (refl, entry_put) }
-
-pub pair_again : {was : List ℕ} {m q count x y from d : ℕ} → mark_at was m x y ≢ 0 → PairMet was was m q count x y from d count
-pair_again n = record { again = λ _. (refl, refl); new = λ z. absurd (n z) }
 
 -- places of two pairs are the same only where the pairs are
 place_one : (x y u v : ℕ) → y < 64 → v < 64 → x * 64 + y ≡ u * 64 + v → (x ≡ u) × (y ≡ v)
@@ -208,10 +169,6 @@ module _ {T : List Node} {r s : ℕ} {bytes : List ℕ} {n c m q count done d : 
         (λ z. let (e, o) = p.new z in (subst (λ (k : ℕ). Pairs T r s now n c m q k done (d + 1)) (sym e) (pairs_new z o), omega arith, λ i h. (left_same z o i h, right_same z o i h)))
         (λ z. let (e, o) = p.again z in (subst (λ (k : ℕ). Pairs T r s now n c m q k done (d + 1)) (sym e) (subst (λ (b : List ℕ). Pairs T r s b n c m q count done (d + 1)) (sym o) (pairs_known z)), omega arith, λ i h. (ap (λ (b : List ℕ). left_at b q i) o, ap (λ (b : List ℕ). right_at b q i) o)))
 
--- all characters are followed
-pairs_all : {T : List Node} {r s : ℕ} {bytes : List ℕ} {n c m q count done d : ℕ} → Pairs T r s bytes n c m q count done d → d ≡ c → Pairs T r s bytes n c m q count done c
-pairs_all {T} {r} {s} {bytes} {n} {c} {m} {q} {count} {done} g e = subst (λ (d : ℕ). Pairs T r s bytes n c m q count done d) e g
-
 -- bytes but marks and entries are as they were
 pub meet_frame : {was now : List ℕ} {m q count x y from d k : ℕ} → PairMet was now m q count x y from d k → m + 4096 ≤ q → x < 64 → y < 64 → (mark_at was m x y ≡ 0 → count < 4096) → Below was now m × Above was now (q + 20480)
 meet_frame {was} {now} {m} {q} {count} {x} {y} p marks hx hy few =
@@ -264,20 +221,6 @@ pub record Follows (was now : List ℕ) (n w f c t m q done count a b met d : �
   pub low : Below was now m
   pub high : Above was now (q + 20480)
 
-pub follows_start : {was : List ℕ} {n w f c t m q done count x y : ℕ} → done < count → PairsIn was n w f c t m q count done 0 → left_at was q done ≡ x → right_at was q done ≡ y → Follows was was n w f c t m q done count (t + x * w + f) (t + y * w + f) count 0
-follows_start {w = w} {f} {t = t} h g ex ey = record {
-  long = refl;
-  most = omega arith;
-  there = h;
-  more = omega arith;
-  kept = λ e l. (refl, refl);
-  left = ap (λ (i : ℕ). t + i * w + f) (sym ex);
-  right = ap (λ (i : ℕ). t + i * w + f) (sym ey);
-  pairs = g;
-  low = λ j l. refl;
-  high = λ j l. refl;
-}
-
 module _ {was : List ℕ} {n w f c t m q : ℕ} (l : Paired was n w f c t m q) {now : List ℕ} {done count a b met d : ℕ} (o : Follows was now n w f c t m q done count a b met d) where
   -- both rows' beliefs lie within the buffer
   pub follows_left : a + c ≤ length now
@@ -329,7 +272,3 @@ module _ {was : List ℕ} {n w f c t m q : ℕ} (l : Paired was n w f c t m q) {
             low = λ j h. below j h ∙ o.low j h;
             high = λ j h. above j h ∙ o.high j h;
           }
-
-  -- all are
-  pub follows_all : c ≤ d → Followed was now n w f c t m q done count met
-  follows_all h = record { pairs = pairs_all o.pairs (omega (arith, o.most)); more = o.more; kept = o.kept; low = o.low; high = o.high }

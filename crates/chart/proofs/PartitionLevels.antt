@@ -1,12 +1,7 @@
 -- The partition over the bytes, level by level: each level tells apart what chains one longer do, and where the next has no more classes, or all rows are told apart, it is what the rows mean. Assumes nothing.
-use mathlib.Core.Path.{◌≡◌, refl, sym, ◌∙◌, ap, subst}
+use Rattle.std.proofs.Common.{◌≡◌, refl, sym, ◌∙◌, ap, subst, ◌↔◌, List, ℕ, suc, ◌+◌, ◌*◌, ◌<◌, ◌≤◌, arith, get_or}
+use Rattle.std.proofs.Common.{length, ext_get_or}
 use mathlib.Core.Logic.Iff
-use mathlib.Core.Logic.{◌↔◌}
-use mathlib.Core.List.{List}
-use Prim.Native.Nat.{ℕ, suc, ◌+◌, ◌*◌, ◌<◌, ◌≤◌}
-use native.Mathlib.Omega.{arith}
-use lib.ListN.{get_or, length}
-use lib.Seq.{ext_get_or}
 use Rattle.pack.specs.Syntax.{Node}
 use Rattle.pack.specs.State.{target, meaning, Closed}
 use Rattle.chart.specs.States.{AtMost}

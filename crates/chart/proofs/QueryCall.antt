@@ -1,11 +1,6 @@
 -- Query: what the checks leave, as looking a value up asks it, and what it gives. Assumes nothing.
-use Prim.Native.Nat.{ℕ}
-use mathlib.Core.Path.{◌≡◌, refl, sym, ap, ap₂, ◌∙◌}
-use mathlib.Core.Bool.{Bool, ◌&&◌}
-use mathlib.Core.List.{List, [], ◌∷◌, map}
-use lib.ListN.{length, get_or}
-use lib.Dec.{ltb}
-use borrow.Author.Tests.{ltb-true, leb-true}
+use Rattle.std.proofs.Common.{ℕ, ◌≡◌, refl, sym, ap, ap₂, ◌∙◌, Bool, ◌&&◌, List, [], ◌∷◌, map, length, get_or, ltb, ltb-true}
+use Rattle.std.proofs.Common.{leb-true}
 use Rattle.pack.specs.Syntax.{Theory, Node, Pack}
 use Rattle.pack.specs.State.{meaning}
 use Rattle.std.specs.Prelude.{Result, Ok, Err}

@@ -1,15 +1,8 @@
 -- Writing out: one byte more, one row more, and that the rows written out are the chart's bytes. Assumes nothing.
-use mathlib.Core.Path.{◌≡◌, refl, sym, ◌∙◌, ap, subst}
-use mathlib.Core.Logic.{by_cases}
-use mathlib.Core.List.{List}
-use Prim.Native.Nat.{ℕ, ◌+◌, ◌*◌, ◌<◌, ◌≤◌}
-use native.Mathlib.Nat.{suc-mul}
-use native.Mathlib.Numerals.{add-one}
-use native.Mathlib.Decide.{dec_lt}
-use native.Mathlib.Omega.{arith}
-use lib.ListN.{length, get_or, set}
-use lib.Seq.{get_or-set_same, get_or-set_other}
-use borrow.Author.Count.{below_more}
+use Rattle.std.proofs.Common.{◌≡◌, refl, sym, ◌∙◌, ap, subst, List, ℕ, ◌+◌, ◌*◌, ◌<◌, ◌≤◌, suc-mul, add-one, arith}
+use Rattle.std.proofs.Common.{length, get_or, set, get_or-set_same, get_or-set_other, below_more}
+use Rattle.std.proofs.Math.Logic.{by_cases}
+use Rattle.std.proofs.Math.Decide.{dec_lt}
 use Rattle.chart.specs.Duties.Out.{shifted, PartPut, RowPutIn, RowsPut}
 use Rattle.chart.specs.Laws.Cells.{row_in}
 
@@ -31,9 +24,6 @@ put_row {src} {from = from} {to = to} a b = record {
   low = λ p h. b.low p (omega arith) ∙ a.low p h;
   high = λ p h. b.high p h ∙ a.high p (omega arith);
 }
-
-pub rows_start : (src was : List ℕ) (w f c from to more less : ℕ) → RowsPut src was was w f c from to more less 0
-rows_start src was w f c from to more less = record { values = λ j q l. absurd (omega arith); beliefs = λ j d l. absurd (omega arith); low = λ p l. refl; high = λ p l. refl }
 
 pub rows_next : {src was now now' : List ℕ} {w f c from to more less i : ℕ} → f + c ≤ w → w ≤ f + c → RowsPut src was now w f c from to more less i → RowPutIn src now now' (from + i * w) (to + i * w) f c more less
     → RowsPut src was now' w f c from to more less (i + 1)

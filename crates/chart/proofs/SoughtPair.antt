@@ -1,12 +1,8 @@
 -- Pairs gone through in the order met, up to the first whose rows have other values. Assumes nothing.
-use mathlib.Core.Path.{◌≡◌, refl, sym, ◌∙◌, ap, subst}
-use mathlib.Core.Logic.{by_cases}
-use mathlib.Core.List.{List}
+use Rattle.std.proofs.Common.{◌≡◌, refl, sym, ◌∙◌, ap, subst, List, ℕ, ◌+◌, ◌*◌, ◌<◌, ◌≤◌, arith, length}
+use Rattle.std.proofs.Math.Logic.{by_cases}
 use Rattle.std.specs.Prelude.{Some, None}
-use Prim.Native.Nat.{ℕ, ◌+◌, ◌*◌, ◌<◌, ◌≤◌}
-use native.Mathlib.Decide.{dec_lt}
-use native.Mathlib.Omega.{arith}
-use lib.ListN.{length}
+use Rattle.std.proofs.Math.Decide.{dec_lt}
 use Rattle.pack.specs.Syntax.{Node}
 use Rattle.pack.specs.State.{node}
 use Rattle.pack.specs.Duties.Table.{rows_at, Below, Above}
@@ -27,9 +23,6 @@ pub record Seeking (was now : List ℕ) (n w f c t m q count done : ℕ) : Type 
   pub same : (e : ℕ) → e < done → (node (rows_at was w f c t n) (left_at now q e)).values ≡ (node (rows_at was w f c t n) (right_at now q e)).values
   pub low : Below was now m
   pub high : Above was now (q + 20480)
-
-pub seeking_start : {was : List ℕ} {n w f c t m q : ℕ} → PairsIn was n w f c t m q 1 0 0 → Seeking was was n w f c t m q 1 0
-seeking_start g = record { within = omega arith; pairs = g; roots = (refl, refl); same = λ e h. absurd (omega arith); low = λ p h. refl; high = λ p h. refl }
 
 -- the same under another name
 pairs_as : {T T' : List Node} {r r' s s' : ℕ} {bytes : List ℕ} {n c m q count done d : ℕ} → T ≡ T' → r ≡ r' → s ≡ s' → Pairs T r s bytes n c m q count done d → Pairs T' r' s' bytes n c m q count done d

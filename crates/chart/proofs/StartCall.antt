@@ -1,10 +1,5 @@
 -- Start: what the checks leave, as writing the chart asks it, and what it gives. Assumes nothing.
-use Prim.Native.Nat.{ℕ}
-use mathlib.Core.Path.{◌≡◌, refl, sym, ap, ◌∙◌, subst}
-use mathlib.Core.Bool.{Bool, true, ◌&&◌}
-use mathlib.Core.List.{List, []}
-use lib.ListN.{length}
-use borrow.Author.Tests.{leb-true}
+use Rattle.std.proofs.Common.{ℕ, ◌≡◌, refl, sym, ap, ◌∙◌, subst, Bool, true, ◌&&◌, List, [], length, leb-true}
 use Rattle.pack.specs.Syntax.{Node, Pack}
 use Rattle.std.specs.Prelude.{Result, Ok, Err}
 use Rattle.pack.specs.Reading.{Reply, gives, refuses, told}

@@ -1,19 +1,15 @@
 -- The first level of the partition over the bytes: rows of the same values have the same mark, and are looked for among the leading rows of that mark. Assumes nothing.
-use mathlib.Core.Path.{◌≡◌, refl, sym, ◌∙◌, ap, subst}
-use mathlib.Core.Logic.{◌↔◌, by_cases}
-use mathlib.Core.List.{List}
+use Rattle.std.proofs.Common.{◌≡◌, refl, sym, ◌∙◌, ap, subst, ◌↔◌, List, ℕ, suc, ◌+◌, ◌*◌, ◌%◌, ◌<◌, ◌≤◌, arith, get_or}
+use Rattle.std.proofs.Common.{length, set, length-set, get_or-set_same, get_or-set_other}
+use Rattle.std.proofs.Math.Logic.{by_cases}
 use Rattle.std.specs.Prelude.{Bool, Some, None}
 use Rattle.std.specs.Bool.{Decides}
-use Prim.Native.Nat.{ℕ, suc, ◌+◌, ◌*◌, ◌%◌, ◌<◌, ◌≤◌}
-use native.Mathlib.Decide.{dec_lt}
-use native.Mathlib.Omega.{arith}
-use lib.ListN.{get_or, length, set, length-set}
-use lib.Seq.{get_or-set_same, get_or-set_other}
+use Rattle.std.proofs.Math.Decide.{dec_lt}
 use Rattle.pack.specs.Duties.Table.{Below, Above}
 use Rattle.chart.specs.Duties.Classed.{class_at}
 use Rattle.chart.specs.Duties.Level.{Found, Placed, SameByte, SameValues, Levels, Sorted}
 use Rattle.chart.specs.Laws.Sums.{sum_same}
-use Rattle.chart.specs.Inner.Values.{hash_of, lead_mark, Last, Chain, Chained, Valuable, RowValued, Valued}
+use Rattle.chart.specs.Inner.Values.{hash_of, lead_mark, Last, Chain, Chained, Valuable, RowValued}
 use Rattle.chart.specs.Laws.Cells.{row_in}
 use Rattle.chart.proofs.Classes.{Equivalence, decides_as, placed_found, placed_next, sorted_none, sorted_row}
 
@@ -60,17 +56,6 @@ module _ {bytes : List ℕ} {w f t a r i count last : ℕ} (x : Chain bytes w f 
   }
 
   module _ {q p : ℕ} (g : Looking bytes w f t r i count q) (e : q ≡ suc p) where
-    -- the leading row of class p lies within the buffer, and so does row i
-    pub looking_room : {j : ℕ} → j ≡ get_or bytes (r + p) 0 → (t + j * w + f ≤ length bytes) × (t + i * w + f ≤ length bytes)
-    looking_room z = (subst (λ (j : ℕ). t + j * w + f ≤ length bytes) (sym z) (x.leads p (omega (arith, g.within))), x.row)
-
-    -- the class before it has a lower number
-    pub looking_lower : {m : ℕ} → m ≡ get_or bytes (a + p) 0 → m < q
-    looking_lower z = omega (arith, (x.nexts p (omega (arith, g.within))).within)
-
-    pub looking_found : {j : ℕ} → j ≡ get_or bytes (r + p) 0 → SameValues bytes w f t j i → Found (SameValues bytes w f t) (λ p. get_or bytes (r + p) 0) count i (Some p)
-    looking_found z s = (omega (arith, g.within), subst (λ (j : ℕ). SameValues bytes w f t j i) z s)
-
     pub looking_next : {j m : ℕ} → j ≡ get_or bytes (r + p) 0 → (SameValues bytes w f t j i → ⊥) → m ≡ get_or bytes (a + p) 0 → Looking bytes w f t r i count m
     looking_next {j} {m} z n y =
         let before : Last (lead_mark bytes w f t r) p (lead_mark bytes w f t r p) m = subst (Last (lead_mark bytes w f t r) p (lead_mark bytes w f t r p)) (sym y) (x.nexts p (omega (arith, g.within))) in
@@ -83,9 +68,6 @@ module _ {bytes : List ℕ} {w f t a r i count last : ℕ} (x : Chain bytes w f 
               (λ k. g.others u (omega arith) l s)
               (λ k. let v : u ≡ p = omega arith in n (subst (λ (j : ℕ). SameValues bytes w f t j i) (ap (λ (u : ℕ). get_or bytes (r + u) 0) v ∙ sym z) s)));
         }
-
-  pub looking_none : {q : ℕ} → Looking bytes w f t r i count q → q ≤ 0 → Found (SameValues bytes w f t) (λ p. get_or bytes (r + p) 0) count i None
-  looking_none g h p l = g.others p (omega arith) l
 
 -- the last of a mark, by other marks that are the same
 last_as : {mark mark' : ℕ → ℕ} {m b x : ℕ} → Last mark m b x → ((p : ℕ) → p < m → mark' p ≡ mark p) → Last mark' m b x
@@ -106,16 +88,6 @@ last_more {mark} {m} l n = record {
 module _ {was : List ℕ} {n w f t a k r i count : ℕ} (v : Valuable was n w f t a k r i count) where
   pub row_inside : (j : ℕ) → j < n → t + j * w + f ≤ length was
   row_inside j h = omega (arith, row_in n w j h, v.wide, v.source, v.nexts, v.classes, v.room)
-
-  pub chain_at : {heads : List ℕ} → Chained was heads w f t a r count → {b last : ℕ} → b < 131 → b ≡ hash_of was (t + i * w) f → last ≡ get_or heads b 0 → Chain was w f t a r i count last
-  chain_at {heads} x {b} {last} h e z = record {
-    row = row_inside i v.row;
-    leads = λ q l. row_inside (get_or was (r + q) 0) (omega (arith, v.leads q l, v.row));
-    room = omega (arith, v.room, v.fewer, v.row);
-    above = omega (arith, v.room, v.fewer, v.row, v.classes, v.nexts);
-    nexts = x.nexts;
-    ends = subst (λ (b : ℕ). Last (lead_mark was w f t r) count b last) e (subst (Last (lead_mark was w f t r) count b) (sym z) (x.heads_last b h));
-  }
 
   -- bytes below a, the leading rows and what stands for each class are as they were
   module _ (now : List ℕ) (low : Below was now a) (led : (q : ℕ) → q < count → get_or now (r + q) 0 ≡ get_or was (r + q) 0) (kept : (q : ℕ) → q < count → get_or now (a + q) 0 ≡ get_or was (a + q) 0) {heads : List ℕ} (x : Chained was heads w f t a r count) where
@@ -247,19 +219,6 @@ valuing_none was heads n w f t a k r long zeros = record {
 }
 
 module _ {was now heads : List ℕ} {n w f c t a k r i count : ℕ} (l : Levels was n w f c t a k r) (long : length now ≡ length was) (g : Valuing was now heads n w f t a k r i count) where
-  pub valuing_next : i < n → Valuable now n w f t a k r i count
-  valuing_next h = record {
-    few = l.few;
-    wide = omega (arith, l.wide);
-    source = l.source;
-    nexts = l.new;
-    classes = l.old;
-    room = omega (arith, l.leads, long);
-    row = h;
-    fewer = g.fewer;
-    leads = λ q p. (g.sorted.led q p).0;
-  }
-
   pub valuing_row : i < n → {now' heads' : List ℕ} {more : ℕ} → RowValued now now' heads' w f t a k r i count more → Valuing was now' heads' n w f t a k r (i + 1) more
   valuing_row h {now'} {heads'} {more} x = record {
     within = omega arith;
@@ -276,7 +235,3 @@ module _ {was now heads : List ℕ} {n w f c t a k r i count : ℕ} (l : Levels 
 
       place : Placed (SameValues was w f t) (λ q. get_or now (r + q) 0) count i x.class
       place = record { within = x.is.within; known = λ p. (then x.class p).0 (x.is.known p); fresh = λ z q p u. x.is.fresh z q p ((then q p).1 u) }
-
-  pub valuing_end : n ≤ i → Valued was now n w f t a k r count
-  valuing_end h = let e : i ≡ n = omega (arith, g.within) in
-      record { sorted = subst (λ (i : ℕ). Sorted (SameValues was w f t) (class_at now k) (λ q. get_or now (r + q) 0) i count) e g.sorted; fewer = omega (arith, g.fewer); low = g.low; high = g.high }

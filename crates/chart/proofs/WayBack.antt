@@ -1,12 +1,10 @@
 -- The way back from an entry to the first, written as a chain from its end on. Assumes nothing.
-use mathlib.Core.Path.{◌≡◌, refl, sym, ◌∙◌, ap}
-use mathlib.Core.Logic.{by_cases}
-use mathlib.Core.List.{List, [], ◌∷◌, ◌++◌}
-use Prim.Native.Nat.{ℕ, suc, ◌+◌, ◌-◌, ◌<◌, ◌≤◌}
-use native.Mathlib.Decide.{ℕ_discrete}
-use native.Mathlib.Omega.{arith}
-use lib.ListN.{get_or, length, set, length-append, get_or-append}
-use lib.Seq.{ext_get_or, get_or-set_same, get_or-set_other, get_or-append_seam}
+use Rattle.std.proofs.Common.{◌≡◌, sym, ◌∙◌, ap, List, [], ◌∷◌, ◌++◌, ℕ, suc, ◌+◌, ◌-◌, ◌<◌, ◌≤◌, arith, get_or, length}
+use Rattle.std.proofs.Common.{set, length-append, ext_get_or, get_or-set_same, get_or-set_other}
+use Rattle.std.proofs.Math.Logic.{by_cases}
+use Rattle.std.proofs.Math.Decide.{ℕ_discrete}
+use Rattle.std.proofs.Math.ListN.{get_or-append}
+use Rattle.std.proofs.Math.Seq.{get_or-append_seam}
 use Rattle.pack.specs.Duties.Table.{Above}
 use Rattle.pack.specs.Laws.Rows.{cells_at}
 use Rattle.chart.specs.Inner.Pairs.{from_at, char_at, Ways, WayWritten}
@@ -35,15 +33,15 @@ pub record Tracing (bytes was now : List ℕ) (q e k at i : ℕ) : Type 0 where
   pub shorter : i ≤ k
   pub high : Above was now k
 
-pub tracing_start : {bytes was : List ℕ} {q e k : ℕ} → Tracing bytes was was q e k e k
-tracing_start = record { within = omega arith; long = λ x h. h; low = λ x h j l. refl; written = λ x h j l g. absurd (omega arith); shorter = omega arith; high = λ p h. refl }
-
 module _ {bytes was now : List ℕ} {q e k at i : ℕ} (g : Tracing bytes was now q e k at i) where
-  pub tracing_some : (x : Ways bytes q e) → length (x.way e) ≡ k → 0 < at → 0 < i
-  tracing_some x h some = omega (arith, g.long x h, (way_step x at (from_at bytes q at) some g.within refl).1)
+  -- while characters are left the entry is not the first
+  pub tracing_some : (x : Ways bytes q e) → length (x.way e) ≡ k → 0 < i → 0 < at
+  tracing_some x h left = by_cases (ℕ_discrete at 0)
+      (λ z. absurd (omega (arith, g.long x h, ap (λ (at : ℕ). length (x.way at)) z, ap length x.root)))
+      (λ n. omega (arith, n))
 
-  pub tracing_more : (x : Ways bytes q e) → length (x.way e) ≡ k → 0 < at → k ≤ length now → (p : ℕ) → p ≡ from_at bytes q at → Tracing bytes was (set now (i - 1) (char_at bytes q at)) q e k p (i - 1)
-  tracing_more x₀ h₀ some room p back = record {
+  pub tracing_more : (x : Ways bytes q e) → length (x.way e) ≡ k → 0 < i → k ≤ length now → (p : ℕ) → p ≡ from_at bytes q at → Tracing bytes was (set now (i - 1) (char_at bytes q at)) q e k p (i - 1)
+  tracing_more x₀ h₀ positive room p back = record {
     within = omega (arith, g.within, (way_step x₀ at p some g.within back).0);
     long = shorter;
     low = λ x h j l. way_low x at p some g.within back j (omega (arith, shorter x h)) ∙ g.low x h j (omega arith);
@@ -52,8 +50,8 @@ module _ {bytes was now : List ℕ} {q e k at i : ℕ} (g : Tracing bytes was no
     high = λ j l. get_or-set_other now (i - 1) j (char_at bytes q at) 0 (λ z. omega (arith, positive, g.shorter)) ∙ g.high j l;
   }
     where
-      positive : 0 < i
-      positive = tracing_some x₀ h₀ some
+      some : 0 < at
+      some = tracing_some x₀ h₀ positive
 
       shorter : (x : Ways bytes q e) → length (x.way e) ≡ k → length (x.way p) ≡ i - 1
       shorter x h = omega (arith, g.long x h, (way_step x at p some g.within back).1)
@@ -63,10 +61,10 @@ module _ {bytes was now : List ℕ} {q e k at i : ℕ} (g : Tracing bytes was no
           ap (λ (j : ℕ). get_or (set now (i - 1) (char_at bytes q at)) j 0) z ∙ get_or-set_same now (i - 1) (char_at bytes q at) 0 (omega (arith, positive, g.shorter))
           ∙ way_last x at p some g.within back ∙ ap (λ (j : ℕ). get_or (x.way at) j 0) (shorter x h ∙ sym z) ∙ g.low x h j (omega (arith, positive))
 
-  pub tracing_end : at ≡ 0 → WayWritten bytes was now q e k
+  pub tracing_end : i ≤ 0 → WayWritten bytes was now q e k
   tracing_end z = record {
     chain = λ x h. ext_get_or 0 _ (x.way e) (cells-length now 0 k ∙ sym h) (λ j l. let b : j < k = omega (arith, cells-length now 0 k) in
         let y : 0 + j ≡ j = omega arith in
-        cells_at now 0 k j b ∙ ap (λ (p : ℕ). get_or now p 0) y ∙ g.written x h j (omega (arith, g.long x h, ap (λ (at : ℕ). length (x.way at)) z, ap length x.root)) b);
+        cells_at now 0 k j b ∙ ap (λ (p : ℕ). get_or now p 0) y ∙ g.written x h j (omega arith) b);
     high = g.high;
   }

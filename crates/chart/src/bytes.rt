@@ -27,31 +27,26 @@ pub fn copy_part(work: &mut [u8], a: usize, b: usize, f: usize)
     }
 }
 
-// Whether the f bytes from a on are the same as those from b on.
-pub fn same_part(work: &[u8], a: usize, b: usize, f: usize) -> bool
-    requires { (a + f ≤ length work.now) × (b + f ≤ length work.now) }
-    ensures { Decides result ((q : ℕ) → q < f → SameByte work.now a b q) }
-{
-    // Rows are short, and a loop over a few bytes is quicker than `==` of the two slices.
-    for q in 0..f {
-        if work[a + q] != work[b + q] {
-            return false;
-        }
-    }
-    true
-}
-
 // The first of the f bytes from a on that is not the same from b on.
 pub fn first_other(work: &[u8], a: usize, b: usize, f: usize) -> Option<usize>
     requires { (a + f ≤ length work.now) × (b + f ≤ length work.now) }
     ensures { Agrees (SameByte work.now a b) f result }
 {
+    // Rows are short: a loop over a few bytes is quicker than an iterator of two slices or their `==`.
     for q in 0..f {
         if work[a + q] != work[b + q] {
             return Some(q);
         }
     }
     None
+}
+
+// Whether the f bytes from a on are the same as those from b on.
+pub fn same_part(work: &[u8], a: usize, b: usize, f: usize) -> bool
+    requires { (a + f ≤ length work.now) × (b + f ≤ length work.now) }
+    ensures { Decides result ((q : ℕ) → q < f → SameByte work.now a b q) }
+{
+    first_other(work, a, b, f).is_none()
 }
 
 // The n bytes from a on as one number of 32 bits: each counts FACTOR times as much as the one behind it.

@@ -4,7 +4,7 @@
 ghost use Rattle.std.specs.Prelude.{◌≤◌, length};
 ghost use Rattle.chart.specs.Call.{chain_room};
 ghost use Rattle.chart.specs.Promises.{Comparison};
-ghost use Rattle.chart.specs.Inner.Match.{Joinable, Joined, Matchable, RowsMatched, ChartsMatched};
+ghost use Rattle.chart.specs.Inner.Match.{of_two, Joinable, Joined, Matchable, RowsMatched, ChartsMatched};
 
 use crate::Difference;
 use crate::bytes::clear;
@@ -27,46 +27,28 @@ pub struct TwoCharts {
 
 // Loads two charts as one table.
 pub fn join(first: &[u8], second: &[u8], n: TwoCharts, work: &mut [u8])
-    requires { Joinable first.now n.first second.now n.second n.fluents n.characters work.old }
-    ensures { Joined first.now n.first second.now n.second n.fluents
-        n.characters work.old work.new }
+    requires { of_two (Joinable first.now second.now work.old) n }
+    ensures { of_two (Joined first.now second.now work.old work.new) n }
 {
-    let w = n.fluents + n.characters;
-    let one = Table {
-        rows: 1,
-        nodes: n.first,
-        fluents: n.fluents,
-        characters: n.characters,
-        width: w,
-    };
+    let one = Table::at(1, n.first, n.fluents, n.characters);
     put_rows(first, one, work, 1, Shift { more: 0, less: 1 });
     let other = Table {
-        rows: 1,
         nodes: n.second,
-        fluents: n.fluents,
-        characters: n.characters,
-        width: w,
+        ..one
     };
-    let more = n.first as u8;
-    let behind = Shift { more, less: 1 };
-    put_rows(second, other, work, 1 + n.first * w, behind)
+    let behind = Shift {
+        more: n.first as u8,
+        less: 1,
+    };
+    put_rows(second, other, work, 1 + n.first * one.width, behind)
 }
 
 // Compares the first rows of two charts, which stand as one table from 1 on; the chain to where they differ is written.
 pub fn match_rows(work: &mut [u8], n: TwoCharts, chain: &mut [u8]) -> Option<Difference>
-    requires { Matchable work.old n.first n.second n.fluents n.characters chain.old }
-    ensures { RowsMatched work.old work.new n.first n.second n.fluents
-        n.characters chain.old chain.new result }
+    requires { of_two (Matchable work.old chain.old) n }
+    ensures { of_two (RowsMatched work.old work.new chain.old chain.new result) n }
 {
-    let nodes = n.first + n.second;
-    let width = n.fluents + n.characters;
-    let t = Table {
-        rows: 1,
-        nodes,
-        fluents: n.fluents,
-        characters: n.characters,
-        width,
-    };
+    let t = Table::at(1, n.first + n.second, n.fluents, n.characters);
     meet_first(work, 0, n.first);
     let (k, fluent) = seek(work, t)?;
     let length = write_chain(work, k, chain);
@@ -81,10 +63,8 @@ pub fn match_charts(
     chain: &mut [u8],
     work: &mut [u8],
 ) -> Option<Difference>
-    requires { Joinable first.now n.first second.now n.second n.fluents n.characters work.old
-        × (chain_room ≤ length chain.old) }
-    ensures { ChartsMatched first.now n.first second.now n.second n.fluents
-        n.characters chain.old chain.new work.old work.new result }
+    requires { of_two (Joinable first.now second.now work.old) n × (chain_room ≤ length chain.old) }
+    ensures { of_two (ChartsMatched first.now second.now chain.old chain.new work.old work.new result) n }
 {
     join(first, second, n, work);
     let found = match_rows(work, n, chain);

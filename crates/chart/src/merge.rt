@@ -8,9 +8,9 @@ use crate::bytes::copy_part;
 use pack::table::Table;
 
 // Writes the classes of the c rows that stand from `from` on, from `to` on.
-pub fn map_part(work: &mut [u8], from: usize, to: usize, k: usize, n: usize, c: usize)
-    requires room { (from + c ≤ to) × (k + n ≤ to) × (to + c ≤ length work.old) }
-    requires below { (d : ℕ) → d < c → get_or work.old (from + d) 0 < n }
+pub fn map_part(work: &mut [u8], from: usize, to: usize, k: usize, c: usize)
+    requires room { (from + c ≤ to) × (to + c ≤ length work.old) }
+    requires below { (d : ℕ) → d < c → k + get_or work.old (from + d) 0 < to }
     ensures { Mapped work.old work.new from to k c }
 {
     for d in 0..c {
@@ -19,13 +19,13 @@ pub fn map_part(work: &mut [u8], from: usize, to: usize, k: usize, n: usize, c: 
 }
 
 // Writes the row from `from` on, its beliefs by class, from `to` on.
-pub fn put_mapped(work: &mut [u8], from: usize, to: usize, k: usize, n: usize, f: usize, c: usize)
-    requires room { (from + f + c ≤ k) × (k + n ≤ to) × (to + f + c ≤ length work.old) }
-    requires below { (d : ℕ) → d < c → get_or work.old (from + f + d) 0 < n }
+pub fn put_mapped(work: &mut [u8], from: usize, to: usize, k: usize, f: usize, c: usize)
+    requires room { (from + f + c ≤ k) × (k ≤ to) × (to + f + c ≤ length work.old) }
+    requires below { (d : ℕ) → d < c → k + get_or work.old (from + f + d) 0 < to }
     ensures { RowPut work.old work.new from to k f c }
 {
     copy_part(work, from, to, f);
-    map_part(work, from + f, to + f, k, n, c)
+    map_part(work, from + f, to + f, k, c)
 }
 
 // Writes row i of a table if its class is new, where `count` classes have been; how many have been then.
@@ -38,15 +38,9 @@ pub fn write_class(work: &mut [u8], t: Table, k: usize, u: usize, i: usize, coun
     if usize::from(work[k + i]) < count {
         return count;
     }
-    put_mapped(
-        work,
-        t.rows + i * t.width,
-        u + count * t.width,
-        k,
-        t.nodes,
-        t.fluents,
-        t.characters,
-    );
+    let from = t.rows + i * t.width;
+    let to = u + count * t.width;
+    put_mapped(work, from, to, k, t.fluents, t.characters);
     count + 1
 }
 

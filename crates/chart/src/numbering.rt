@@ -36,8 +36,7 @@ pub fn name_beliefs(
     requires room { (m + size + size ≤ to) × (to + c ≤ length work.old) × (size < 256) }
     requires numbering { Numbering work.old m size count }
     requires below { (d : ℕ) → d < c → get_or work.old (to + d) 0 < size }
-    ensures { Named work.old work.new m size count result to c
-        (λ d. get_or work.old (to + d) 0) }
+    ensures { Named work.old work.new m size count result to c (λ d. get_or work.old (to + d) 0) }
 {
     let mut met = count;
     for k in 0..c {

@@ -2,6 +2,7 @@
 // a chart's bytes, where a belief is a row's number plus 1.
 ghost use Rattle.std.specs.Prelude.{◌≡◌, ℕ, ◌+◌, ◌*◌, ◌<◌, ◌≤◌, length, set};
 ghost use Rattle.chart.specs.Duties.Numbers.{Sound};
+ghost use Rattle.chart.specs.Duties.OfTable.{of_rows, of_table};
 ghost use Rattle.chart.specs.Duties.Out.{Shifts, PartPut, RowPutIn, RowsPut};
 
 use pack::table::Table;
@@ -28,8 +29,7 @@ pub fn put_part(src: &[u8], from: usize, out: &mut [u8], to: usize, k: usize, s:
 pub fn put_beside(src: &[u8], from: usize, f: usize, c: usize, out: &mut [u8], to: usize, s: Shift)
     requires room { (from + f + c ≤ length src.now) × (to + f + c ≤ length out.old) }
     requires shifts { (d : ℕ) → d < c → Shifts src.now s.more s.less (from + f + d) }
-    ensures { RowPutIn src.now out.old out.new from to f c s.more
-        s.less }
+    ensures { RowPutIn src.now out.old out.new from to f c s.more s.less }
 {
     put_part(src, from, out, to, f, Shift { more: 0, less: 0 });
     put_part(src, from + f, out, to + f, c, s)
@@ -41,8 +41,7 @@ pub fn put_rows(src: &[u8], t: Table, out: &mut [u8], to: usize, s: Shift)
         × (t.rows + t.nodes * t.width ≤ length src.now) × (to + t.nodes * t.width ≤ length out.old) }
     requires shifts { (i d : ℕ) → i < t.nodes → d < t.characters
         → Shifts src.now s.more s.less (t.rows + i * t.width + t.fluents + d) }
-    ensures { RowsPut src.now out.old out.new t.width t.fluents
-        t.characters t.rows to s.more s.less t.nodes }
+    ensures { of_rows (RowsPut src.now out.old out.new) t to s.more s.less t.nodes }
 {
     for i in 0..t.nodes {
         let from = t.rows + i * t.width;
@@ -54,10 +53,9 @@ pub fn put_rows(src: &[u8], t: Table, out: &mut [u8], to: usize, s: Shift)
 pub fn write_chart(work: &[u8], t: Table, out: &mut [u8]) -> usize
     requires room { (t.nodes < 256) × (t.fluents + t.characters ≤ t.width) × (t.width ≤ t.fluents + t.characters)
         × (t.rows + t.nodes * t.width ≤ length work.now) × (1 + t.nodes * t.width ≤ length out.old) }
-    requires sound { Sound work.now t.nodes t.width t.fluents t.characters t.rows }
+    requires sound { of_table (Sound work.now) t }
     ensures { (result ≡ 1 + t.nodes * t.width)
-        × RowsPut work.now (set out.old 0 t.nodes) out.new t.width t.fluents
-        t.characters t.rows 1 1 0 t.nodes }
+        × of_rows (RowsPut work.now (set out.old 0 t.nodes) out.new) t 1 1 0 t.nodes }
 {
     out[0] = t.nodes as u8;
     put_rows(work, t, out, 1, Shift { more: 1, less: 0 });

@@ -6,6 +6,7 @@
 ghost use Rattle.std.specs.Prelude.{◌≡◌, ◌+◌, ◌*◌, ◌<◌, ◌≤◌, length, get_or};
 ghost use Rattle.chart.specs.Duties.Numbers.{Sound};
 ghost use Rattle.chart.specs.Duties.Level.{Agrees, SameByte};
+ghost use Rattle.chart.specs.Duties.OfTable.{of_table};
 ghost use Rattle.chart.specs.Inner.Pairs.{marks_at, met_at, mark_at, Paired, PairsIn, PairMet};
 ghost use Rattle.chart.specs.Inner.Pairs.{FirstMet, Followed, Sought, Ways, Writable, LongWay, WayWritten};
 
@@ -30,19 +31,14 @@ pub fn meet(work: &mut [u8], count: usize, x: usize, y: usize, from: usize, d: u
     }
     work[mark] = 1;
     let a = MET + count * 5;
+    let [high, low] = (from as u16).to_be_bytes();
+    // Five writes are quicker than one copy of an array of five.
     work[a] = x as u8;
     work[a + 1] = y as u8;
-    work[a + 2] = (from / 256) as u8;
-    work[a + 3] = (from % 256) as u8;
+    work[a + 2] = high;
+    work[a + 3] = low;
     work[a + 4] = d as u8;
     count + 1
-}
-
-// The number of two bytes.
-pub fn of_bytes(high: u8, low: u8) -> usize
-    ensures { result ≡ high * 256 + low }
-{
-    (high as usize) * 256 + (low as usize)
 }
 
 // The entry that the one from a on was met from.
@@ -50,7 +46,7 @@ pub fn met_from(work: &[u8], a: usize) -> usize
     requires { a + 5 ≤ length work.now }
     ensures { result ≡ get_or work.now (a + 2) 0 * 256 + get_or work.now (a + 3) 0 }
 {
-    of_bytes(work[a + 2], work[a + 3])
+    usize::from(u16::from_be_bytes([work[a + 2], work[a + 3]]))
 }
 
 // Meets the pair of rows x and y, where none is met yet.
@@ -65,12 +61,9 @@ pub fn meet_first(work: &mut [u8], x: usize, y: usize)
 // Meets the pairs that the characters lead to from that of entry `done`, where `count` have been met; how many are met
 // then.
 pub fn meet_beliefs(work: &mut [u8], t: Table, done: usize, count: usize) -> usize
-    requires paired { Paired work.old t.nodes t.width t.fluents t.characters t.rows marks_at met_at
-        × Sound work.old t.nodes t.width t.fluents t.characters t.rows × (done < count) }
-    requires pairs_in { PairsIn work.old t.nodes t.width t.fluents t.characters t.rows marks_at met_at
-        count done 0 }
-    ensures { Followed work.old work.new t.nodes t.width t.fluents
-        t.characters t.rows marks_at met_at done count result }
+    requires paired { of_table (Paired work.old) t marks_at met_at × of_table (Sound work.old) t × (done < count) }
+    requires pairs_in { of_table (PairsIn work.old) t marks_at met_at count done 0 }
+    ensures { of_table (Followed work.old work.new) t marks_at met_at done count result }
 {
     let e = MET + done * 5;
     let a = t.rows + usize::from(work[e]) * t.width + t.fluents;
@@ -100,14 +93,13 @@ pub fn other_value(work: &[u8], t: Table, e: usize) -> Option<usize>
 // Goes through the pairs in the order met, and meets those that they lead to, up to the first whose rows have other
 // values: its entry, and the first value that is another in them.
 pub fn seek(work: &mut [u8], t: Table) -> Option<(usize, usize)>
-    requires paired { Paired work.old t.nodes t.width t.fluents t.characters t.rows marks_at met_at
-        × Sound work.old t.nodes t.width t.fluents t.characters t.rows }
-    requires pairs_in { PairsIn work.old t.nodes t.width t.fluents t.characters t.rows marks_at met_at 1 0 0 }
-    ensures { Sought work.old work.new t.nodes t.width t.fluents
-        t.characters t.rows marks_at met_at result }
+    requires paired { of_table (Paired work.old) t marks_at met_at × of_table (Sound work.old) t }
+    requires pairs_in { of_table (PairsIn work.old) t marks_at met_at 1 0 0 }
+    ensures { of_table (Sought work.old work.new) t marks_at met_at result }
 {
     let mut count = 1;
     let mut done = 0;
+    // `count` grows as pairs are followed, so that no range has the end.
     while done < count {
         if let Some(fluent) = other_value(work, t, MET + done * 5) {
             return Some((done, fluent));
@@ -125,6 +117,7 @@ pub fn way_length(work: &[u8], e: usize) -> usize
 {
     let mut at = e;
     let mut k = 0;
+    // The way back is followed to the first pair, entry 0.
     while at != 0 {
         at = met_from(work, MET + at * 5);
         k += 1;
@@ -139,9 +132,7 @@ pub fn write_way(work: &[u8], e: usize, k: usize, chain: &mut [u8])
     ensures { WayWritten work.now chain.old chain.new met_at e k }
 {
     let mut at = e;
-    let mut i = k;
-    while at != 0 {
-        i -= 1;
+    for i in (0..k).rev() {
         chain[i] = work[MET + at * 5 + 4];
         at = met_from(work, MET + at * 5);
     }
@@ -150,8 +141,7 @@ pub fn write_way(work: &[u8], e: usize, k: usize, chain: &mut [u8])
 // Writes the chain that leads to entry e; its length.
 pub fn write_chain(work: &[u8], e: usize, chain: &mut [u8]) -> usize
     requires { Writable work.now chain.old met_at e }
-    ensures { LongWay work.now met_at e result
-        × WayWritten work.now chain.old chain.new met_at e result }
+    ensures { LongWay work.now met_at e result × WayWritten work.now chain.old chain.new met_at e result }
 {
     let k = way_length(work, e);
     write_way(work, e, k, chain);

@@ -54,8 +54,7 @@ pub fn alike(work: &[u8], t: Table, k: usize, i: usize, j: usize) -> bool
 // The first of `count` classes whose leading row is alike to row i. No class below row i's old one has such a row.
 pub fn class_of(work: &[u8], t: Table, g: Regions, i: usize, count: usize) -> Option<usize>
     requires { of_rows (Against work.now) t g.classes g.firsts count i }
-    ensures { Found (of_rows (Alike work.now) t g.classes)
-        (first_of work.now g) count i result }
+    ensures { Found (of_rows (Alike work.now) t g.classes) (first_of work.now g) count i result }
 {
     for q in usize::from(work[g.classes + i])..count {
         let j = usize::from(work[g.firsts + q]);
@@ -109,6 +108,7 @@ pub fn partition(work: &mut [u8], t: Table, g: Regions, limit: usize) -> usize
     if limit < count {
         return count;
     }
+    // How many levels it takes is known at the end only.
     while count < t.nodes {
         let next = level(work, t, g);
         if limit < next {

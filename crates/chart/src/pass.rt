@@ -29,6 +29,7 @@ pub fn copy_reachable(work: &mut [u8], s: Table, m: usize, t: usize, root: usize
     let first = number_of(work, m, s.nodes, 0, root);
     let mut count = more(0, first);
     let mut i = 0;
+    // `count` grows as rows are filled, so that no range has the end.
     while i < count {
         count = fill_row(work, s, m, t, i, count);
         i += 1;

@@ -22,19 +22,12 @@ pub fn look(
     work: &mut [u8],
 ) -> u8
     requires { Lookable chart.now nodes fluents characters chain.now fluent work.old }
-    ensures { Looked chart.now nodes fluents characters chain.now fluent
-        work.old work.new result }
+    ensures { Looked chart.now nodes fluents characters chain.now fluent work.old work.new result }
 {
     copy_table(chart, 1, nodes, work, 0, fluents, characters);
-    let t = Table {
-        rows: 1,
-        nodes,
-        fluents,
-        characters,
-        width: fluents + characters,
-    };
+    let t = Table::at(1, nodes, fluents, characters);
     let there = follow(chain, 0, chain.len(), work, t, 0);
-    let value = work[1 + there * (fluents + characters) + fluent];
+    let value = work[t.rows + there * t.width + fluent];
     clear(work, 0, WORK_ROOM);
     value
 }

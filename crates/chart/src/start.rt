@@ -48,9 +48,7 @@ pub fn merge_table(work: &mut [u8], n: usize, w: usize, f: usize, c: usize) -> u
     let t = Table {
         rows: REACHED,
         nodes: reached,
-        fluents: f,
-        characters: c,
-        width: w,
+        ..s
     };
     let regions = Regions {
         level: LEVEL,
@@ -77,21 +75,13 @@ pub fn put_start(
     work: &mut [u8],
 ) -> usize
     requires { Startable pack.now first nodes fluents characters chart.old work.old }
-    ensures { (x : Startable pack.now first nodes fluents characters chart.old
-        work.old)
-        → StartPut characters x.table chart.old chart.new work.old
-        work.new result }
+    ensures { (x : Startable pack.now first nodes fluents characters chart.old work.old)
+        → StartPut characters x.table chart.old chart.new work.old work.new result }
 {
     copy_table(pack, first, nodes, work, 0, fluents, characters);
     let width = fluents + characters;
     let rows = merge_table(work, nodes, width, fluents, characters);
-    let t = Table {
-        rows: MERGED,
-        nodes: rows,
-        fluents,
-        characters,
-        width,
-    };
+    let t = Table::at(MERGED, rows, fluents, characters);
     let length = write_chart(work, t, chart);
     clear(work, 0, WORK_ROOM);
     length

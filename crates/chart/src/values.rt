@@ -1,7 +1,6 @@
 // The first level of the partition: rows of equal values get one class, found by a hash of the values.
 //
-// A row is held against the classes of its hash only. There are 131 hashes, since 2 is a primitive root of that prime,
-// so that no value is lost; nothing is proved of how they spread.
+// A row is held against the classes of its hash only. Nothing is proved of how the hashes spread.
 ghost use Rattle.std.specs.Prelude.{◌≡◌, ◌+◌, ◌<◌, ◌≤◌, length, get_or};
 ghost use Rattle.chart.specs.Duties.Level.{Found, SameValues, Levels};
 ghost use Rattle.chart.specs.Inner.Values.{hash_of, Chain, Chained, Valuable, RowValued, Valued};
@@ -9,6 +8,9 @@ ghost use Rattle.chart.specs.Duties.OfTable.{of_table, of_values, in_regions, fi
 
 use crate::bytes::{digest, same_part};
 use pack::table::Table;
+
+// How many hashes there are: 2 is a primitive root of that prime, so that no value is lost.
+const HASHES: usize = 131;
 
 // Where the classes stand in the work buffer: those of the level that is made, those so far, and the first row of each.
 #[derive(Clone, Copy)]
@@ -23,7 +25,7 @@ pub fn value_hash(work: &[u8], a: usize, f: usize) -> usize
     requires { a + f ≤ length work.now }
     ensures { (result ≡ hash_of work.now a f) × (result < 131) }
 {
-    digest::<2>(work, a, f) % 131
+    digest::<2>(work, a, f) % HASHES
 }
 
 // The class, of `count`, whose leading row has the values of row i. Only those of row i's hash are looked
@@ -40,14 +42,13 @@ pub fn value_class(
     requires { of_values (Chain work.now) t g.level g.firsts i count last }
     ensures { Found (of_values (SameValues work.now) t) (first_of work.now g) count i result }
 {
-    let mut q = last;
-    while 0 < q {
-        let p = q - 1;
+    let mut next = last;
+    while let Some(p) = next.checked_sub(1) {
         let j = usize::from(work[g.firsts + p]);
         if same_part(work, t.rows + j * t.width, t.rows + i * t.width, t.fluents) {
             return Some(p);
         }
-        q = usize::from(work[g.level + p]);
+        next = usize::from(work[g.level + p]);
     }
     None
 }
@@ -64,8 +65,7 @@ pub fn value_row(
 ) -> usize
     requires valuable { in_regions (of_values (Valuable work.old t.nodes) t) g i count }
     requires chained { of_values (Chained work.old heads.old) t g.level g.firsts count }
-    ensures { in_regions (of_values (RowValued work.old work.new heads.new) t)
-        g i count result }
+    ensures { in_regions (of_values (RowValued work.old work.new heads.new) t) g i count result }
 {
     let b = value_hash(work, t.rows + i * t.width, t.fluents);
     let last = heads[b];
@@ -85,7 +85,7 @@ pub fn value_level(work: &mut [u8], t: Table, g: Regions) -> usize
     requires { in_regions (of_table (Levels work.old) t) g }
     ensures { in_regions (of_values (Valued work.old work.new t.nodes) t) g result }
 {
-    let mut heads = [0u8; 131];
+    let mut heads = [0u8; HASHES];
     let mut count = 0;
     for i in 0..t.nodes {
         count = value_row(work, &mut heads, t, g, i, count);

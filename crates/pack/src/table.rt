@@ -1,7 +1,7 @@
 // A table of states in a lent buffer, and where chains lead in it.
-ghost use Rattle.std.specs.Prelude.{◌<◌, ◌+◌, ◌≤◌, length, ◌≡◌, get_or};
+ghost use Rattle.std.specs.Prelude.{◌<◌, ◌+◌, ◌^◌, ◌≤◌, length, ◌≡◌, get_or};
 ghost use Rattle.pack.specs.State.{node, target, walk, Valid};
-ghost use Rattle.pack.specs.Duties.Table.{table_of, TableFits, bytes_at};
+ghost use Rattle.pack.specs.Duties.Table.{table_at, table_of, TableFits, bytes_at};
 
 // Where the rows of a table begin, how many there are, and what each has: values, then beliefs.
 #[derive(Clone, Copy)]
@@ -14,6 +14,20 @@ pub struct Table {
 }
 
 impl Table {
+    // The table of so many rows from a place on, each as wide as its values and beliefs are many.
+    pub fn at(rows: usize, nodes: usize, fluents: usize, characters: usize) -> Table
+        requires { fluents + characters < 2 ^ 64 }
+        ensures { result ≡ table_at rows nodes fluents characters }
+    {
+        Table {
+            rows,
+            nodes,
+            fluents,
+            characters,
+            width: fluents + characters,
+        }
+    }
+
     // The value of fluent f in node n.
     #[inline]
     pub fn value(self, buffer: &[u8], n: usize, f: usize) -> u8

@@ -1,7 +1,8 @@
 -- Pairs of rows in the order met, breadth first. A pair is marked where it was met, and is an entry of five bytes: its
 -- rows, the number of the entry that it was met from, in two bytes, and the character that leads there. Assumes
 -- nothing.
-use Rattle.std.specs.Prelude.{◌≡◌, ◌⊎◌, ◌≢◌, Option, MatchOption, List, [], ◌∷◌, ◌++◌, ℕ, ◌+◌, ◌*◌, ◌<◌, ◌≤◌, get_or, length}
+use Rattle.std.specs.Prelude.{◌≡◌, ◌⊎◌, ◌≢◌, Option, MatchOption, List, [], ◌∷◌, ◌++◌, ℕ, ◌+◌, ◌*◌, ◌<◌, ◌≤◌, get_or}
+use Rattle.std.specs.Prelude.{length}
 use Rattle.pack.specs.Syntax.{Node}
 use Rattle.pack.specs.State.{Valid, meaning}
 use Rattle.pack.specs.Duties.Table.{cells, rows_at, Below, Above}

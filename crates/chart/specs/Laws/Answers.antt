@@ -1,9 +1,8 @@
 -- Start's and Compare's functions are their relations over chains; they depend on what the tables mean alone, and what
 -- Start gives is a table again. Assumes nothing.
 use Rattle.std.specs.Prelude.{ℕ, ◌<◌, ◌≤◌, ◌+◌, ◌-◌, ◌≡◌, ◌↔◌}
-use Rattle.std.proofs.Common.{sym, ◌∙◌, ap, subst, arith}
+use Rattle.std.proofs.Common.{sym, ◌∙◌, ap, subst, arith, List, []}
 use Rattle.std.proofs.Math.Logic.{dite}
-use mathlib.Core.List.{List, []}
 use Rattle.std.proofs.Math.ListN.{length}
 use Rattle.pack.specs.State.{State, Valid, meaning, Closed, nowhere, node, walk, after}
 use Rattle.pack.specs.Syntax.{Node}

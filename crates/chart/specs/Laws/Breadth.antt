@@ -1,15 +1,14 @@
 -- Breadth first over pairs of rows: each pair that a chain leads to is met, and by no later chain, where shorter chains
 -- come first and then those earlier by their numbers. Assumes nothing.
-use Prim.Native.Nat.{ℕ, zero, suc, ◌+◌, ◌<◌, ◌≤◌}
+use Rattle.std.proofs.Common.{ℕ, zero, suc, ◌+◌, ◌<◌, ◌≤◌, ◌∙◌, inr, length-append, lt-ltb, le-ltb, List, [], ◌∷◌, ◌++◌}
+use Rattle.std.proofs.Common.{arith}
 use Rattle.std.specs.Prelude.{◌≡◌, refl, Bool, ◌⊎◌, ◌≢◌, ltb}
 use Rattle.std.proofs.Math.Path.{sym, ap, ap₂, subst, fun_ext}
-use Rattle.std.proofs.Common.{◌∙◌, inr, length-append, lt-ltb, le-ltb}
 use Rattle.std.proofs.Math.Bool.{cond}
 use Rattle.std.proofs.Math.Logic.{inl, ⊎_elim, by_cases}
-use mathlib.Core.List.{List, [], ◌∷◌, ◌++◌, List-discrete}
+use mathlib.Core.List.{List-discrete}
 use Rattle.std.proofs.Math.ListN.{length}
 use Rattle.std.proofs.Math.Decide.{ℕ_discrete, dec_lt, dec_le}
-use native.Mathlib.Omega.{arith}
 use Rattle.pack.specs.Syntax.{Node}
 use Rattle.pack.specs.State.{Valid, node, target, meaning, walk}
 use Rattle.pack.specs.Laws.Table.{finds_walk}

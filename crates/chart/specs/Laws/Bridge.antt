@@ -2,9 +2,8 @@
 -- nothing.
 use Rattle.std.specs.Prelude.{ℕ, ◌<◌, ◌≡◌, ◌↔◌, length}
 use Rattle.std.proofs.Math.Path.{refl, fun_ext}
-use Rattle.std.proofs.Common.{sym, ◌∙◌, ap, arith}
+use Rattle.std.proofs.Common.{sym, ◌∙◌, ap, arith, List, [], ◌∷◌}
 use Rattle.std.proofs.Math.Logic.Iff
-use mathlib.Core.List.{List, [], ◌∷◌}
 use Rattle.chart.specs.Laws.Moore as moore
 use Rattle.pack.specs.State.{State, node, meaning, target, Closed}
 use Rattle.pack.specs.Syntax.{Node}

@@ -1,8 +1,7 @@
 -- Bytes and rows of a buffer: their number, each of them, one more, and the same where the bytes are. Assumes nothing.
-use Rattle.std.specs.Prelude.{◌≡◌, List, [], ◌∷◌, ◌++◌, ℕ, zero, suc, ◌+◌, ◌*◌, ◌-◌, ◌<◌, ◌≤◌, length, set}
+use Rattle.std.specs.Prelude.{◌≡◌, List, [], ◌∷◌, ◌++◌, ℕ, zero, suc, ◌+◌, ◌*◌, ◌-◌, ◌<◌, ◌≤◌, length}
 use Rattle.std.proofs.Math.Path.{refl}
-use Rattle.std.proofs.Common.{◌∙◌, ap, ap₂, suc-mul, mul-le-mul_left, mul-le-mul_right, arith, get_or-set_same}
-use Rattle.std.proofs.Common.{get_or-set_other, below_more}
+use Rattle.std.proofs.Common.{◌∙◌, ap, ap₂, suc-mul, mul-le-mul_left, mul-le-mul_right, arith}
 use Rattle.std.proofs.Math.Logic.{by_cases}
 use Rattle.std.proofs.Math.Numerals.{add-one}
 use Rattle.std.proofs.Math.Decide.{dec_lt}
@@ -10,7 +9,7 @@ use Rattle.std.proofs.Math.ListN.{get_or}
 use Rattle.pack.specs.State.{node, nowhere}
 use Rattle.pack.specs.Laws.Rows.{upto-length, upto-at}
 use Rattle.pack.specs.Duties.Table.{upto, cells, row_at, rows_at}
-use Rattle.chart.specs.Duties.Put.{Cleared, Apart, PartCopied}
+use Rattle.chart.specs.Duties.Put.{Cleared, PartCopied}
 
 upto_same : {A : Type 0} (g h : ℕ → A) (n : ℕ) → ((i : ℕ) → i < n → g i ≡ h i) → upto g n ≡ upto h n
 unfolding upto
@@ -76,19 +75,6 @@ rows_same was now w f c a b n wide h = upto_same (λ i. row_at now f c (b + i * 
           j;
     })
 
--- Loops that write
-pub cleared_none : (was : List ℕ) (a : ℕ) → Cleared was was a 0
-cleared_none was a = record { clear = λ q h. absurd (omega arith); low = λ p h. refl; high = λ p h. refl }
-
-pub cleared_more : (was now : List ℕ) (a k : ℕ) → Cleared was now a k → a + k < length now
-    → Cleared was (set now (a + k) 0) a (k + 1)
-cleared_more was now a k c l = record {
-  clear = below_more (λ q. get_or (set now (a + k) 0) (a + q) 0 ≡ 0) k
-      (λ q h. get_or-set_other now (a + k) (a + q) 0 0 (omega arith) ∙ c.clear q h) (get_or-set_same now (a + k) 0 0 l);
-  low = λ p h. get_or-set_other now (a + k) p 0 0 (omega arith) ∙ c.low p h;
-  high = λ p h. get_or-set_other now (a + k) p 0 0 (omega arith) ∙ c.high p (omega arith);
-}
-
 -- bytes that are 0 need no clearing
 pub cleared_already : (was : List ℕ) (a k : ℕ) → ((q : ℕ) → q < k → get_or was (a + q) 0 ≡ 0) → Cleared was was a k
 cleared_already was a k h = record { clear = h; low = λ p l. refl; high = λ p l. refl }
@@ -112,17 +98,3 @@ part_behind {was} {now} {a} {b} f c p d l =
     let i : b + f + d ≡ b + (f + d) = omega arith in
     let o : a + (f + d) ≡ a + f + d = omega arith in
     ap (λ (q : ℕ). get_or now q 0) i ∙ p.part (f + d) (omega arith) ∙ ap (λ (q : ℕ). get_or was q 0) o
-
-pub part_none : (was : List ℕ) (a b : ℕ) → PartCopied was was a b 0
-part_none was a b = record { part = λ q h. absurd (omega arith); low = λ p h. refl; high = λ p h. refl }
-
-pub part_more : (was now : List ℕ) (a b k : ℕ) → PartCopied was now a b k → b + k < length now → Apart a b (k + 1)
-    → PartCopied was (set now (b + k) (get_or now (a + k) 0)) a b (k + 1)
-part_more was now a b k c l apart = let v = get_or now (a + k) 0 in record {
-  part = below_more (λ q. get_or (set now (b + k) v) (b + q) 0 ≡ get_or was (a + q) 0) k
-      (λ q h. get_or-set_other now (b + k) (b + q) v 0 (omega arith) ∙ c.part q h)
-      (get_or-set_same now (b + k) v 0 l
-      ∙ by_cases (dec_lt (a + k) b) (c.low (a + k)) (λ h. c.high (a + k) (omega (arith, apart))));
-  low = λ p h. get_or-set_other now (b + k) p v 0 (omega arith) ∙ c.low p h;
-  high = λ p h. get_or-set_other now (b + k) p v 0 (omega arith) ∙ c.high p (omega arith);
-}

@@ -1,13 +1,11 @@
 -- Whatever state a table means has a written chart: its rows that are reached, in order, one for each meaning. So it is
 -- decided how many states its chains lead to. Assumes nothing.
-use Prim.Native.Nat.{ℕ, zero, suc, ◌-◌, ◌<◌, ◌≤◌, min}
+use Rattle.std.proofs.Common.{ℕ, zero, suc, ◌-◌, ◌<◌, ◌≤◌, min, ◌∙◌, subst, ⊎_elim, eq-or-lt_of_le, le_of_suc-le-suc}
+use Rattle.std.proofs.Common.{List, map, arith}
 use Rattle.std.specs.Prelude.{◌≡◌, ◌↔◌, length}
 use Rattle.std.proofs.Math.Path.{refl, sym, ap}
-use Rattle.std.proofs.Common.{◌∙◌, subst, ⊎_elim, eq-or-lt_of_le, le_of_suc-le-suc}
 use Rattle.std.proofs.Math.Logic.{by_cases}
-use mathlib.Core.List.{List, map}
 use Rattle.std.proofs.Math.Decide.{dec_lt, dec_le, map_dec}
-use native.Mathlib.Omega.{arith}
 use Rattle.chart.specs.Laws.Moore as moore
 use Rattle.pack.specs.State.{State, node, nowhere, meaning, target, Closed}
 use Rattle.pack.specs.Syntax.{Node}

@@ -2,9 +2,8 @@
 -- the pack and the tables that were read. Assumes nothing.
 use Rattle.std.specs.Prelude.{ℕ, ◌<◌, ◌≤◌, ◌≡◌, Bool, ◌||◌, ltb, leb, Result, Ok, Err}
 use Rattle.std.proofs.Math.Path.{refl, ap, ap₂, subst}
-use Rattle.std.proofs.Common.{sym, ◌∙◌, arith, lt-ltb, le-leb}
+use Rattle.std.proofs.Common.{sym, ◌∙◌, arith, lt-ltb, le-leb, List, [], ◌∷◌, map}
 use Rattle.std.proofs.Math.Bool.{true, false}
-use mathlib.Core.List.{List, [], ◌∷◌, map}
 use Rattle.std.proofs.Math.ListN.{length, get_or}
 use Rattle.pack.specs.Syntax.{Theory, Node, Pack}
 use Rattle.pack.specs.Reading.{done, many, Reply, gives, refuses, with, told, pick, whole}

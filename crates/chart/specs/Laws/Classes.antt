@@ -1,10 +1,9 @@
 -- The classes of a decidable equivalence on the numbers below N, counted by their first members. Assumes nothing.
 use Rattle.std.specs.Prelude.{◌≡◌, refl, ℕ, suc, ◌≤◌, ◌<◌}
 use Rattle.std.proofs.Math.Path.{sym}
-use Rattle.std.proofs.Common.{◌∙◌, subst}
+use Rattle.std.proofs.Common.{◌∙◌, subst, arith}
 use Rattle.std.proofs.Math.Logic.{⊎_elim, by_cases}
 use Rattle.std.proofs.Math.Decide.{ℕ_discrete, dec_lt}
-use native.Mathlib.Omega.{arith}
 use Rattle.chart.specs.Laws.Count.{count, count_eq, count_full, count_one}
 use Rattle.chart.specs.Laws.Count.{count_inj, all, count_all, least, turn}
 

@@ -1,15 +1,13 @@
 -- Two states that tables mean compared: the same, or the shortest chain to a difference, the earliest of those, and the
 -- lowest fluent there. Assumes nothing.
 use Rattle.std.specs.Prelude.{ℕ, ◌+◌, ◌-◌, ◌<◌, ◌≤◌, ◌≡◌, refl, cond, ◌≢◌, get_or, ltb}
-use Rattle.std.proofs.Common.{sym, ◌∙◌, inl, inr, ⊎_elim, ext_get_or}
+use Rattle.std.proofs.Common.{sym, ◌∙◌, inl, inr, ⊎_elim, ext_get_or, List, [], ◌∷◌, lt-ltb, le-ltb, arith}
 use Rattle.std.proofs.Math.Path.{ap, subst, fun_ext}
 use Rattle.std.proofs.Math.Logic.{by_cases}
 use Rattle.std.proofs.Math.Logic.Dec
-use mathlib.Core.List.{List, [], ◌∷◌, List-discrete}
+use mathlib.Core.List.{List-discrete}
 use Rattle.std.proofs.Math.ListN.{length}
-use borrow.Author.Tests.{lt-ltb, le-ltb}
 use Rattle.std.proofs.Math.Decide.{ℕ_discrete, dec_lt}
-use native.Mathlib.Omega.{arith}
 use Rattle.chart.specs.Laws.Moore as moore
 use Rattle.pack.specs.State.{State, Valid, node, meaning, target, Closed}
 use Rattle.pack.specs.Syntax.{Node}

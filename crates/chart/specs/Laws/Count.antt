@@ -1,11 +1,11 @@
 -- How many of the numbers below N have a decidable property, what two such counts say of one another, and decisions
 -- over the numbers below n. Assumes nothing.
 use Rattle.std.specs.Prelude.{◌≡◌, refl, ◌⊎◌, ◌≢◌}
-use Rattle.std.proofs.Common.{sym, ap, inl, inr, eq-or-lt_of_le, le_of_suc-le-suc, le_trans, arith}
+use Rattle.std.proofs.Common.{sym, ap, inl, inr, eq-or-lt_of_le, le_of_suc-le-suc, le_trans, arith, ℕ, zero, suc, ◌≤◌}
+use Rattle.std.proofs.Common.{◌<◌, suc-le-suc, zero-le}
 use Rattle.std.proofs.Math.Path.{subst}
 use Rattle.std.proofs.Math.Logic.{⊎_elim, by_cases}
 use Rattle.std.proofs.Math.Logic.Dec
-use Prim.Native.Nat.{ℕ, zero, suc, ◌≤◌, ◌<◌, suc-le-suc, zero-le}
 use Rattle.std.proofs.Math.Decide.{ℕ_discrete, dec_le, dec_lt}
 
 tick : {P : Type 0} → Dec P → ℕ → ℕ

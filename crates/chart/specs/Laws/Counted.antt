@@ -1,13 +1,12 @@
 -- How many states the chains lead to, read off a table. Assumes nothing.
-use Prim.Native.Nat.{ℕ, zero, suc, ◌<◌, ◌≤◌}
+use Rattle.std.proofs.Common.{ℕ, zero, suc, ◌<◌, ◌≤◌, ◌∙◌, ⊎_elim, eq-or-lt_of_le, le_of_suc-le-suc, List, [], ◌∷◌}
+use Rattle.std.proofs.Common.{◌++◌, arith}
 use Rattle.std.specs.Prelude.{◌≡◌, refl, ◌↔◌, get_or}
 use Rattle.std.proofs.Math.Path.{sym, ap}
-use Rattle.std.proofs.Common.{◌∙◌, ⊎_elim, eq-or-lt_of_le, le_of_suc-le-suc}
 use Rattle.std.proofs.Math.Logic.{by_cases}
-use mathlib.Core.List.{List, [], ◌∷◌, ◌++◌, Memᴰ}
+use mathlib.Core.List.{Memᴰ}
 use Rattle.std.proofs.Math.ListN.{length}
 use Rattle.std.proofs.Math.Decide.{dec_lt}
-use native.Mathlib.Omega.{arith}
 use Rattle.pack.specs.State.{State, after, Valid, meaning, target, Closed, walk}
 use Rattle.pack.specs.Syntax.{Node}
 use Rattle.pack.specs.Laws.Table.{after-walk, walk_inside}

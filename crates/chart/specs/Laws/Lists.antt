@@ -1,7 +1,7 @@
 -- Lists by their places, and membership. Assumes nothing.
 use Rattle.std.specs.Prelude.{ℕ, zero, suc, ◌<◌, ◌≡◌, refl, get_or, length}
-use Rattle.std.proofs.Common.{sym, ◌∙◌, ap, ⊎_elim, eq-or-lt_of_le, le_of_suc-le-suc, arith}
-use mathlib.Core.List.{List, [], ◌∷◌, map, Memᴰ}
+use Rattle.std.proofs.Common.{sym, ◌∙◌, ap, ⊎_elim, eq-or-lt_of_le, le_of_suc-le-suc, arith, List, [], ◌∷◌, map}
+use mathlib.Core.List.{Memᴰ}
 use Rattle.std.proofs.Math.Bridge.{le_prop}
 
 -- a list by its places

@@ -12,7 +12,7 @@ use Rattle.pack.specs.Laws.Rows.{cells_at, value-at}
 use Rattle.chart.specs.Call.{work_room, cleared}
 use Rattle.chart.specs.Duties.Put.{Cleared}
 use Rattle.chart.specs.Duties.Look.{NodesRead, Lookable, Looked}
-use Rattle.chart.specs.Laws.Cells.{cells-length, row_in}
+use Rattle.chart.specs.Laws.Cells.{cells-length}
 use Rattle.chart.specs.Laws.ChartBytes.{front_back}
 use Rattle.chart.specs.Laws.LoadedNodes.{read_small, read_same, read_fits}
 
@@ -62,9 +62,6 @@ module _ {chart : List ℕ} {nodes f c : ℕ} {chain : List ℕ} {fluent : ℕ} 
 
     module _ {there : ℕ} (at : there ≡ walk (table_of look_table mid) 0 (bytes_at chain 0 (length chain)))
         (in_table : there < nodes) where
-      pub look_in : (1 + there * (f + c)) + fluent < 961
-      look_in = omega (arith, read_small p.read, row_in nodes (f + c) there in_table, p.there)
-
       look_value : (t : List Node) → NodesRead chart nodes f c t
           → get_or mid ((1 + there * (f + c)) + fluent) 0 ≡ get_or (meaning c t 0 chain) fluent 0
       look_value t r =

@@ -1,14 +1,12 @@
 -- One row for each class of rows that mean the same, classes numbered by first row: of an ordered table that is the
 -- written chart. Assumes nothing.
-use Prim.Native.Nat.{ℕ, zero, suc, ◌<◌, ◌≤◌, max}
+use Rattle.std.proofs.Common.{ℕ, zero, suc, ◌<◌, ◌≤◌, max, ◌∙◌, subst, ⊎_elim, eq-or-lt_of_le, le_of_suc-le-suc, List}
+use Rattle.std.proofs.Common.{[], ◌∷◌, map, arith}
 use Rattle.std.specs.Prelude.{◌≡◌, refl, ◌↔◌, get_or}
 use Rattle.std.proofs.Math.Path.{sym, ap, ap₂, fun_ext}
-use Rattle.std.proofs.Common.{◌∙◌, subst, ⊎_elim, eq-or-lt_of_le, le_of_suc-le-suc}
 use Rattle.std.proofs.Math.Logic.{by_cases}
-use mathlib.Core.List.{List, [], ◌∷◌, map}
 use Rattle.std.proofs.Math.ListN.{length, length-map}
 use Rattle.std.proofs.Math.Decide.{dec_lt}
-use native.Mathlib.Omega.{arith}
 use Rattle.pack.specs.State.{State, belief, node, nowhere, meaning, target}
 use Rattle.pack.specs.Syntax.{Node}
 use Rattle.pack.specs.Laws.Table.{belief_in, belief_out}

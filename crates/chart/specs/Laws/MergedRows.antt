@@ -1,15 +1,12 @@
 -- Writing the merged table: beliefs by class, a row, the rows of the new classes. Assumes nothing.
-use Rattle.std.specs.Prelude.{◌≡◌, refl, set}
-use Rattle.std.proofs.Common.{sym, ◌∙◌, suc-mul, arith, get_or-set_same, get_or-set_other, ext_get_or}
+use Rattle.std.specs.Prelude.{◌≡◌, refl}
+use Rattle.std.proofs.Common.{sym, ◌∙◌, suc-mul, arith, ext_get_or, List, map, ℕ, ◌+◌, ◌*◌, ◌<◌, ◌≤◌, below_more}
 use Rattle.std.proofs.Math.Path.{ap, subst}
 use Rattle.std.proofs.Math.Logic.{by_cases}
-use mathlib.Core.List.{List, map}
-use Prim.Native.Nat.{ℕ, ◌+◌, ◌*◌, ◌<◌, ◌≤◌}
 use Rattle.std.proofs.Math.Decide.{dec_lt}
 use Rattle.std.proofs.Math.Numerals.{add-one}
 use Rattle.std.proofs.Math.ListN.{length, get_or}
 use Rattle.std.proofs.lemmas.List.{length-map}
-use borrow.Author.Count.{below_more}
 use Rattle.pack.specs.Syntax.{Node}
 use Rattle.pack.specs.State.{node, meaning}
 use Rattle.chart.specs.Chart.{Ordered, Written}
@@ -18,35 +15,9 @@ use Rattle.chart.specs.Laws.Merged.{classes, get_d_map, Numbered, no_more, all_a
 use Rattle.pack.specs.Duties.Table.{cells, rows_at, Below, Above}
 use Rattle.chart.specs.Duties.Put.{PartCopied}
 use Rattle.chart.specs.Duties.Numbers.{Sound}
-use Rattle.chart.specs.Duties.Classed.{class_at, Mapped, RowPut, ClassPut, Room, Classed, WrittenOut}
+use Rattle.chart.specs.Duties.Classed.{class_at, ClassPut, Room, Classed, WrittenOut}
 use Rattle.pack.specs.Laws.Rows.{cells_at, rows_length}
 use Rattle.chart.specs.Laws.Cells.{cells-length, cells_same, row_in, rows_node, rows_same}
-
-pub mapped_none : (was : List ℕ) (from to k : ℕ) → Mapped was was from to k 0
-mapped_none was from to k = record { part = λ d l. absurd (omega arith); low = λ p l. refl; high = λ p l. refl }
-
-pub mapped_more : {was now : List ℕ} {from to k d : ℕ} (b v : ℕ) → Mapped was now from to k d
-    → b ≡ get_or now (from + d) 0 → v ≡ get_or now (k + b) 0 → from + d < to → k + b < to → to + d < length now
-    → Mapped was (set now (to + d) v) from to k (d + 1)
-mapped_more {was} {now} {from} {to} {k} {d} b v p eb ev lb lv fits = record {
-  part = below_more (λ q. get_or (set now (to + d) v) (to + q) 0 ≡ class_at was k (get_or was (from + q) 0)) d
-      (λ q l. get_or-set_other now (to + d) (to + q) v 0 (omega arith) ∙ p.part q l)
-      (get_or-set_same now (to + d) v 0 fits ∙ ev ∙ p.low (k + b) lv ∙ ap (class_at was k) (eb ∙ p.low (from + d) lb));
-  low = λ q l. get_or-set_other now (to + d) q v 0 (omega arith) ∙ p.low q l;
-  high = λ q l. get_or-set_other now (to + d) q v 0 (omega arith) ∙ p.high q (omega arith);
-}
-
-pub row_put : {was mid now : List ℕ} {from to k f c : ℕ} (n : ℕ) → PartCopied was mid from to f
-    → Mapped mid now (from + f) (to + f) k c → from + f + c ≤ k → k + n ≤ to
-    → ((d : ℕ) → d < c → get_or was (from + f + d) 0 < n) → RowPut was now from to k f c
-row_put {was} {mid} {now} {from} {to} {k} {f} {c} n p m a b below = record {
-  values = λ q l. m.low (to + q) (omega arith) ∙ p.part q l;
-  beliefs = λ d l.
-      m.part d l ∙ ap (class_at mid k) (p.low (from + f + d) (omega arith))
-      ∙ p.low (k + get_or was (from + f + d) 0) (omega (arith, below d l));
-  low = λ q l. m.low q (omega arith) ∙ p.low q l;
-  high = λ q l. m.high q l ∙ p.high q (omega arith);
-}
 
 -- one row more
 times_next : (n w : ℕ) → (n + 1) * w ≡ n * w + w

@@ -2,14 +2,13 @@
 -- Assumes nothing.
 use Rattle.std.specs.Prelude.{◌≡◌, refl, ◌⊎◌, ◌↔◌, ◌≢◌, cond, length, ltb}
 use Rattle.std.proofs.Math.Path.{sym, fun_ext}
-use Rattle.std.proofs.Common.{◌∙◌, ap, ⊎_elim, le_of_suc-le-suc, le_trans, arith}
+use Rattle.std.proofs.Common.{◌∙◌, ap, ⊎_elim, le_of_suc-le-suc, le_trans, arith, List, [], ◌∷◌, ℕ, zero, suc, ◌-◌, ◌≤◌}
+use Rattle.std.proofs.Common.{◌<◌, suc-le-suc, lt-ltb, le-ltb}
 use Rattle.std.proofs.Math.Logic.{inl, inr, by_cases}
 use Rattle.std.proofs.Math.Logic.Iff
-use mathlib.Core.List.{List, [], ◌∷◌, List-discrete}
-use Prim.Native.Nat.{ℕ, zero, suc, ◌-◌, ◌≤◌, ◌<◌, suc-le-suc}
+use mathlib.Core.List.{List-discrete}
 use Rattle.std.proofs.Math.Nat.{zero-lt-suc}
 use Rattle.std.proofs.Math.Decide.{ℕ_discrete, dec_lt, dec_le}
-use borrow.Author.Tests.{lt-ltb, le-ltb}
 use Rattle.chart.specs.Laws.Classes.{Sorts, by_key, classes_of, classes_pos, classes-full}
 use Rattle.chart.specs.Laws.Classes.{classes_eq, classes_below, classes_used}
 use Rattle.chart.specs.Laws.Count.{least}

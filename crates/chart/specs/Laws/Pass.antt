@@ -1,14 +1,12 @@
 -- The pass that numbers on demand, breadth first: row after row, each belief a member numbered before or the next. When
 -- no row is left it is a table as `built` and `ordered_reached` ask for. Assumes nothing.
-use Prim.Native.Nat.{ℕ, zero, suc, ◌<◌, ◌≤◌}
+use Rattle.std.proofs.Common.{ℕ, zero, suc, ◌<◌, ◌≤◌, sym, ◌∙◌, eq-or-lt_of_le, le_of_suc-le-suc, List, [], ◌∷◌, ◌++◌}
+use Rattle.std.proofs.Common.{arith}
 use Rattle.std.specs.Prelude.{◌≡◌, get_or}
 use Rattle.std.proofs.Math.Path.{refl, ap, ap₂, subst}
-use Rattle.std.proofs.Common.{sym, ◌∙◌, eq-or-lt_of_le, le_of_suc-le-suc}
 use Rattle.std.proofs.Math.Logic.{⊎_elim}
-use mathlib.Core.List.{List, [], ◌∷◌, ◌++◌}
 use Rattle.std.proofs.Math.ListN.{length, length-append, get_or-append}
 use Rattle.std.proofs.Math.Seq.{get_or-append_seam}
-use native.Mathlib.Omega.{arith}
 use Rattle.pack.specs.State.{node, nowhere, target, Closed}
 use Rattle.pack.specs.Syntax.{Node}
 use Rattle.chart.specs.Chart.{meets, Fresh, met, Ordered}

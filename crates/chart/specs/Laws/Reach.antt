@@ -1,12 +1,11 @@
 -- The rows of a table that row 0 reaches, numbered breadth first: every table's state has an ordered table. Assumes
 -- nothing.
 use Rattle.std.specs.Prelude.{ℕ, zero, suc, ◌+◌, ◌<◌, ◌≤◌, max, ◌≡◌, refl, ◌≢◌, List, [], ◌∷◌, ◌++◌, length}
-use Rattle.std.proofs.Common.{sym, ◌∙◌, ap, ap₂, subst, ⊎_elim, length-append, eq-or-lt_of_le, le_of_suc-le-suc}
+use Rattle.std.proofs.Common.{sym, ◌∙◌, ap, ap₂, subst, ⊎_elim, length-append, eq-or-lt_of_le, le_of_suc-le-suc, arith}
 use Rattle.std.proofs.Math.Logic.{by_cases}
 use Rattle.std.proofs.Math.ListN.{get_or, get_or-append}
 use Rattle.std.proofs.Math.Seq.{get_or-append_seam}
 use Rattle.std.proofs.Math.Decide.{ℕ_discrete, dec_lt}
-use native.Mathlib.Omega.{arith}
 use Rattle.pack.specs.State.{node, nowhere, meaning, target, Closed}
 use Rattle.pack.specs.Syntax.{Node}
 use Rattle.chart.specs.Chart.{meets, Fresh, met, Ordered}

@@ -1,8 +1,7 @@
 -- What the replies of Start, Query and Compare say where the checks are passed. Assumes nothing.
 use Rattle.std.specs.Prelude.{ℕ, ◌<◌, ◌≤◌, ◌≡◌, Bool, true, ◌&&◌, ◌↔◌, length, get_or}
 use Rattle.std.proofs.Math.Path.{refl, ap}
-use Rattle.std.proofs.Common.{sym, ◌∙◌, arith, le-leb, lt-ltb}
-use mathlib.Core.List.{List, [], ◌∷◌}
+use Rattle.std.proofs.Common.{sym, ◌∙◌, arith, le-leb, lt-ltb, List, [], ◌∷◌}
 use Rattle.std.proofs.Math.Dec.{ltb}
 use Rattle.pack.specs.Syntax.{Theory, Node, Pack, fluents}
 use Rattle.pack.specs.State.{State, Valid, meaning}

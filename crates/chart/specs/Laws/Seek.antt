@@ -1,11 +1,8 @@
 -- The shortest list with a decidable property, then the earliest. Assumes nothing.
-use Prim.Native.Nat.{ℕ, zero, suc, ◌<◌, ◌≤◌}
+use Rattle.std.proofs.Common.{ℕ, zero, suc, ◌<◌, ◌≤◌, ◌∙◌, ap, subst, inl, inr, ⊎_elim, List, [], ◌∷◌, arith}
 use Rattle.std.specs.Prelude.{◌≡◌, refl, ◌⊎◌, length}
-use Rattle.std.proofs.Common.{◌∙◌, ap, subst, inl, inr, ⊎_elim}
 use Rattle.std.proofs.Math.Logic.{by_cases}
-use mathlib.Core.List.{List, [], ◌∷◌}
 use Rattle.std.proofs.Math.Decide.{dec_le}
-use native.Mathlib.Omega.{arith}
 use Rattle.pack.specs.State.{Valid}
 use Rattle.chart.specs.Earliest.{Before, Earliest}
 use Rattle.chart.specs.Laws.Count.{least}

@@ -1,13 +1,11 @@
 -- A state has one written chart, and its rows are the states reached by beliefs. Assumes nothing.
-use Prim.Native.Nat.{ℕ, zero, suc, ◌<◌, ◌≤◌, max}
+use Rattle.std.proofs.Common.{ℕ, zero, suc, ◌<◌, ◌≤◌, max, ◌∙◌, inl, inr, ext_get_or, eq-or-lt_of_le, le_of_suc-le-suc}
+use Rattle.std.proofs.Common.{List, [], ◌∷◌, arith}
 use Rattle.std.specs.Prelude.{◌≡◌, ◌⊎◌, get_or}
 use Rattle.std.proofs.Math.Path.{refl, sym, ap, ap₂, subst}
-use Rattle.std.proofs.Common.{◌∙◌, inl, inr, ext_get_or, eq-or-lt_of_le, le_of_suc-le-suc}
 use Rattle.std.proofs.Math.Logic.{by_cases, ⊎_elim}
-use mathlib.Core.List.{List, [], ◌∷◌}
 use Rattle.std.proofs.Math.ListN.{length}
 use Rattle.std.proofs.Math.Decide.{dec_lt}
-use native.Mathlib.Omega.{arith}
 use Rattle.pack.specs.State.{State, belief, node, nowhere, meaning, target}
 use Rattle.pack.specs.Syntax.{Node}
 use Rattle.pack.specs.Laws.Table.{belief_in}

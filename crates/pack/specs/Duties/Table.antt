@@ -22,6 +22,17 @@ row_at bytes f c a = record { values = cells bytes a f; beliefs = cells bytes (a
 unfoldable pub rows_at : List ℕ → (w f c a n : ℕ) → List Node
 rows_at bytes w f c a n = upto (λ i. row_at bytes f c (a + i * w)) n
 
+-- the table of so many rows from a place on, of so many values and beliefs each
+abbrev pub table_at : (rows nodes fluents characters : ℕ) → Table
+table_at rows nodes fluents characters =
+    record {
+      rows = rows;
+      nodes = nodes;
+      fluents = fluents;
+      characters = characters;
+      width = fluents + characters;
+    }
+
 -- the nodes that a table in a buffer has
 abbrev pub table_of : Table → List ℕ → List Node
 table_of t buffer = rows_at buffer t.width t.fluents t.characters t.rows t.nodes

@@ -1,16 +1,9 @@
 -- The characters below d are followed. Assumes nothing.
-use mathlib.Core.Path.{sym}
-use Prim.Native.Nat.{◌<◌}
-use native.Mathlib.Omega.{arith}
+use Rattle.std.proofs.Common.{sym, ◌<◌, arith}
 use Rattle.chart.specs.Laws.Cells.{row_in}
-use Rattle.chart.proofs.MetPairs.{entries_most, follows_start, follows_left, follows_right, follows_meet, follows_more, follows_all}
+use Rattle.chart.proofs.MetPairs.{entries_most, follows_left, follows_right, follows_meet, follows_more}
 use Rattle.chart.proofs.pairs.meet_beliefs.Goals as goal
-use Rattle.chart.proofs.pairs.meet_beliefs.Goals.{After-slice_known-1, After-from, After-from-2}
-
--- the entries end within the buffer
-few : (c : After-slice_known-1) → c.args.done < 4096
-few c =
-    omega (arith, entries_most c.requires.paired.0.few c.requires.pairs_in, c.requires.paired.2)
+use Rattle.chart.proofs.pairs.meet_beliefs.Goals.{After-from, After-from-2}
 
 -- the rows of entry `done` are there
 left_in : (c : After-from) →
@@ -18,27 +11,14 @@ left_in : (c : After-from) →
 left_in c =
     omega (arith, c.from.ensures, (c.requires.pairs_in.inside _ c.requires.paired.2).0)
 
-right-in : (c : After-from-2) →
-    c.from-2.result < c.args.t.nodes
-right-in c =
-    omega (arith, c.from-2.ensures, (c.requires.pairs_in.inside _ c.requires.paired.2).1)
-
 pub overflow_mul-e : goal.overflow_mul-e
-overflow_mul-e c = omega (arith, few c)
+overflow_mul-e c = omega (arith, entries_most c.requires.paired.0.few c.requires.pairs_in)
 
 pub overflow_add-e : goal.overflow_add-e
-overflow_add-e c = omega (arith, few c, c.requires.paired.0, c.well_formed)
+overflow_add-e c = omega (arith, entries_most c.requires.paired.0.few c.requires.pairs_in, c.requires.paired.0, c.well_formed)
 
 pub bounds-work-e : goal.bounds-work-e
-bounds-work-e c = omega (arith, few (goal.at.bounds-work-e c).After-slice_known-1, c.requires.paired.0)
-
-pub overflow_mul-a : goal.overflow_mul-a
-overflow_mul-a c =
-    omega (arith, row_in _ c.args.t.width _ (left_in (goal.at.overflow_mul-a c).After-from), c.requires.paired.0, c.well_formed)
-
-pub overflow_add-a : goal.overflow_add-a
-overflow_add-a c =
-    omega (arith, row_in _ c.args.t.width _ (left_in (goal.at.overflow_add-a c).After-from), c.requires.paired.0, c.well_formed)
+bounds-work-e c = omega (arith, entries_most c.requires.paired.0.few c.requires.pairs_in, c.requires.paired.0)
 
 pub overflow_add-a-2 : goal.overflow_add-a-2
 overflow_add-a-2 c =
@@ -46,26 +26,11 @@ overflow_add-a-2 c =
 
 pub overflow_add-e-2 : goal.overflow_add-e-2
 overflow_add-e-2 c =
-    omega (arith, few (goal.at.overflow_add-e-2 c).After-slice_known-1, c.requires.paired.0, c.well_formed)
+    omega (arith, entries_most c.requires.paired.0.few c.requires.pairs_in, c.requires.paired.0, c.well_formed)
 
 pub bounds-work-e-2 : goal.bounds-work-e-2
 bounds-work-e-2 c =
-    omega (arith, few (goal.at.bounds-work-e-2 c).After-slice_known-1, c.requires.paired.0)
-
-pub overflow_mul-b : goal.overflow_mul-b
-overflow_mul-b c =
-    omega (arith, row_in _ c.args.t.width _ (right-in (goal.at.overflow_mul-b c).After-from-2), c.requires.paired.0, c.well_formed)
-
-pub overflow_add-b : goal.overflow_add-b
-overflow_add-b c =
-    omega (arith, row_in _ c.args.t.width _ (right-in (goal.at.overflow_add-b c).After-from-2), c.requires.paired.0, c.well_formed)
-
-pub overflow_add-b-2 : goal.overflow_add-b-2
-overflow_add-b-2 c =
-    omega (arith, row_in _ c.args.t.width _ (right-in (goal.at.overflow_add-b-2 c).After-from-2), c.requires.paired.0, c.well_formed)
-
-pub loop-d-init : goal.loop-d-init
-loop-d-init c = follows_start c.requires.paired.2 c.requires.pairs_in (sym c.from.ensures) (sym c.from-2.ensures)
+    omega (arith, entries_most c.requires.paired.0.few c.requires.pairs_in, c.requires.paired.0)
 
 pub overflow_add-a-in-loop-d : goal.overflow_add-a-in-loop-d
 overflow_add-a-in-loop-d c =
@@ -91,6 +56,3 @@ meet-met-requires c =
 pub loop-d-preserved : goal.loop-d-preserved
 loop-d-preserved c =
     follows_more c.requires.paired.0 c.loop-d.invariant c.requires.paired.1 c.loop-d-test.true (sym c.from-x.ensures) (sym c.from-y.ensures) c.meet-met.auto.work c.meet-met.ensures
-
-pub returns : goal.returns
-returns c = follows_all c.requires.paired.0 c.loop-d.invariant c.loop-d-test.false

@@ -1,8 +1,7 @@
 -- The entries below `done` are of rows with the same values, and there are at most 4096. Assumes nothing.
-use mathlib.Core.Path.{refl, ◌∙◌}
-use Prim.Native.Nat.{◌<◌}
-use native.Mathlib.Omega.{arith}
-use Rattle.chart.proofs.SoughtPair.{seeking_start, seeking_few, seeking_place, seeking_paired, seeking_sound, seeking_pairs, seeking_other, seeking_more, seeking_none}
+use Rattle.std.proofs.Common.{◌∙◌, ◌<◌, arith}
+use Rattle.chart.proofs.SoughtPair.{seeking_few, seeking_place, seeking_paired, seeking_sound, seeking_pairs}
+use Rattle.chart.proofs.SoughtPair.{seeking_other, seeking_more, seeking_none}
 use Rattle.chart.proofs.pairs.seek.Goals as goal
 use Rattle.chart.proofs.pairs.seek.Goals.{In-loop-done}
 
@@ -10,9 +9,6 @@ use Rattle.chart.proofs.pairs.seek.Goals.{In-loop-done}
 few : (c : In-loop-done) → c.loop-done.done < 4096
 few c =
     seeking_few c.requires.paired.0 c.requires.paired.1 c.loop-done.invariant.1 c.loop-done-test.true
-
-pub loop-done-init : goal.loop-done-init
-loop-done-init c = (refl, seeking_start c.requires.pairs_in)
 
 pub overflow_mul-done : goal.overflow_mul-done
 overflow_mul-done c = omega (arith, few c)
@@ -32,10 +28,6 @@ returns-in-Some c =
 pub meet_beliefs-count-requires : goal.meet_beliefs-count-requires
 meet_beliefs-count-requires c =
     let (long, g) = c.loop-done.invariant in record { paired = (seeking_paired c.requires.paired.0 c.requires.paired.1 g long, seeking_sound c.requires.paired.0 c.requires.paired.1 g, c.loop-done-test.true); pairs_in = seeking_pairs c.requires.paired.0 c.requires.paired.1 g }
-
-pub overflow_add-done-in-loop-done : goal.overflow_add-done-in-loop-done
-overflow_add-done-in-loop-done c =
-    omega (arith, few (goal.at.overflow_add-done-in-loop-done c).In-loop-done)
 
 pub loop-done-smaller : goal.loop-done-smaller
 loop-done-smaller c = omega (arith, few (goal.at.loop-done-smaller c).In-loop-done)

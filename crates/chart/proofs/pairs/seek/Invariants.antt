@@ -1,7 +1,5 @@
 -- The entries below `done` are of rows with the same values, and there are at most 4096. Assumes nothing.
-use mathlib.Core.Path.{◌≡◌}
-use Prim.Native.Nat.{◌-◌}
-use lib.ListN.{length}
+use Rattle.std.proofs.Common.{◌≡◌, ◌-◌, length}
 use Rattle.chart.proofs.SoughtPair.{Seeking}
 use Rattle.chart.proofs.pairs.seek.Given as goal
 

@@ -1,7 +1,5 @@
 -- The way to entry e is k characters longer than that to entry `at`. Assumes nothing.
-use mathlib.Core.Path.{◌≡◌}
-use Prim.Native.Nat.{◌≤◌, ◌+◌}
-use lib.ListN.{length}
+use Rattle.std.proofs.Common.{◌≡◌, ◌≤◌, ◌+◌, length}
 use Rattle.chart.specs.Inner.Pairs.{Ways}
 use Rattle.chart.proofs.pairs.way_length.Given as goal
 

@@ -1,14 +1,9 @@
 -- The old classes are exact at some depth, and there are `count` of them, at most `limit`; so `limit - count` falls. Assumes nothing.
-use mathlib.Core.Path.{refl, ◌∙◌}
-use native.Mathlib.Omega.{arith}
-use Rattle.chart.proofs.PartitionLevels.{levels_same, valued-many, ordered_valued, parting_start, parted_since, parting_sound, parting_finer, parting_many, parting_done, parting_apart, parting_more}
+use Rattle.std.proofs.Common.{refl, ◌∙◌, arith}
+use Rattle.chart.proofs.PartitionLevels.{levels_same, valued-many, ordered_valued, parting_start, parted_since}
+use Rattle.chart.proofs.PartitionLevels.{parting_sound, parting_finer, parting_many, parting_done, parting_apart}
+use Rattle.chart.proofs.PartitionLevels.{parting_more}
 use Rattle.chart.proofs.partition.partition.Goals as goal
-
-pub value_level-count-requires : goal.value_level-count-requires
-value_level-count-requires c = c.requires.levels.0
-
-pub shape_of-work-then-limit-count : goal.shape_of-work-then-limit-count
-shape_of-work-then-limit-count c = c.value_level-count.auto.work
 
 pub returns-then-limit-count : goal.returns-then-limit-count
 returns-then-limit-count c =
@@ -23,19 +18,11 @@ pub level-next-requires : goal.level-next-requires
 level-next-requires c =
     let (long, l, o, g) = c.loop-count.invariant in record { levels = (levels_same l long, parting_sound l o g); finer = parting_finer l o g }
 
-pub shape_of-work-then-limit-next : goal.shape_of-work-then-limit-next
-shape_of-work-then-limit-next c =
-    c.level-next.auto.work ∙ c.loop-count.invariant.0 ∙ c.value_level-count.auto.work
-
 pub returns-then-limit-next : goal.returns-then-limit-next
 returns-then-limit-next c =
     let (long, l, o, g) = c.loop-count.invariant in
     let many = parting_many l o g c.level-next.ensures c.if-limit-next.true in
     parted_since c.requires.levels.0 c.requires.ordered c.value_level-count.ensures many
-
-pub shape_of-work-then-next-count : goal.shape_of-work-then-next-count
-shape_of-work-then-next-count c =
-    c.level-next.auto.work ∙ c.loop-count.invariant.0 ∙ c.value_level-count.auto.work
 
 pub returns-then-next-count : goal.returns-then-next-count
 returns-then-next-count c =
@@ -43,22 +30,11 @@ returns-then-next-count c =
     let done = parting_done l o g c.level-next.ensures c.if-next-count.true in
     parted_since c.requires.levels.0 c.requires.ordered c.value_level-count.ensures done
 
-pub copy_part-requires : goal.copy_part-requires
-copy_part-requires c =
-    let (long, l, o, g) = c.loop-count.invariant in
-    (omega (arith, l), omega (arith, l, long, c.level-next.auto.work), omega (arith, l, long, c.level-next.auto.work))
-
-pub loop-count-smaller : goal.loop-count-smaller
-loop-count-smaller c = omega (arith, c.if-limit-next.false, c.if-next-count.false)
-
 pub loop-count-preserved : goal.loop-count-preserved
 loop-count-preserved c =
     let (long, l, o, g) = c.loop-count.invariant in
     let more = parting_more l o g c.level-next.ensures (omega (arith, c.if-limit-next.false)) c.copy_part.ensures in
     (c.copy_part.auto.work ∙ c.level-next.auto.work ∙ long, l, o, more)
-
-pub shape_of-work : goal.shape_of-work
-shape_of-work c = c.loop-count.invariant.0 ∙ c.value_level-count.auto.work
 
 pub returns : goal.returns
 returns c =

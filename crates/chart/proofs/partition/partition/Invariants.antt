@@ -1,7 +1,5 @@
 -- The old classes are exact at some depth, and there are `count` of them, at most `limit`; so `limit - count` falls. Assumes nothing.
-use mathlib.Core.Path.{◌≡◌}
-use Prim.Native.Nat.{◌-◌}
-use lib.ListN.{length}
+use Rattle.std.proofs.Common.{◌≡◌, ◌-◌, length}
 use Rattle.chart.specs.Chart.{Ordered}
 use Rattle.pack.specs.Duties.Table.{rows_at}
 use Rattle.chart.specs.Duties.Level.{Levels}

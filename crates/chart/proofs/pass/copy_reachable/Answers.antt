@@ -1,34 +1,11 @@
 -- The rows below i are filled, and those that they name have numbers. Assumes nothing.
-use mathlib.Core.Path.{◌∙◌}
-use native.Mathlib.Omega.{arith}
-use borrow.Author.Rules.{rules}
-use Rattle.chart.specs.Laws.Numbering.{numbering_none}
+use Rattle.std.proofs.Common.{◌∙◌, arith, rules}
 use Rattle.chart.proofs.CopyPass.{copying_start, copying_row, copying_end, laid_same, sound_same}
 use Rattle.chart.proofs.pass.copy_reachable.Goals as goal
-
-pub clear-requires : goal.clear-requires
-clear-requires c = omega (arith, c.requires.0)
-
-pub number_of-first-requires : goal.number_of-first-requires
-number_of-first-requires c =
-    record { room = (omega (arith, c.requires.0, c.clear.auto.work), omega (arith, c.requires.0), c.requires.2); numbering = numbering_none _ _ _ _ c.clear.ensures }
-
-pub more-count-requires : goal.more-count-requires
-more-count-requires c = omega (arith, c.number_of-first.ensures.few)
 
 pub loop-i-init : goal.loop-i-init
 loop-i-init c =
     (search rules, copying_start (laid_same c.requires.0 (c.number_of-first.auto.work ∙ c.clear.auto.work)) (sound_same c.requires.0 c.requires.1 (λ p l. c.number_of-first.ensures.low p l ∙ c.clear.ensures.low p l)) c.number_of-first.ensures c.more-count.ensures)
-
-pub fill_row-count-requires : goal.fill_row-count-requires
-fill_row-count-requires c =
-    record { laid = (c.loop-i.invariant.1.laid, c.loop-i.invariant.1.sound); numbering = (c.loop-i.invariant.1.going.numbering, c.loop-i-test.true) }
-
-pub overflow_add-i : goal.overflow_add-i
-overflow_add-i c = omega (arith, c.loop-i.invariant.1.going)
-
-pub loop-i-smaller : goal.loop-i-smaller
-loop-i-smaller c = omega (arith, c.loop-i.invariant.1.going)
 
 pub loop-i-preserved : goal.loop-i-preserved
 loop-i-preserved c =

@@ -1,7 +1,5 @@
 -- The rows below i are filled, and those that they name have numbers. Assumes nothing.
-use mathlib.Core.Path.{◌≡◌}
-use Prim.Native.Nat.{◌-◌}
-use lib.ListN.{length}
+use Rattle.std.proofs.Common.{◌≡◌, ◌-◌, length}
 use Rattle.chart.proofs.CopyPass.{Copying}
 use Rattle.chart.proofs.pass.copy_reachable.Given as goal
 

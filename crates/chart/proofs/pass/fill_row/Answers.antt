@@ -1,18 +1,11 @@
 -- The row is copied as it is, then its beliefs are named. Assumes nothing.
-use mathlib.Core.Path.{◌∙◌, ap}
-use Prim.Native.Nat.{ℕ, ◌<◌, ◌≤◌, ◌+◌, ◌*◌}
-use lib.ListN.{length, get_or}
-use native.Mathlib.Omega.{arith}
+use Rattle.std.proofs.Common.{◌∙◌, ap, ℕ, ◌<◌, ◌≤◌, ◌+◌, ◌*◌, length, get_or, arith}
 use Rattle.pack.specs.Duties.Table.{cells}
 use Rattle.chart.specs.Laws.Cells.{cells_same, row_in, part_behind}
 use Rattle.chart.specs.Laws.Numbering.{few, numbering_same}
 use Rattle.chart.specs.Laws.PassRows.{row_filled}
 use Rattle.chart.proofs.pass.fill_row.Goals as goal
-use Rattle.chart.proofs.pass.fill_row.Goals.{After-struct_known-1, After-from-x}
-
-room : (s : After-struct_known-1) → s.args.count ≤ s.args.s.nodes
-room s =
-    few s.args.work.now s.args.m s.args.s.nodes s.args.count s.requires.numbering.0
+use Rattle.chart.proofs.pass.fill_row.Goals.{After-from-x}
 
 -- where the two rows lie
 place : (c : After-from-x) →
@@ -27,25 +20,16 @@ place c =
     )
 
 pub overflow_add-m-2 : goal.overflow_add-m-2
-overflow_add-m-2 c = omega (arith, room c, c.requires.laid.0)
+overflow_add-m-2 c = omega (arith, few c.args.work.now c.args.m c.args.s.nodes c.args.count c.requires.numbering.0, c.requires.laid.0)
 
 pub bounds-work-m : goal.bounds-work-m
-bounds-work-m c = omega (arith, room (goal.at.bounds-work-m c).After-struct_known-1, c.requires.laid.0)
-
-pub overflow_mul-from : goal.overflow_mul-from
-overflow_mul-from c = omega (arith, place (goal.at.overflow_mul-from c).After-from-x, c.requires.laid.0)
-
-pub overflow_add-from : goal.overflow_add-from
-overflow_add-from c = omega (arith, place (goal.at.overflow_add-from c).After-from-x, c.requires.laid.0)
+bounds-work-m c = omega (arith, few c.args.work.now c.args.m c.args.s.nodes c.args.count c.requires.numbering.0, c.requires.laid.0)
 
 pub overflow_mul-to : goal.overflow_mul-to
 overflow_mul-to c = omega (arith, place (goal.at.overflow_mul-to c).After-from-x)
 
 pub overflow_add-to : goal.overflow_add-to
 overflow_add-to c = omega (arith, place (goal.at.overflow_add-to c).After-from-x)
-
-pub overflow_add-s : goal.overflow_add-s
-overflow_add-s c = omega (arith, place (goal.at.overflow_add-s c).After-from-x, c.requires.laid.0)
 
 pub copy_part-requires : goal.copy_part-requires
 copy_part-requires c =
@@ -58,7 +42,11 @@ overflow_add-to-2 c = omega (arith, place (goal.at.overflow_add-to-2 c).After-fr
 pub name_beliefs-requires : goal.name_beliefs-requires
 name_beliefs-requires c =
     let (x, from, to) = place (goal.at.name_beliefs-requires c).After-from-x in
-    let belief = c.requires.laid.1.beliefs c.from-x.result in record { room = (omega (arith, c.requires.laid.0), omega (arith, c.requires.laid.0, c.copy_part.auto.work), c.requires.laid.0.few); numbering = numbering_same _ _ _ _ _ c.requires.numbering.0 (λ q l b. c.copy_part.ensures.low q (omega (arith, c.requires.laid.0))); below = λ d l. omega (arith, part_behind c.args.s.fluents c.args.s.characters c.copy_part.ensures d l, belief d x l) }
+    let belief = c.requires.laid.1.beliefs c.from-x.result in record {
+      room = (omega (arith, c.requires.laid.0), omega (arith, c.requires.laid.0, c.copy_part.auto.work), c.requires.laid.0.few);
+      numbering = numbering_same _ _ _ _ _ c.requires.numbering.0 (λ q l b. c.copy_part.ensures.low q (omega (arith, c.requires.laid.0)));
+      below = λ d l. omega (arith, part_behind c.args.s.fluents c.args.s.characters c.copy_part.ensures d l, belief d x l);
+    }
 
 pub returns : goal.returns
 returns c =
@@ -70,4 +58,4 @@ returns c =
     (λ d l.
     part_behind c.args.s.fluents c.args.s.characters c.copy_part.ensures d l ∙
     ap (λ (x : ℕ). get_or c.args.work.now (source x + c.args.s.fluents + d) 0) e)
-    (omega (arith, c.requires.laid.0)) c.requires.laid.0.wide (room (goal.at.returns c).After-struct_known-1)
+    (omega (arith, c.requires.laid.0)) c.requires.laid.0.wide (few c.args.work.now c.args.m c.args.s.nodes c.args.count c.requires.numbering.0)

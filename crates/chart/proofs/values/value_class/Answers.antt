@@ -1,76 +1,20 @@
--- From class q on no leading row has the values of row i. Assumes nothing.
-use mathlib.Core.Path.{◌≡◌}
-use Prim.Native.Nat.{suc, ◌+◌, ◌*◌, ◌-◌, ◌<◌, ◌≤◌}
-use lib.ListN.{length}
-use native.Mathlib.Omega.{arith}
+-- From class `next` on no leading row has the values of row i. Assumes nothing.
+use Rattle.std.proofs.Common.{◌≡◌, suc, arith}
 use Rattle.chart.proofs.Classes.{refuted}
-use Rattle.chart.proofs.ValueClasses.{same_decides, looking_start, looking_room, looking_lower, looking_found, looking_next, looking_none}
+use Rattle.chart.proofs.ValueClasses.{same_decides, looking_start, looking_next}
 use Rattle.chart.proofs.values.value_class.Goals as goal
-use Rattle.chart.proofs.values.value_class.Goals.{After-from-j, In-loop-q}
+use Rattle.chart.proofs.values.value_class.Goals.{After-from-j, In-Some}
 
 -- a class is looked at
-class : (c : After-from-j) → c.loop-q.q ≡ suc (c.loop-q.q - 1)
+class : (c : After-from-j) → c.loop-p.next ≡ suc c.in-Some.p
 class c =
-    omega (arith, c.loop-q-test.true)
+    omega (arith, c.in-Some.ensures)
 
--- its number, among those of the leading rows, and among those of the classes before
-class-place : (c : In-loop-q) →
-    (c.args.g.firsts + (c.loop-q.q - 1) < length c.args.work.now) ×
-    (c.args.g.level + (c.loop-q.q - 1) < length c.args.work.now)
-class-place c =
-    (omega (arith, c.requires.room, c.loop-q.invariant.within, c.loop-q-test.true), omega (arith, c.requires.above, c.loop-q.invariant.within, c.loop-q-test.true))
+pub loop-p-init : goal.loop-p-init
+loop-p-init c = looking_start c.requires
 
--- the row that leads it, and row i
-rows-place : (c : After-from-j) →
-    (c.args.t.rows + c.from-j.result * c.args.t.width + c.args.t.fluents ≤ length c.args.work.now) ×
-    (c.args.t.rows + c.args.i * c.args.t.width + c.args.t.fluents ≤ length c.args.work.now)
-rows-place c =
-    looking_room c.requires c.loop-q.invariant (class c) c.from-j.ensures
-
-pub loop-q-init : goal.loop-q-init
-loop-q-init c = looking_start c.requires
-
-pub overflow_add-g : goal.overflow_add-g
-overflow_add-g c = omega (arith, class-place (goal.at.overflow_add-g c).In-loop-q)
-
-pub bounds-work-g : goal.bounds-work-g
-bounds-work-g c = (class-place (goal.at.bounds-work-g c).In-loop-q).0
-
-pub overflow_mul-j : goal.overflow_mul-j
-overflow_mul-j c = omega (arith, rows-place (goal.at.overflow_mul-j c).After-from-j)
-
-pub overflow_add-t : goal.overflow_add-t
-overflow_add-t c = omega (arith, rows-place (goal.at.overflow_add-t c).After-from-j)
-
-pub overflow_mul-i : goal.overflow_mul-i
-overflow_mul-i c = omega (arith, rows-place (goal.at.overflow_mul-i c).After-from-j)
-
-pub overflow_add-t-in-loop-q : goal.overflow_add-t-in-loop-q
-overflow_add-t-in-loop-q c = omega (arith, rows-place (goal.at.overflow_add-t-in-loop-q c).After-from-j)
-
-pub same_part-requires : goal.same_part-requires
-same_part-requires c = rows-place (goal.at.same_part-requires c).After-from-j
-
-pub returns-then-same_part : goal.returns-then-same_part
-returns-then-same_part c =
-    let same = (same_decides c.same_part.ensures).0 c.if-same_part.true in
-    looking_found c.requires c.loop-q.invariant (class (goal.at.returns-then-same_part c).After-from-j) (c.from-j.ensures) same
-
-pub overflow_add-g-in-loop-q : goal.overflow_add-g-in-loop-q
-overflow_add-g-in-loop-q c = omega (arith, class-place (goal.at.overflow_add-g-in-loop-q c).In-loop-q)
-
-pub bounds-work-g-in-loop-q : goal.bounds-work-g-in-loop-q
-bounds-work-g-in-loop-q c = (class-place (goal.at.bounds-work-g-in-loop-q c).In-loop-q).1
-
-pub loop-q-smaller : goal.loop-q-smaller
-loop-q-smaller c =
-    looking_lower c.requires c.loop-q.invariant (class (goal.at.loop-q-smaller c).After-from-j) (c.from-q.ensures)
-
-pub loop-q-preserved : goal.loop-q-preserved
-loop-q-preserved c =
+pub loop-p-preserved : goal.loop-p-preserved
+loop-p-preserved c =
     let apart = refuted (same_decides c.same_part.ensures) c.if-same_part.false in
-    let next = looking_next c.requires c.loop-q.invariant (class (goal.at.loop-q-preserved c).After-from-j) in
-    next (c.from-j.ensures) apart (c.from-q.ensures)
-
-pub returns : goal.returns
-returns c = looking_none c.requires c.loop-q.invariant (omega (arith, c.loop-q-test.false))
+    let next = looking_next c.requires c.loop-p.invariant (class (goal.at.loop-p-preserved c).After-from-j) in
+    next (c.from-j.ensures) apart (c.from-next.ensures)
