@@ -17,6 +17,7 @@ use crate::Found;
 use crate::bound::can_exceed;
 use crate::entry::{Deed, Goal, goal_key, recall, remember_worth};
 use crate::explain::allowed;
+use crate::foreseen::Foreseen;
 use crate::intern::{extent, table_in};
 use crate::known::Known;
 use crate::limits::{Context, Foresight, Limits, Nesting, SEASON, Story, laid_out, searchable};
@@ -70,12 +71,12 @@ pub fn completes(
     ahead: Ahead,
 ) -> Option<usize>
     requires { Underway ahead.goal.nesting.0 ahead.goal.base pack.now places.now p work.old
-        ahead.done ahead.left × (0 < p.foresight.0) × (p.foresight.0 ≤ 6)
-        × Free p (ahead.done * p.stride) (1 + ahead.left + (1 + p.foresight.0) * ahead.goal.nesting.0)
+        ahead.done ahead.left
+        × Free p (ahead.done * p.stride) (1 + ahead.left + (1 + p.foresight.actions) * ahead.goal.nesting.0)
         × (ahead.done + ahead.left ≤ length list.old) }
     ensures { Finds ahead.goal.nesting.0 ahead.goal.base pack.now places.now p
         ahead.done ahead.left list.old list.new work.old work.new result
-        (λ th. Ends th p.foresight.0 ahead.goal.nesting.0 ahead.goal.base) }
+        (λ th. Ends th p.foresight.actions ahead.goal.nesting.0 ahead.goal.base) }
 {
     let slot = ahead.done * p.stride;
     let goal = ahead.goal;
@@ -137,12 +138,12 @@ pub fn completes_after(
     ahead: Ahead,
 ) -> Option<usize>
     requires { Underway ahead.goal.nesting.0 ahead.goal.base pack.now places.now p work.old
-        ahead.done (suc ahead.left) × (0 < p.foresight.0) × (p.foresight.0 ≤ 6)
-        × Free p (ahead.done * p.stride) (2 + ahead.left + (1 + p.foresight.0) * ahead.goal.nesting.0)
+        ahead.done (suc ahead.left)
+        × Free p (ahead.done * p.stride) (2 + ahead.left + (1 + p.foresight.actions) * ahead.goal.nesting.0)
         × (ahead.done + suc ahead.left ≤ length list.old) }
     ensures { Finds ahead.goal.nesting.0 ahead.goal.base pack.now places.now p
         ahead.done (suc ahead.left) list.old list.new work.old
-        work.new result (λ th. Ends th p.foresight.0 ahead.goal.nesting.0 ahead.goal.base) }
+        work.new result (λ th. Ends th p.foresight.actions ahead.goal.nesting.0 ahead.goal.base) }
 {
     let slot = ahead.done * p.stride;
     let hope = Hope {
@@ -193,12 +194,12 @@ pub fn completes_by(
     x: usize,
 ) -> Option<usize>
     requires { Underway ahead.goal.nesting.0 ahead.goal.base pack.now places.now p work.old
-        ahead.done (suc ahead.left) × (x < p.actions) × (0 < p.foresight.0) × (p.foresight.0 ≤ 6)
-        × Free p (ahead.done * p.stride) (2 + ahead.left + (1 + p.foresight.0) * ahead.goal.nesting.0)
+        ahead.done (suc ahead.left) × (x < p.actions)
+        × Free p (ahead.done * p.stride) (2 + ahead.left + (1 + p.foresight.actions) * ahead.goal.nesting.0)
         × (ahead.done + suc ahead.left ≤ length list.old) }
     ensures { Finds ahead.goal.nesting.0 ahead.goal.base pack.now places.now p
         ahead.done (suc ahead.left) list.old list.new work.old
-        work.new result (λ th. EndsBy th p.foresight.0 ahead.goal.nesting.0 ahead.goal.base x) }
+        work.new result (λ th. EndsBy th p.foresight.actions ahead.goal.nesting.0 ahead.goal.base x) }
 {
     let done = ahead.done;
     let slot = done * p.stride;
@@ -260,9 +261,8 @@ pub fn deepen(
     g: Goal,
     most: usize,
 ) -> Option<Ended>
-    requires { Outset g.base pack.now places.now p work.old × (0 < p.foresight.0)
-        × (p.foresight.0 ≤ 6) × (most ≤ 8) × (8 ≤ length list.old)
-        × Free p 0 (1 + most + (1 + p.foresight.0) * g.nesting.0) }
+    requires { Outset g.base pack.now places.now p work.old × (most ≤ 8) × (8 ≤ length list.old)
+        × Free p 0 (1 + most + (1 + p.foresight.actions) * g.nesting.0) }
     ensures { ShortestFrom most g.nesting.0 g.base pack.now places.now p
         list.old list.new work.old work.new result }
 {
@@ -318,9 +318,9 @@ pub fn search_nodes(
     work: &mut [u8],
 ) -> Found
     requires { Seekable pack.now places.now p nodes.first nodes.count limits.story.0
-        p.foresight.0 limits.nesting.0 list.old work.old }
+        p.foresight.actions limits.nesting.0 list.old work.old }
     ensures { SearchPutFrom pack.now places.now p nodes.first nodes.count
-        limits.story.0 p.foresight.0 limits.nesting.0 list.old list.new
+        limits.story.0 p.foresight.actions limits.nesting.0 list.old list.new
         work.old work.new result }
 {
     lay_start(pack, nodes, p, work);
@@ -360,7 +360,8 @@ pub fn search(
     match check_lent(nodes, enough, there) {
         Number::Refused(number, at) => Found::Refused(number, at),
         Number::Is(_, _) => {
-            let context = laid_out(p, k, 1 + t.0 + (1 + k.0) * e.0);
+            let foreseen = Foreseen { actions: k.0 };
+            let context = laid_out(p, foreseen, 1 + t.0 + (1 + k.0) * e.0);
             let start = Nodes {
                 first: p.first,
                 count: p.nodes,

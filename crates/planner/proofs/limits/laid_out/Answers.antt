@@ -6,13 +6,13 @@ use native.Mathlib.Omega.{arith}
 use Rattle.pack.specs.declared.contents.Contents.{Contents}
 use Rattle.transition.specs.Duties.Stage.{scratch_at}
 use Rattle.planner.specs.declared.limits.Context.{Context}
-use Rattle.planner.specs.declared.limits.Foresight.{Foresight}
+use Rattle.planner.specs.declared.foreseen.Foreseen.{Foreseen}
 use Rattle.planner.specs.Inner.Layout.{room_behind}
 use Rattle.planner.proofs.Slots.{entries_fit, room_left}
 use Rattle.planner.proofs.limits.laid_out.Goals as goal
 
 -- the context by how many entries there are
-abbrev made : Contents → Foresight → (stride memory lists : ℕ) → Context
+abbrev made : Contents → Foreseen → (stride memory lists : ℕ) → Context
 made c k stride memory lists = record {
   actions = c.actions;
   triggers = c.triggers;
