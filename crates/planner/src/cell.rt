@@ -129,7 +129,7 @@ pub fn remember_cell(work: &mut [u8], p: Context, slot: usize, known: Known, k: 
     ensures { Remembered p (slot_table p work.old slot) (mark_of known) k work.old work.new
         × CellKept p slot (mark_of known) k work.old work.new }
 {
-    if ROWS < usize::from(work[slot]) || !storable(1, k) {
+    if ROWS < usize::from(work[slot]) || !storable(k) {
         return;
     }
     let first = bucket_at(work, p, slot, k);

@@ -16,7 +16,7 @@ returns-then-from-gt-ROWS c = (
   record {
     stands = λ few fits. elim c.then-from-gt-ROWS.branch [
       | then-from-gt-ROWS-via-then-from-gt-ROWS w ↦ absurd (omega (arith, few, w.if-from-gt-ROWS.true, c.from.ensures))
-      | then-from-gt-ROWS-via-else-from-gt-ROWS+then-not-storable w ↦ absurd (w.storable.ensures.1 w.if-not-storable.true fits)
+      | then-from-gt-ROWS-via-else-from-gt-ROWS+then-not-storable w ↦ absurd ((w.storable.ensures 1 (omega arith)).1 w.if-not-storable.true fits)
     ];
   },
 )
@@ -43,7 +43,7 @@ returns-then-rank-old c =
 
 pub put_cell-requires : goal.put_cell-requires
 put_cell-requires c =
-    let s = c.storable.ensures.0 (c.if-not-storable.false) in
+    let s = (c.storable.ensures 1 (omega arith)).0 (c.if-not-storable.false) in
     (c.requires.0, omega (arith, c.lowest-at.ensures.0.is, way_in c.args.p c.bucket_at-first.ensures.1 c.lowest-at.ensures.0.few), omega (arith, c.if-from-gt-ROWS.false, c.from.ensures), omega (arith, c.lowest-at.ensures.0.is, c.bucket_at-first.ensures.1.is), s.who, s.nesting, s.number, s.base)
 
 pub returns : goal.returns

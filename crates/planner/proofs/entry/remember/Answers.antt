@@ -11,7 +11,7 @@ entry_at-at-requires c = (c.requires.laid, c.in-Some.ensures.1.interning.small)
 
 pub put_key-requires : goal.put_key-requires
 put_key-requires c =
-    let s = c.storable.ensures.0 c.if-storable.true in
+    let s = (c.storable.ensures c.in-Some.id c.in-Some.ensures.0).0 c.if-storable.true in
     (omega (arith, c.entry_at-at.ensures.1.is, c.entry_at-at.ensures.1.few, c.id_of.auto.work, c.requires.room, c.requires.laid.room), s.who, s.nesting, s.number, s.base)
 
 pub overflow_add-work : goal.overflow_add-work
@@ -28,7 +28,7 @@ shape_of-work-then-storable c =
 
 pub returns-then-storable : goal.returns-then-storable
 returns-then-storable c =
-    let some = (c.storable.ensures.0 c.if-storable.true).some in
+    let some = c.in-Some.ensures.0 in
     let (at, place) = c.entry_at-at.ensures in
     (remembered c.args.p c.requires c.id_of.auto.work c.put_key.auto.work c.in-Some.ensures.1 some at place c.put_key.ensures, notes c.args.p c.requires c.id_of.auto.work c.put_key.auto.work c.in-Some.ensures.1 some at place c.put_key.ensures)
 
@@ -38,4 +38,4 @@ returns-in_default c =
 
 pub returns-else-storable : goal.returns-else-storable
 returns-else-storable c =
-    remembered_none c.args.p c.requires c.in-Some.ensures.1 (c.storable.ensures.1 c.if-storable.false)
+    remembered_none c.args.p c.requires c.in-Some.ensures.1 ((c.storable.ensures c.in-Some.id c.in-Some.ensures.0).1 c.if-storable.false)
