@@ -9,12 +9,6 @@ use Rattle.planner.proofs.Pruning.{run_start, run_stop, run_on, run_none, tiny_r
 use Rattle.planner.proofs.Bounds.{above_none, above_here, above_not}
 use Rattle.planner.proofs.bound.can_exceed.Goals as goal
 
-pub overflow_add-n : goal.overflow_add-n
-overflow_add-n c = omega (arith, run_inside rule_at (rules_parts c.requires))
-
-pub bounds-pack-at : goal.bounds-pack-at
-bounds-pack-at c = run_inside rule_at (rules_parts c.requires)
-
 pub loop-i-init : goal.loop-i-init
 loop-i-init c = run_start (tiny_run rule_at _) _ _ (omega arith) (c.from-count.result - 0) (omega (arith, c.from-count.ensures))
 
@@ -42,3 +36,9 @@ loop-i-preserved c =
 pub returns : goal.returns
 returns c =
     rules_told (run_none (tiny_run rule_at _) _ _ c.loop-i.invariant (omega (arith, c.loop-i-test.false)) (λ k. above_none _))
+
+pub overflow_add-n : goal.overflow_add-n
+overflow_add-n c = omega (arith, run_inside rule_at (rules_parts c.requires))
+
+pub bounds-pack-at : goal.bounds-pack-at
+bounds-pack-at c = run_inside rule_at (rules_parts c.requires)

@@ -40,24 +40,6 @@ is_large-requires c =
 pub returns-then-not-is_large : goal.returns-then-not-is_large
 returns-then-not-is_large c = unset
 
-pub overflow_mul-d : goal.overflow_mul-d
-overflow_mul-d c =
-    let (th, (T, y)) = c.requires.0 in
-    omega (arith, c.requires.2, y.theorized.found.most_actions)
-
-pub offset_bounds-places-d : goal.offset_bounds-places-d
-offset_bounds-places-d c =
-    let (th, (T, y)) = c.requires.0 in
-    omega (arith, c.requires.2, y.theorized.found.most_actions)
-
-pub bounds-places-d : goal.bounds-places-d
-bounds-places-d c =
-    let (th, (T, y)) = c.requires.0 in
-    omega (arith, c.requires.2, y.theorized.found.most_actions, y.theorized.marked)
-
-pub overflow_cast-places : goal.overflow_cast-places
-overflow_cast-places c = omega (arith, c.type_inv.places (9 * c.args.d.action))
-
 pub holds-may-requires : goal.holds-may-requires
 holds-may-requires c =
     let (th, (T, y)) = c.requires.0 in
@@ -69,24 +51,6 @@ returns-then-not-may c =
     λ e th T y K E.
     let judged = subst (λ (t : Table). (d : Dimensions) → Over d t → (z : Condition) (n : ℕ) → condition_at d c.args.pack.now (get_or c.args.places.now (9 * c.args.d.action) 0) ≡ done z n → c.holds-may.result ≡ holds (state_of t c.args.work.now c.from-q.result) z) c.table_in-t.ensures c.holds-may.ensures in
     λ z. explained_plays th K E c.args.d.who c.args.d.action (belief (meaning c.args.p.characters T 0) c.args.d.who) (λ s plays. stage_forbidden y c.args.d.action c.requires.2 c.from-q.result judged (c.if-not-may.true) s (subst (λ (z : State). Plays th z c.args.d.action s) (believed (goal.at.returns-then-not-may c).After-from-q y).0 plays)) (by_belief th K E c.args.d.who c.args.d.action (meaning c.args.p.characters T 0) z)
-
-pub overflow_add-rules : goal.overflow_add-rules
-overflow_add-rules c =
-    let (th, (T, y)) = c.requires.0 in
-    omega (arith, (stage_rules y _ 0 c.requires.1 y.tabled.some).1)
-
-pub offset_bounds-places-d-2 : goal.offset_bounds-places-d-2
-offset_bounds-places-d-2 c =
-    let (th, (T, y)) = c.requires.0 in
-    omega (arith, (stage_rules y _ 0 c.requires.1 y.tabled.some).1)
-
-pub bounds-places-d-2 : goal.bounds-places-d-2
-bounds-places-d-2 c =
-    let (th, (T, y)) = c.requires.0 in
-    omega (arith, (stage_rules y _ 0 c.requires.1 y.tabled.some).1)
-
-pub overflow_cast-rules : goal.overflow_cast-rules
-overflow_cast-rules c = omega (arith, c.type_inv.places (321 + c.args.d.who))
 
 pub utility-base-requires : goal.utility-base-requires
 utility-base-requires c =

@@ -18,10 +18,6 @@ copy_part-requires c =
     let size = table_size c.args.p now in
     (omega (arith, c.extent-n.ensures, now.before, c.requires.3), omega (arith, c.extent-n.ensures, now.before, now.room, c.requires.0.laid.room), omega (arith, c.extent-n.ensures, size, now.room, c.requires.1))
 
-pub shape_of-work : goal.shape_of-work
-shape_of-work c =
-    c.copy_part.auto.work ∙ length-set c.put_key.new.work (c.args.at + 6) c.args.rank ∙ c.put_key.auto.work
-
 pub returns : goal.returns
 returns c =
     cell_put c.args.p c.args.slot c.args.rank c.requires.0 c.requires.2 c.requires.3 c.put_key.ensures c.copy_part.ensures c.extent-n.ensures

@@ -5,9 +5,6 @@ use Rattle.planner.proofs.cell.rank_of.Goals as goal
 pub loop-left-init : goal.loop-left-init
 loop-left-init c = omega arith
 
-pub overflow_add-rank : goal.overflow_add-rank
-overflow_add-rank c = omega (arith, c.if-rank.false, c.loop-left.invariant)
-
 pub loop-left-smaller : goal.loop-left-smaller
 loop-left-smaller c = omega (arith, c.loop-left-test.true)
 

@@ -19,21 +19,9 @@ cell_size-size-requires c = c.requires.laid.narrow
 pub loop-i-init : goal.loop-i-init
 loop-i-init c = λ j l. absurd (omega (arith, l))
 
-pub overflow_mul-at : goal.overflow_mul-at
-overflow_mul-at c =
-    omega (arith, way_room c.args.p c.requires.laid c.bucket_at-first.ensures.1 c.cell_size-size.ensures c.loop-i-test.true)
-
-pub overflow_add-at : goal.overflow_add-at
-overflow_add-at c =
-    omega (arith, way_room c.args.p c.requires.laid c.bucket_at-first.ensures.1 c.cell_size-size.ensures c.loop-i-test.true)
-
 pub cell_has-requires : goal.cell_has-requires
 cell_has-requires c =
     (c.requires, (way_room c.args.p c.requires.laid c.bucket_at-first.ensures.1 c.cell_size-size.ensures c.loop-i-test.true).1)
-
-pub bounds-work-at : goal.bounds-work-at
-bounds-work-at c =
-    omega (arith, c.requires.room, way_room c.args.p c.requires.laid c.bucket_at-first.ensures.1 c.cell_size-size.ensures c.loop-i-test.true)
 
 pub returns-then-cell_has : goal.returns-then-cell_has
 returns-then-cell_has c =

@@ -16,32 +16,12 @@ use Rattle.planner.specs.Inner.Explain.{Stage, Free}
 use Rattle.planner.proofs.TrueMemory.{memory_fewer}
 use Rattle.planner.proofs.Pruning.{still_in, tried, tried_not}
 use Rattle.planner.proofs.Reckoning.{free_few, above_beyond}
-use Rattle.planner.proofs.Explanations.{marked_as, told_verdict, told_reached, told_is, told_none, told_by, told_no, told_yes, stage_rules, stage_utility, next_table, next_plays, next_stage, reach_here, reach_no_more, by_hopeless, by_from, by_to, explained_from, explained_to, explained_zero, explained_plays, by_belief, of_belief, agreed_all, content_of, content_more, free_fewer, free_two, free_held, within, held_step, held_rest, consenters_of, consent_place, consent_readable, consent_count, consent_each, slot_same, stage_before, known, note, verdict, extended, noted, rules_in, utility_in}
+use Rattle.planner.proofs.Explanations.{marked_as, told_verdict, told_reached, told_is, told_none, told_by, told_no, told_yes, stage_rules, stage_utility, next_table, next_plays, next_stage, reach_here, reach_no_more, by_hopeless, by_from, by_to, explained_from, explained_to, explained_zero, explained_plays, by_belief, of_belief, agreed_all, content_of, content_more, free_fewer, free_two, free_held, within, held_step, held_rest, consenters_of, consent_readable, consent_count, consent_each, slot_same, stage_before, known, note, verdict, extended, noted, rules_in, utility_in}
 use Rattle.planner.proofs.explain.+explaining.Goals as goal
 use Rattle.planner.proofs.explain.+explaining.Goals.{explained-then-d-eq0-via-then-d-eq0, explained-then-d-eq0-via-else-d-eq0+then-pointless}
 use mathlib.Core.Bool.{true}
 use borrow.Author.Tests.{eq-eqb}
 use Rattle.planner.proofs.explain.+explaining.Goals.{explains-After-known_step}
-
-pub allowed-overflow_mul-at : goal.allowed-overflow_mul-at
-allowed-overflow_mul-at t c =
-    let (th, (T, (y, mem))) = c.requires.0 in
-    omega (arith, consent_place y _ c.requires.1)
-
-pub allowed-overflow_add-at : goal.allowed-overflow_add-at
-allowed-overflow_add-at t c =
-    let (th, (T, (y, mem))) = c.requires.0 in
-    omega (arith, consent_place y _ c.requires.1)
-
-pub allowed-offset_bounds-places-d : goal.allowed-offset_bounds-places-d
-allowed-offset_bounds-places-d t c =
-    let (th, (T, (y, mem))) = c.requires.0 in
-    omega (arith, consent_place y _ c.requires.1)
-
-pub allowed-bounds-places-d : goal.allowed-bounds-places-d
-allowed-bounds-places-d t c =
-    let (th, (T, (y, mem))) = c.requires.0 in
-    omega (arith, consent_place y _ c.requires.1)
 
 pub allowed-consenters-count-requires : goal.allowed-consenters-count-requires
 allowed-consenters-count-requires t c =
@@ -143,30 +123,10 @@ explains-returns-then-not-known_step t c =
     let played = c.known_step.ensures.0 th T y mem in
     told_no played.low played.high played.memory (explained_plays th c.args.p.foresight.actions c.args.d.nesting.0 c.args.d.who c.args.d.action (meaning c.args.p.characters T c.args.q) (played.none c.if-not-known_step.true))
 
-pub explains-overflow_add-next : goal.explains-overflow_add-next
-explains-overflow_add-next t c =
-    let (th, (T, (y, mem))) = c.requires.0 in
-    omega (arith, held_step c.args.p c.args.slot c.args.p.foresight.some c.requires.4 c.requires.3, y.laid.room)
-
 pub explains-table_in-before-requires : goal.explains-table_in-before-requires
 explains-table_in-before-requires t c =
     let (th, (T, (y, mem))) = c.requires.0 in
     (omega (arith, held_step c.args.p c.args.slot c.args.p.foresight.some c.requires.4 c.requires.3, y.laid.room, y.laid.some, y.room, c.known_step.auto.work), omega (arith, small y.tabled))
-
-pub explains-overflow_add-d : goal.explains-overflow_add-d
-explains-overflow_add-d t c =
-    let (th, (T, (y, mem))) = c.requires.0 in
-    omega (arith, small y.tabled, c.requires.1)
-
-pub explains-offset_bounds-places-d : goal.explains-offset_bounds-places-d
-explains-offset_bounds-places-d t c =
-    let (th, (T, (y, mem))) = c.requires.0 in
-    omega (arith, small y.tabled, c.requires.1)
-
-pub explains-bounds-places-d : goal.explains-bounds-places-d
-explains-bounds-places-d t c =
-    let (th, (T, (y, mem))) = c.requires.0 in
-    omega (arith, y.theorized.marked, small y.tabled, c.requires.1)
 
 -- the table in the slot after the step
 explains_stays : (t : ℕ) (c : explains-After-known_step t) {th : Theory} {T : List Node} →
@@ -184,14 +144,6 @@ explains-utility-base-requires t c =
     let (th, (T, (y, mem))) = c.requires.0 in
     let (z, inside) = explains_stays t (goal.at.explains-utility-base-requires t c).After-known_step y mem in
     rules_in _ _ _ c.args.q c.table_in-before.ensures (stage_rules z _ _ c.requires.1 inside).0
-
-pub explains-overflow_sub-nesting : goal.explains-overflow_sub-nesting
-explains-overflow_sub-nesting t c =
-    omega (arith, c.requires.4)
-
-pub explains-overflow_sub-quest : goal.explains-overflow_sub-quest
-explains-overflow_sub-quest t c =
-    omega (arith, c.args.p.foresight.some)
 
 pub explains-extends-requires : goal.explains-extends-requires
 explains-extends-requires t c =
@@ -222,21 +174,6 @@ pub extends-table_in-t-requires : goal.extends-table_in-t-requires
 extends-table_in-t-requires t c =
     let (th, (T, (y, mem))) = c.requires.0 in
     (omega (arith, c.requires.2, y.room), omega (arith, small y.tabled))
-
-pub extends-overflow_add-quest : goal.extends-overflow_add-quest
-extends-overflow_add-quest t c =
-    let (th, (T, (y, mem))) = c.requires.0 in
-    omega (arith, small y.tabled, c.requires.1)
-
-pub extends-offset_bounds-places-quest : goal.extends-offset_bounds-places-quest
-extends-offset_bounds-places-quest t c =
-    let (th, (T, (y, mem))) = c.requires.0 in
-    omega (arith, small y.tabled, c.requires.1)
-
-pub extends-bounds-places-quest : goal.extends-bounds-places-quest
-extends-bounds-places-quest t c =
-    let (th, (T, (y, mem))) = c.requires.0 in
-    omega (arith, y.theorized.marked, small y.tabled, c.requires.1)
 
 pub extends-utility-worth-requires : goal.extends-utility-worth-requires
 extends-utility-worth-requires t c =
@@ -278,10 +215,6 @@ pub extends-steps_made-since-requires : goal.extends-steps_made-since-requires
 extends-steps_made-since-requires t c =
     let (th, (T, (y, mem))) = c.requires.0 in
     (omega (arith, y.laid.room), omega (arith, y.room, c.recall.auto.work))
-
-pub extends-overflow_sub-fewer : goal.extends-overflow_sub-fewer
-extends-overflow_sub-fewer t c =
-    omega (arith, c.if-quest-eq0.false)
 
 pub extends-extends_by-found-requires : goal.extends-extends_by-found-requires
 extends-extends_by-found-requires t c =
@@ -451,10 +384,6 @@ via-returns-else-known_step t c =
     let told = c.allowed.ensures th T y mem in
     let played = c.known_step.ensures.0 th T (slot_same c.args.slot y told.low c.allowed.auto.work) told.memory in
     told_is c.if-known_step.false (told_no (λ q l. played.low q l ∙ told.low q l) (λ q l. played.high q l ∙ told.high q l) played.memory (λ g. played.none c.if-known_step.false g.0 g.1))
-
-pub via-overflow_add-slot : goal.via-overflow_add-slot
-via-overflow_add-slot t c =
-    omega (arith, c.requires.3)
 
 pub via-extends-requires : goal.via-extends-requires
 via-extends-requires t c =

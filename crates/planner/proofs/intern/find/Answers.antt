@@ -7,9 +7,6 @@ use Rattle.planner.specs.Inner.Memory.{links_at, Behind, OnChain, Alike}
 use Rattle.planner.proofs.Chains.{behind_here, behind_on, behind_none, chain_next}
 use Rattle.planner.proofs.intern.find.Goals as goal
 
-pub bounds-work-at : goal.bounds-work-at
-bounds-work-at c = omega (arith, c.requires.1)
-
 pub loop-id-init : goal.loop-id-init
 loop-id-init c =
     let small = c.type_inv.work c.args.at in (
@@ -24,15 +21,6 @@ has_id-requires c = (c.requires.0, c.loop-id.invariant.0)
 pub returns-then-has_id : goal.returns-then-has_id
 returns-then-has_id c =
     (c.loop-id-test.true, record { small = c.loop-id.invariant.0; alike = λ _. c.has_id.ensures.0 c.if-has_id.true; listed = c.loop-id.invariant.1; none = λ z. absurd (omega (arith, z, c.loop-id-test.true)) })
-
-pub overflow_add-p : goal.overflow_add-p
-overflow_add-p c = omega (arith, c.requires.0.laid.room)
-
-pub overflow_add-p-in-loop-id : goal.overflow_add-p-in-loop-id
-overflow_add-p-in-loop-id c = omega (arith, c.requires.0.laid.room, c.loop-id.invariant.0)
-
-pub bounds-work-p : goal.bounds-work-p
-bounds-work-p c = omega (arith, c.requires.0.laid.room, c.requires.0.room, c.loop-id.invariant.0)
 
 pub returns-then-id-next : goal.returns-then-id-next
 returns-then-id-next c = (

@@ -16,15 +16,6 @@ table_in-t-requires c =
 pub intern-id-requires : goal.intern-id-requires
 intern-id-requires c = subst (Before c.args.p c.args.work.now) (sym c.table_in-t.ensures) c.requires
 
-pub overflow_add-work : goal.overflow_add-work
-overflow_add-work c = omega (arith, c.requires.before, c.requires.laid.room)
-
-pub overflow_add-work-2 : goal.overflow_add-work-2
-overflow_add-work-2 c = omega (arith, c.requires.laid.room)
-
-pub bounds-work-p : goal.bounds-work-p
-bounds-work-p c = omega (arith, c.requires.laid.room, c.requires.room, c.intern-id.auto.work)
-
 pub id_byte-requires : goal.id_byte-requires
 id_byte-requires c = c.intern-id.ensures.1.0.small
 

@@ -1,8 +1,6 @@
 -- A table is kept where there is room; else all is forgotten. Assumes nothing.
 use Prim.Native.Nat.{◌+◌}
-use mathlib.Core.Path.{◌∙◌}
 use native.Mathlib.Omega.{arith}
-use lib.ListN.{length-set}
 use lib.Seq.{get_or-set_same}
 use Rattle.planner.proofs.TrueMemory.{placed_none, placed_wiped}
 use Rattle.planner.proofs.intern.keep.Goals as goal
@@ -16,10 +14,6 @@ returns-in-Some c =
     let roomy = c.has_overflowed.ensures.1 c.if-has_overflowed.false in
     let (some, (placed, _)) = c.in-Some.ensures in
     (some, (placed (λ sp. omega (arith, sp.once, roomy)), λ _ _. some))
-
-pub shape_of-work : goal.shape_of-work
-shape_of-work c =
-    length-set c.clear.new.work (c.args.p.memory + 49) 1 ∙ c.clear.auto.work ∙ c.store.auto.work
 
 pub returns : goal.returns
 returns c =

@@ -1,5 +1,5 @@
 -- What the action leaves, and the triggers after it, is within the ranges. Assumes nothing.
-use Prim.Native.Nat.{ℕ, ◌+◌, ◌*◌}
+use Prim.Native.Nat.{ℕ, ◌+◌}
 use mathlib.Core.Path.{refl, sym, subst}
 use lib.ListN.{get_or}
 use Rattle.pack.specs.Grammar.{rules_at}
@@ -15,18 +15,12 @@ rules_of-requires c = omega (arith, c.requires.rules, c.requires.trial.over.char
 pub copy_bytes-requires : goal.copy_bytes-requires
 copy_bytes-requires c = try_copyable _ _ _ _ _ _ c.requires refl
 
-pub overflow_cast-effects : goal.overflow_cast-effects
-overflow_cast-effects c = omega (arith, c.type_inv.places (9 * c.args.x + 1))
-
 pub write_effects-requires : goal.write_effects-requires
 write_effects-requires c = try_writable _ _ _ _ _ _ c.requires c.copy_bytes.auto.buffer
 
 pub widen_by_triggers-requires : goal.widen_by_triggers-requires
 widen_by_triggers-requires c =
     (try_triggered _ _ _ _ _ _ c.requires, record { lowest = omega (arith, c.copy_bytes.auto.buffer, c.write_effects.auto.buffer); highest = omega (arith, c.copy_bytes.auto.buffer, c.write_effects.auto.buffer) })
-
-pub overflow_cast-rules : goal.overflow_cast-rules
-overflow_cast-rules c = omega (arith, c.type_inv.places (320 + c.rules_of.result))
 
 pub could_exceed-requires : goal.could_exceed-requires
 could_exceed-requires c =

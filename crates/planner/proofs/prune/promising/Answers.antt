@@ -1,14 +1,11 @@
 -- Its condition fails, or it is the last action and nothing could exceed. Assumes nothing.
-use Prim.Native.Nat.{ℕ, ◌*◌}
+use Prim.Native.Nat.{ℕ}
 use mathlib.Core.Path.{◌≡◌, sym, subst}
 use native.Mathlib.Omega.{arith}
 use Rattle.planner.specs.Inner.Who.{rules_of}
 use Rattle.planner.specs.Inner.Look.{Hopeless}
 use Rattle.planner.proofs.Pruning.{try_judged, try_forbidden}
 use Rattle.planner.proofs.prune.promising.Goals as goal
-
-pub overflow_cast-places : goal.overflow_cast-places
-overflow_cast-places c = omega (arith, c.type_inv.places (9 * c.args.x))
 
 pub holds-requires : goal.holds-requires
 holds-requires c = try_judged _ _ _ _ _ _ c.requires

@@ -5,12 +5,6 @@ use Rattle.pack.specs.Grammar.{test_at}
 use Rattle.planner.proofs.Pruning.{run_start, run_stop, run_on, run_none, tiny_run, run_next, run_inside, run_told, told_of, end_of, all_by, all_none}
 use Rattle.planner.proofs.range.could_all.Goals as goal
 
-pub overflow_add-n : goal.overflow_add-n
-overflow_add-n c = omega (arith, run_inside test_at c.requires.0)
-
-pub bounds-pack-at : goal.bounds-pack-at
-bounds-pack-at c = run_inside test_at c.requires.0
-
 pub loop-i-init : goal.loop-i-init
 loop-i-init c = run_start (tiny_run test_at _) _ _ (omega arith) (c.from-count.result - 0) (omega (arith, c.from-count.ensures))
 
@@ -34,3 +28,9 @@ loop-i-preserved c =
 pub returns : goal.returns
 returns c =
     run_told test_at (run_none (tiny_run test_at _) _ _ c.loop-i.invariant (omega (arith, c.loop-i-test.false)) (λ k. all_none _))
+
+pub overflow_add-n : goal.overflow_add-n
+overflow_add-n c = omega (arith, run_inside test_at c.requires.0)
+
+pub bounds-pack-at : goal.bounds-pack-at
+bounds-pack-at c = run_inside test_at c.requires.0

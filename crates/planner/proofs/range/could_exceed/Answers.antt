@@ -9,12 +9,6 @@ use Rattle.planner.proofs.Pruning.{run_start, run_stop, run_last, run_on, run_no
 use Rattle.planner.proofs.range.could_exceed.Goals as goal
 use Rattle.planner.proofs.range.could_exceed.Goals.{else-could-via-then-could+else-base-value, else-could-via-else-could}
 
-pub overflow_add-n : goal.overflow_add-n
-overflow_add-n c = omega (arith, run_inside rule_at (rules_parts c.requires.0))
-
-pub bounds-pack-at : goal.bounds-pack-at
-bounds-pack-at c = run_inside rule_at (rules_parts c.requires.0)
-
 pub loop-i-init : goal.loop-i-init
 loop-i-init c = run_start (tiny_run rule_at _) _ _ (omega arith) (c.from-count.result - 0) (omega (arith, c.from-count.ensures))
 
@@ -55,3 +49,9 @@ loop-i-preserved c =
 pub returns : goal.returns
 returns c =
     rules_told (run_none (tiny_run rule_at _) _ _ c.loop-i.invariant (omega (arith, c.loop-i-test.false)) (λ k. exceed_none _ _))
+
+pub overflow_add-n : goal.overflow_add-n
+overflow_add-n c = omega (arith, run_inside rule_at (rules_parts c.requires.0))
+
+pub bounds-pack-at : goal.bounds-pack-at
+bounds-pack-at c = run_inside rule_at (rules_parts c.requires.0)

@@ -5,12 +5,6 @@ use Rattle.pack.specs.Duties.Judge.{alternative_at}
 use Rattle.planner.proofs.Pruning.{run_start, run_stop, run_last, run_on, run_none, tiny_run, run_next, run_inside, condition_parts, condition_told, told_of, end_of, some_by, some_none}
 use Rattle.planner.proofs.range.could_hold.Goals as goal
 
-pub overflow_add-n : goal.overflow_add-n
-overflow_add-n c = omega (arith, run_inside alternative_at (condition_parts c.requires.0))
-
-pub bounds-pack-at : goal.bounds-pack-at
-bounds-pack-at c = run_inside alternative_at (condition_parts c.requires.0)
-
 pub loop-i-init : goal.loop-i-init
 loop-i-init c = run_start (tiny_run alternative_at _) _ _ (omega arith) (c.from-count.result - 0) (omega (arith, c.from-count.ensures))
 
@@ -40,3 +34,9 @@ loop-i-preserved c =
 pub returns : goal.returns
 returns c =
     condition_told (run_none (tiny_run alternative_at _) _ _ c.loop-i.invariant (omega (arith, c.loop-i-test.false)) (λ k. some_none _))
+
+pub overflow_add-n : goal.overflow_add-n
+overflow_add-n c = omega (arith, run_inside alternative_at (condition_parts c.requires.0))
+
+pub bounds-pack-at : goal.bounds-pack-at
+bounds-pack-at c = run_inside alternative_at (condition_parts c.requires.0)

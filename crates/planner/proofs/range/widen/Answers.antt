@@ -6,12 +6,6 @@ use Rattle.planner.specs.Inner.Range.{wider_same, wider_then}
 use Rattle.planner.proofs.Pruning.{widening_start, widening_one, widening_next, widening_none, effects_inside}
 use Rattle.planner.proofs.range.widen.Goals as goal
 
-pub overflow_add-n : goal.overflow_add-n
-overflow_add-n c = omega (arith, effects_inside c.requires.0)
-
-pub bounds-pack-at : goal.bounds-pack-at
-bounds-pack-at c = effects_inside c.requires.0
-
 pub loop-i-init : goal.loop-i-init
 loop-i-init c =
     (refl, refl, wider_same, λ d small xs end e. widening_start d _ _ e (c.from-count.result - 0) (omega (arith, c.from-count.ensures)))
@@ -35,12 +29,12 @@ loop-i-preserved c =
       λ d small xs end e. widening_next (owed d small xs end e) (omega (arith, c.loop-i-test.true)) small c.widen_one.ensures c.after_effect-n.ensures (omega (arith, c.loop-i-test.true)),
     )
 
-pub shape_of-lows : goal.shape_of-lows
-shape_of-lows c = c.loop-i.invariant.0
-
-pub shape_of-highs : goal.shape_of-highs
-shape_of-highs c = c.loop-i.invariant.1
-
 pub returns : goal.returns
 returns c =
     record { wider = c.loop-i.invariant.2; covers = λ d small xs end e. widening_none (c.loop-i.invariant.3 d small xs end e) (omega (arith, c.loop-i-test.false)) }
+
+pub overflow_add-n : goal.overflow_add-n
+overflow_add-n c = omega (arith, effects_inside c.requires.0)
+
+pub bounds-pack-at : goal.bounds-pack-at
+bounds-pack-at c = effects_inside c.requires.0

@@ -13,18 +13,10 @@ use Rattle.planner.proofs.Pruning.{row_copyable}
 use Rattle.planner.proofs.Reckoning.{reach_rules, reach_fluents, bounded_start, bounded_more, bounded_end}
 use Rattle.planner.proofs.reach.nearest.Goals as goal
 
-pub overflow_cast-rules : goal.overflow_cast-rules
-overflow_cast-rules c = omega (arith, c.type_inv.places (320 + c.rules_of.result))
-
 pub rules_of-requires : goal.rules_of-requires
 rules_of-requires c =
     let (th, (T, x)) = c.requires.0.0 in
     omega (arith, c.requires.0.2, x.laid.narrow)
-
-pub overflow_add-slot : goal.overflow_add-slot
-overflow_add-slot c =
-    let (th, (T, x)) = c.requires.0.0 in
-    omega (arith, c.requires.0.1, x.laid.room, x.laid.some, x.room)
 
 pub copy_bytes-requires : goal.copy_bytes-requires
 copy_bytes-requires c =
@@ -61,9 +53,6 @@ could_exceed-requires-2 c =
 pub returns-then-could_exceed-2 : goal.returns-then-could_exceed-2
 returns-then-could_exceed-2 c =
     record { within = omega arith; beyond = λ k l. c.loop-i.invariant.3 k (omega (arith, l, c.loop-i-test.false)) }
-
-pub overflow_add-result : goal.overflow_add-result
-overflow_add-result c = omega (arith, c.requires.1)
 
 pub returns-else-could_exceed-2 : goal.returns-else-could_exceed-2
 returns-else-could_exceed-2 c =

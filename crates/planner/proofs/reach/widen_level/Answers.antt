@@ -22,12 +22,6 @@ loop-x-preserved c =
       λ p n x. actions_more _ _ c.loop-x-test.true c.widen_action.ensures p n x (old p n x),
     )
 
-pub shape_of-lows : goal.shape_of-lows
-shape_of-lows c = c.loop-x.invariant.0
-
-pub shape_of-highs : goal.shape_of-highs
-shape_of-highs c = c.loop-x.invariant.1
-
 pub returns : goal.returns
 returns c =
     record { wider = c.loop-x.invariant.2; covers = λ p n x a l. c.loop-x.invariant.3 p n x a (omega (arith, l, c.loop-x-test.false)) }

@@ -21,11 +21,6 @@ use Rattle.planner.proofs.Explanations.{marked_as, next_table, next_written, nex
 use Rattle.planner.proofs.EarliestList.{best_is, is_none, not_none, best_none, best_from, best_noted, best_same, fact_of_none, trail_step, trail_same, trail_repeats, on_path, best_end, best_first, best_no, best_hopeless, best_by, best_by_none, agreed_from, agreed_to}
 use Rattle.planner.proofs.search.+completing.Goals as goal
 
-pub completes-overflow_mul-slot : goal.completes-overflow_mul-slot
-completes-overflow_mul-slot t c =
-    let (th, (T, (y, mem, trail))) = c.requires.0 in
-    omega (arith, c.requires.1, y.laid.room)
-
 pub completes-ends-requires : goal.completes-ends-requires
 completes-ends-requires t c =
     let (th, (T, (y, mem, trail))) = c.requires.0 in
@@ -75,10 +70,6 @@ completes-steps_made-since-requires t c =
     let (th, (T, (y, mem, trail))) = c.requires.0 in
     (omega (arith, y.laid.room), omega (arith, y.room, c.recall.auto.work))
 
-pub completes-overflow_sub-fewer : goal.completes-overflow_sub-fewer
-completes-overflow_sub-fewer t c =
-    omega (arith, c.if-ahead-eq0.false)
-
 pub completes-completes_after-after-requires : goal.completes-completes_after-after-requires
 completes-completes_after-after-requires t c =
     let (th, (T, (y, mem, trail))) = c.requires.0 in
@@ -106,11 +97,6 @@ completes-returns-else-is_none t c =
     let up : c.args.ahead.left ≡ suc (c.args.ahead.left - 1) = omega (arith, c.if-ahead-eq0.false) in
     λ th T y mem trail.
     best_from (λ q l. c.recall.ensures.2.only.low q (omega (arith, l, c.requires.1))) c.recall.ensures.2.only.high (best_same (sym up) (c.completes_after-after.ensures th T (slot_same (c.args.ahead.done * c.args.p.stride) y (λ q l. c.recall.ensures.2.only.low q (omega (arith, l, c.requires.1))) c.recall.auto.work) (c.recall.ensures.2.told th c.args.p.foresight.actions (c.args.ahead.done * c.args.p.stride + c.args.p.stride) (omega (arith, c.requires.1)) y.slotted mem).0 (trail_same th c.args.p.foresight.actions c.args.ahead.goal.nesting.0 c.args.ahead.goal.base (meaning c.args.p.characters T 0) (λ q l. c.recall.ensures.2.only.low q (omega (arith, l, c.requires.1))) (subst (λ (n : ℕ). Trail th c.args.p.foresight.actions c.args.ahead.goal.nesting.0 c.args.ahead.goal.base c.args.p c.args.work.now c.args.ahead.done n (meaning c.args.p.characters T 0)) up trail))))
-
-pub completes_after-overflow_mul-slot : goal.completes_after-overflow_mul-slot
-completes_after-overflow_mul-slot t c =
-    let (th, (T, (y, mem, trail))) = c.requires.0 in
-    omega (arith, c.requires.1, y.laid.room)
 
 pub completes_after-table_in-t-requires : goal.completes_after-table_in-t-requires
 completes_after-table_in-t-requires t c =
@@ -183,11 +169,6 @@ completes_after-returns t c =
     subst (λ (now : List ℕ). Best (Memory th c.args.p.foresight.actions c.args.p (c.args.ahead.done * c.args.p.stride + c.args.p.stride)) (Ends th c.args.p.foresight.actions c.args.ahead.goal.nesting.0 c.args.ahead.goal.base s) (suc c.args.ahead.left) c.args.list.now now c.args.ahead.done (c.args.ahead.done * c.args.p.stride + c.args.p.stride) c.args.work.now c.loop-x.work None) (sym same)
     (best_none c.args.list.now low high (rest th T y mem trail).0 (best_no th c.args.p.foresight.actions c.args.ahead.goal.nesting.0 c.args.ahead.goal.base s (λ x g. (rest th T y mem trail).1 x (omega (arith, g, y.theorized.found.actions, c.loop-x-test.false)))))
 
-pub completes_by-overflow_mul-slot : goal.completes_by-overflow_mul-slot
-completes_by-overflow_mul-slot t c =
-    let (th, (T, (y, mem, trail))) = c.requires.0 in
-    omega (arith, c.requires.2, y.laid.room)
-
 pub completes_by-allowed-requires : goal.completes_by-allowed-requires
 completes_by-allowed-requires t c =
     let (th, (T, (y, mem, trail))) = c.requires.0 in
@@ -213,10 +194,6 @@ completes_by-returns-then-not-known_step t c =
     let played = c.known_step.ensures.0 th T (slot_same (c.args.ahead.done * c.args.p.stride) y told.low c.allowed.auto.work) told.memory in
     best_none _ (λ q l. played.low q l ∙ told.low q l) (λ q l. played.high q l ∙ told.high q l) played.memory (λ l v q g. played.none c.if-not-known_step.true g.2.0 g.2.1)
 
-pub completes_by-overflow_add-next : goal.completes_by-overflow_add-next
-completes_by-overflow_add-next t c =
-    omega (arith, c.requires.2)
-
 pub completes_by-completes-requires : goal.completes_by-completes-requires
 completes_by-completes-requires t c =
     let (th, (T, (y, mem, trail))) = c.requires.0 in
@@ -230,15 +207,6 @@ completes_by-completes-requires t c =
     let next = trail_step (c.args.ahead.done * c.args.p.stride) y c.args.p.foresight.actions c.args.ahead.goal.nesting.0 c.args.ahead.goal.base trail refl c.known_step.new.work (λ q l. played.low q l ∙ told.low q l) (c.known_step.auto.work ∙ c.allowed.auto.work) (next_written z' 0 played f c.known_step.auto.work zero) (stage_extent (c.args.ahead.done * c.args.p.stride + c.args.p.stride) (next_stage z' 0 played f c.known_step.auto.work zero)) plays agreed in
     let here = on_path c.args.ahead.done (next_stage z' 0 played f c.known_step.auto.work zero) (played.further zero) in
     (omega (arith, c.decreases), ((th, (next_table z' 0 played f c.known_step.auto.work zero, (here.0, here.1, next))), free_next c.args.p c.args.ahead.done c.args.ahead.left ((1 + c.args.p.foresight.actions) * c.args.ahead.goal.nesting.0) c.requires.2, omega (arith, c.requires.3)))
-
-pub completes_by-overflow_cast-list : goal.completes_by-overflow_cast-list
-completes_by-overflow_cast-list t c =
-    let (th, (T, (y, mem, trail))) = c.requires.0 in
-    omega (arith, c.requires.1, y.theorized.found.most_actions)
-
-pub completes_by-bounds-list-done : goal.completes_by-bounds-list-done
-completes_by-bounds-list-done t c =
-    omega (arith, c.requires.3, c.completes.auto.list)
 
 pub completes_by-returns : goal.completes_by-returns
 completes_by-returns t c =

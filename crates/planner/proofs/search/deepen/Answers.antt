@@ -16,14 +16,6 @@ use Rattle.planner.proofs.EarliestList.{trail_outset, author_rules, at_outset, b
 use Rattle.planner.proofs.SearchCall.{shorter, shortest_found, shortest_none}
 use Rattle.planner.proofs.search.deepen.Goals as goal
 
-pub bounds-places-320 : goal.bounds-places-320
-bounds-places-320 c =
-    let (th, (T, (y, mem, wr, le))) = c.requires.0 in
-    omega (arith, y.theorized.marked)
-
-pub overflow_cast-places : goal.overflow_cast-places
-overflow_cast-places c = omega (arith, c.type_inv.places 320)
-
 pub can_exceed-requires : goal.can_exceed-requires
 can_exceed-requires c =
     let (th, (T, (y, mem, wr, le))) = c.requires.0 in
@@ -62,12 +54,6 @@ completes-requires c =
     let count = 1 + c.loop-n.n + (1 + c.args.p.foresight.actions) * c.args.g.nesting.0 in
     ((th, (T, (here.0, here.1, trail_outset c.args.p.foresight.actions c.args.g.nesting.0 c.args.g.base y low long wr le (rest th T y mem wr le).1))), free_outset c.args.p count (free_fewer c.args.p 0 (1 + c.args.most + (1 + c.args.p.foresight.actions) * c.args.g.nesting.0) count (omega (arith, c.loop-n-test.true)) c.requires.3), omega (arith, c.loop-n-test.true, c.requires.1, c.requires.2, ap length same))
 
-pub shape_of-work-in-Some : goal.shape_of-work-in-Some
-shape_of-work-in-Some c = c.completes.auto.work ∙ c.loop-n.invariant.1
-
-pub shape_of-list-in-Some : goal.shape_of-list-in-Some
-shape_of-list-in-Some c = c.completes.auto.list ∙ ap length c.loop-n.invariant.2
-
 pub returns-in-Some : goal.returns-in-Some
 returns-in-Some c =
     let (some, long, same, low, high, rest) = c.loop-n.invariant in
@@ -104,6 +90,3 @@ pub returns-else-not-can_exceed : goal.returns-else-not-can_exceed
 returns-else-not-can_exceed c =
     let (some, long, same, low, high, rest) = c.loop-n.invariant in
     λ th T y mem wr le. shortest_none low high (omega (arith, c.loop-n-test.false)) same (rest th T y mem wr le).1
-
-pub shape_of-work-in_default : goal.shape_of-work-in_default
-shape_of-work-in_default c = c.completes.auto.work ∙ c.loop-n.invariant.1

@@ -13,14 +13,6 @@ table_in-t-requires c =
     let (th, (T, y)) = c.requires.0 in
     (omega (arith, c.requires.1, y.room, y.laid.some, y.laid.room), omega (arith, small y.tabled))
 
-pub bounds-places-320 : goal.bounds-places-320
-bounds-places-320 c =
-    let (th, (T, y)) = c.requires.0 in
-    omega (arith, y.theorized.marked)
-
-pub overflow_cast-places : goal.overflow_cast-places
-overflow_cast-places c = omega (arith, c.type_inv.places 320)
-
 pub utility-worth-requires : goal.utility-worth-requires
 utility-worth-requires c =
     let (th, (T, y)) = c.requires.0 in

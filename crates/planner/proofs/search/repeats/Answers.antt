@@ -16,10 +16,6 @@ use Rattle.planner.proofs.search.repeats.Goals as goal
 pub loop-i-init : goal.loop-i-init
 loop-i-init c = λ j l. absurd (omega (arith, l))
 
-pub overflow_mul-i : goal.overflow_mul-i
-overflow_mul-i c =
-    omega (arith, slots_upto c.args.p {i = c.loop-i.i} {n = c.args.done} (omega (arith, c.loop-i-test.true)), c.requires.1, c.requires.0.before, c.requires.0.laid.room)
-
 pub first_other-requires : goal.first_other-requires
 first_other-requires c =
     let upto = slots_upto c.args.p {i = c.loop-i.i} {n = c.args.done} (omega (arith, c.loop-i-test.true)) in

@@ -30,14 +30,6 @@ table_in-t-requires c =
     let (th, (T, x)) = c.requires in
     (omega (arith, x.room, c.lay_start.auto), omega (arith, x.theorized.small.characters, x.theorized.small.fluents, x.same_characters, x.same_fluents))
 
-pub bounds-places-320 : goal.bounds-places-320
-bounds-places-320 c =
-    let (th, (T, x)) = c.requires in
-    omega (arith, x.theorized.marked)
-
-pub overflow_cast-places : goal.overflow_cast-places
-overflow_cast-places c = omega (arith, c.type_inv.places 320)
-
 pub utility-base-requires : goal.utility-base-requires
 utility-base-requires c =
     let (th, (T, x)) = c.requires in

@@ -34,21 +34,6 @@ step_is-requires c =
     let ((th, (T, (x, m))), there, row, free) = c.requires in
     omega (arith, c.step_at-at.ensures.1.is, c.step_at-at.ensures.1.few, c.id_of.auto.work, x.room, x.laid.room)
 
-pub overflow_add-at : goal.overflow_add-at
-overflow_add-at c =
-    let ((th, (T, (x, m))), there, row, free) = c.requires in
-    omega (arith, c.step_at-at.ensures.1.is, c.step_at-at.ensures.1.few, x.laid.room)
-
-pub bounds-work-at : goal.bounds-work-at
-bounds-work-at c =
-    let ((th, (T, (x, m))), there, row, free) = c.requires in
-    omega (arith, c.step_at-at.ensures.1.is, c.step_at-at.ensures.1.few, c.id_of.auto.work, x.room, x.laid.room)
-
-pub overflow_add-slot : goal.overflow_add-slot
-overflow_add-slot c =
-    let ((th, (T, (x, m))), there, row, free) = c.requires in
-    omega (arith, free, x.laid.room)
-
 pub again-requires : goal.again-requires
 again-requires c =
     let ((th, (T, (x, m))), there, row, free) = c.requires in
@@ -63,21 +48,11 @@ returns-then-step_is c =
       once_again c.args.p c.in-Some.ensures.1 c.step_at-at.ensures.0 c.step_at-at.ensures.1 (stage_slot x free) x.slotted read (sym c.id_in-next.ensures.1) c.again.ensures,
     )
 
-pub overflow_add-slot-2 : goal.overflow_add-slot-2
-overflow_add-slot-2 c =
-    let ((th, (T, (x, m))), there, row, free) = c.requires in
-    omega (arith, free, x.laid.room)
-
 pub step_slot-plays-requires : goal.step_slot-plays-requires
 step_slot-plays-requires c =
     let ((th, (T, (x, m))), there, row, free) = c.requires in
     let y = table_stage c.table_in-t.ensures x in
     (th, (T, (_, (stage_setting (stage_same y (λ q l. c.id_of.ensures.1.interning.only.low q (omega (arith, l, free))) c.id_of.auto.work) free, there, (subst (λ (t : Table). c.args.root < t.nodes) (sym c.table_in-t.ensures) row)))))
-
-pub overflow_add-slot-then-plays : goal.overflow_add-slot-then-plays
-overflow_add-slot-then-plays c =
-    let ((th, (T, (x, m))), there, row, free) = c.requires in
-    omega (arith, free, x.laid.room)
 
 pub note_left-requires : goal.note_left-requires
 note_left-requires c =

@@ -5,12 +5,6 @@ use Rattle.planner.specs.Inner.Memory.{id_at}
 use Rattle.planner.proofs.TrueMemory.{noted_step, noted_none}
 use Rattle.planner.proofs.steps.note.Goals as goal
 
-pub overflow_add-p : goal.overflow_add-p
-overflow_add-p c = omega (arith, c.requires.0.laid.room)
-
-pub bounds-work-p : goal.bounds-work-p
-bounds-work-p c = omega (arith, c.requires.0.laid.room, c.requires.0.room)
-
 pub step_at-at-requires : goal.step_at-at-requires
 step_at-at-requires c =
     (c.requires.0.laid, omega (arith, c.in-Some.ensures.1, c.slice_known-2-1.given (id_at c.args.p c.args.t.rows)), c.requires.1, c.requires.2)

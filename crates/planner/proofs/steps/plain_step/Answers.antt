@@ -4,7 +4,7 @@ use mathlib.Core.Path.{sym, ◌∙◌, subst}
 use native.Mathlib.Omega.{arith}
 use lib.Dec.{eqb}
 use borrow.Author.Tests.{eqb-true, eqb-false}
-use lib.ListN.{set, length-set}
+use lib.ListN.{set}
 use Rattle.pack.specs.State.{meaning}
 use Rattle.pack.specs.declared.table.Table.{Table}
 use Rattle.transition.specs.Laws.ChangedRows.{small}
@@ -24,11 +24,6 @@ count_step-requires c =
     let ((th, (T, (x, m))), there, row, free) = c.requires in
     (omega (arith, x.laid.room), x.room)
 
-pub overflow_add-next : goal.overflow_add-next
-overflow_add-next c =
-    let ((th, (T, (x, m))), there, row, free) = c.requires in
-    omega (arith, free, x.laid.room)
-
 pub step_slot-plays-requires : goal.step_slot-plays-requires
 step_slot-plays-requires c =
     let ((th, (T, (x, m))), there, row, free) = c.requires in
@@ -36,25 +31,6 @@ step_slot-plays-requires c =
     let y' = stage_same y (λ q l. c.count_step.ensures.low q (omega (arith, l, free))) c.count_step.auto.work in
     let row' = subst (λ (t : Table). c.args.root < t.nodes) (sym c.table_in-t.ensures) row in
     (th, (T, (_, (stage_setting y' free, there, row'))))
-
-pub overflow_add-work : goal.overflow_add-work
-overflow_add-work c =
-    let ((th, (T, (x, m))), there, row, free) = c.requires in
-    omega (arith, free, x.laid.room)
-
-pub overflow_add-work-2 : goal.overflow_add-work-2
-overflow_add-work-2 c =
-    let ((th, (T, (x, m))), there, row, free) = c.requires in
-    omega (arith, x.laid.room)
-
-pub bounds-work-p : goal.bounds-work-p
-bounds-work-p c =
-    let ((th, (T, (x, m))), there, row, free) = c.requires in
-    omega (arith, x.laid.room, x.room, c.step_slot-plays.auto.work, c.count_step.auto.work)
-
-pub shape_of-work : goal.shape_of-work
-shape_of-work c =
-    length-set c.step_slot-plays.new.work (id_at c.args.p (c.args.slot + c.args.p.stride + 1)) 0 ∙ c.step_slot-plays.auto.work ∙ c.count_step.auto.work
 
 pub returns : goal.returns
 returns c =

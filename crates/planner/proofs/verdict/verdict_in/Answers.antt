@@ -12,11 +12,6 @@ copy_table-requires c =
     let (th, (T, x)) = c.requires in
     read_copies x.read x.room
 
-pub overflow_sub-p : goal.overflow_sub-p
-overflow_sub-p c =
-    let (th, (T, x)) = c.requires in
-    omega (arith, x.laid.tabled)
-
 pub clear-requires : goal.clear-requires
 clear-requires c =
     let (th, (T, x)) = c.requires in
