@@ -9,18 +9,6 @@ use Rattle.planner.proofs.Pruning.{run_start, run_stop, run_on, run_none, tiny_r
 use Rattle.planner.proofs.Bounds.{above_none, above_here, above_not}
 use Rattle.planner.proofs.bound.can_exceed.Goals as goal
 
-pub loop-i-init : goal.loop-i-init
-loop-i-init c = run_start (tiny_run rule_at _) _ _ (omega arith) (c.from-count.result - 0) (omega (arith, c.from-count.ensures))
-
-pub after_condition-requires : goal.after_condition-requires
-after_condition-requires c =
-    rule_readable (run_next rule_at (rules_parts c.requires) c.loop-i.invariant (omega (arith, c.loop-i-test.true)))
-
--- the number is there
-pub returns-in-Refused : goal.returns-in-Refused
-returns-in-Refused c =
-    rules_told (run_stop (tiny_run rule_at _) _ _ c.loop-i.invariant (omega (arith, c.loop-i-test.true)) (λ k x rest g. never (rule_number c.after_condition.ensures (c.read_number.ensures ∙ ap said c.in-Refused.is) k x g)))
-
 pub returns-then-base-value : goal.returns-then-base-value
 returns-then-base-value c =
     rules_told (run_stop (tiny_run rule_at _) _ _ c.loop-i.invariant (omega (arith, c.loop-i-test.true)) (λ k x rest g.
@@ -33,12 +21,24 @@ loop-i-preserved c =
     let is = same_value (rule_number c.after_condition.ensures (c.read_number.ensures ∙ ap said c.in-Is.is) k x g) in
     above_not _ x rest (omega (arith, is, c.if-base-value.false))) (omega (arith, c.loop-i-test.true))
 
-pub returns : goal.returns
-returns c =
-    rules_told (run_none (tiny_run rule_at _) _ _ c.loop-i.invariant (omega (arith, c.loop-i-test.false)) (λ k. above_none _))
-
 pub overflow_add-n : goal.overflow_add-n
 overflow_add-n c = omega (arith, run_inside rule_at (rules_parts c.requires))
 
 pub bounds-pack-at : goal.bounds-pack-at
 bounds-pack-at c = run_inside rule_at (rules_parts c.requires)
+
+pub loop-i-init : goal.loop-i-init
+loop-i-init c = run_start (tiny_run rule_at _) _ _ (omega arith) (c.from-count.result - 0) (omega (arith, c.from-count.ensures))
+
+pub after_condition-requires : goal.after_condition-requires
+after_condition-requires c =
+    rule_readable (run_next rule_at (rules_parts c.requires) c.loop-i.invariant (omega (arith, c.loop-i-test.true)))
+
+-- the number is there
+pub returns-in-Refused : goal.returns-in-Refused
+returns-in-Refused c =
+    rules_told (run_stop (tiny_run rule_at _) _ _ c.loop-i.invariant (omega (arith, c.loop-i-test.true)) (λ k x rest g. never (rule_number c.after_condition.ensures (c.read_number.ensures ∙ ap said c.in-Refused.is) k x g)))
+
+pub returns : goal.returns
+returns c =
+    rules_told (run_none (tiny_run rule_at _) _ _ c.loop-i.invariant (omega (arith, c.loop-i-test.false)) (λ k. above_none _))

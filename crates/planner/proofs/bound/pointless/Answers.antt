@@ -20,7 +20,6 @@ use Rattle.planner.specs.Inner.Lists.{slot_table}
 use Rattle.planner.specs.Inner.Explain.{Stage}
 use Rattle.planner.specs.Inner.Bound.{exceeds, unexplained}
 use Rattle.planner.proofs.Explanations.{stage_believed, stage_rules, stage_utility, rules_in, utility_in, explained_plays, by_belief}
-use Rattle.planner.proofs.TrueMemory.{unset}
 use Rattle.planner.proofs.Bounds.{judged_readable, stage_judged, stage_forbidden, stage_exceeds}
 use Rattle.planner.proofs.bound.pointless.Goals as goal
 use Rattle.planner.proofs.bound.pointless.Goals.{After-from-q}
@@ -31,19 +30,6 @@ believed : (c : After-from-q) {th : Theory} {T : List Node} →
     → (belief (meaning c.args.p.characters T 0) c.args.d.who ≡ meaning c.args.p.characters T c.from-q.result) × (c.from-q.result < get_or c.args.work.now c.args.slot 0)
 believed c y =
     stage_believed y 0 c.args.d.who y.tabled.some c.requires.1 (ap (λ (q : ℕ). get_or c.args.work.now q 0) (omega arith) ∙ sym c.from-q.ensures)
-
-pub is_large-requires : goal.is_large-requires
-is_large-requires c =
-    let (th, (T, y)) = c.requires.0 in
-    (omega (arith, y.laid.room), y.room)
-
-pub returns-then-not-is_large : goal.returns-then-not-is_large
-returns-then-not-is_large c = unset
-
-pub holds-may-requires : goal.holds-may-requires
-holds-may-requires c =
-    let (th, (T, y)) = c.requires.0 in
-    subst (λ (t : Table). Judged condition_at c.args.pack.now (get_or c.args.places.now (9 * c.args.d.action) 0) t c.args.work.now c.from-q.result) (sym c.table_in-t.ensures) (stage_judged y c.args.d.action c.requires.2 c.from-q.result (believed (goal.at.holds-may-requires c).After-from-q y).1)
 
 -- the condition fails
 pub returns-then-not-may : goal.returns-then-not-may
@@ -57,11 +43,6 @@ utility-base-requires c =
     let (th, (T, y)) = c.requires.0 in
     rules_in _ _ _ c.from-q.result c.table_in-t.ensures (stage_rules y _ _ c.requires.1 (believed (goal.at.utility-base-requires c).After-from-q y).1).0
 
-pub can_exceed-requires : goal.can_exceed-requires
-can_exceed-requires c =
-    let (th, (T, y)) = c.requires.0 in
-    judged_readable (stage_rules y _ _ c.requires.1 (believed (goal.at.can_exceed-requires c).After-from-q y).1).0
-
 -- no rule is above what the belief is worth
 pub returns : goal.returns
 returns c =
@@ -70,3 +51,13 @@ returns c =
     unexplained th K E c.args.d.who c.args.d.action (meaning c.args.p.characters T 0)
     (subst (λ (b : ℕ). exceeds b (get_or th.utilities (suc c.args.d.who) []) ≡ false) (worth ∙ ap (utility_to th c.args.d.who) (sym (believed (goal.at.returns c).After-from-q y).0))
     (sym (stage_exceeds y c.utility-base.result c.args.d.who c.requires.1 c.can_exceed.ensures) ∙ not-true c.can_exceed.result e))
+
+pub holds-may-requires : goal.holds-may-requires
+holds-may-requires c =
+    let (th, (T, y)) = c.requires.0 in
+    subst (λ (t : Table). Judged condition_at c.args.pack.now (get_or c.args.places.now (9 * c.args.d.action) 0) t c.args.work.now c.from-q.result) (sym c.table_in-t.ensures) (stage_judged y c.args.d.action c.requires.2 c.from-q.result (believed (goal.at.holds-may-requires c).After-from-q y).1)
+
+pub can_exceed-requires : goal.can_exceed-requires
+can_exceed-requires c =
+    let (th, (T, y)) = c.requires.0 in
+    judged_readable (stage_rules y _ _ c.requires.1 (believed (goal.at.can_exceed-requires c).After-from-q y).1).0

@@ -5,7 +5,7 @@ use mathlib.Core.Path.{sym}
 use borrow.Author.Tests.{leb-true, leb-false}
 use Rattle.planner.proofs.Chains.{table_moved}
 use Rattle.planner.proofs.SameBytes.{table_bytes}
-use Rattle.planner.proofs.TrueMemory.{unset, table_size}
+use Rattle.planner.proofs.TrueMemory.{unset}
 use Rattle.planner.proofs.cell.cell_has.Goals as goal
 use Rattle.planner.proofs.cell.cell_has.Goals.{then-work-at-eq0-via-then-work-at-eq0, then-work-at-eq0-via-else-work-at-eq0+then-not-keyed}
 
@@ -17,11 +17,6 @@ returns-then-work-at-eq0 c = (
     | then-work-at-eq0-via-else-work-at-eq0+then-not-keyed w ↦ w.keyed.ensures.1 w.if-not-keyed.true x.key
   ],
 )
-
-pub first_other-requires : goal.first_other-requires
-first_other-requires c =
-    let size = table_size c.args.p c.requires.0 in
-    (omega (arith, c.extent-n.ensures, c.requires.0.before, c.requires.0.room, c.requires.0.laid.room), omega (arith, c.extent-n.ensures, size, c.requires.0.room, c.requires.1))
 
 pub returns : goal.returns
 returns c = (

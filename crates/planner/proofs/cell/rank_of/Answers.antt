@@ -2,11 +2,5 @@
 use native.Mathlib.Omega.{arith}
 use Rattle.planner.proofs.cell.rank_of.Goals as goal
 
-pub loop-left-init : goal.loop-left-init
-loop-left-init c = omega arith
-
-pub loop-left-smaller : goal.loop-left-smaller
-loop-left-smaller c = omega (arith, c.loop-left-test.true)
-
 pub loop-left-preserved : goal.loop-left-preserved
 loop-left-preserved c = omega (arith, c.if-rank.false, c.loop-left.invariant)

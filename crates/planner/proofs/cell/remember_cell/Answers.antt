@@ -25,11 +25,6 @@ pub returns-then-rank-old : goal.returns-then-rank-old
 returns-then-rank-old c =
     (remembered_rank c.args.p c.args.work.now _ c.args.slot (mark_of c.args.known) c.args.k c.requires.1 c.bucket_at-first.ensures.1 c.lowest-at.ensures.0.few (λ q n. get_or-set_other c.args.work.now (c.lowest-at.result + 6) q _ 0 (λ e. n (e ∙ ap (λ (z : ℕ). z + 6) c.lowest-at.ensures.0.is))), kept_higher c.args.p c.args.work.now c.lowest-at.result c.bucket_at-first.ensures.0 c.lowest-at.ensures.1 (omega (arith, c.if-rank-old.true)))
 
-pub put_cell-requires : goal.put_cell-requires
-put_cell-requires c =
-    let s = (c.storable.ensures 1 (omega arith)).0 (c.if-not-storable.false) in
-    (c.requires.0, omega (arith, c.lowest-at.ensures.0.is, way_in c.args.p c.bucket_at-first.ensures.1 c.lowest-at.ensures.0.few), omega (arith, c.if-from-gt-ROWS.false, c.from.ensures), omega (arith, c.lowest-at.ensures.0.is, c.bucket_at-first.ensures.1.is), s.who, s.nesting, s.number, s.base)
-
 pub returns : goal.returns
 returns c =
     let filled = subst (λ (q : ℕ). CellPut c.args.p c.args.slot q (mark_of c.args.known) c.args.k c.args.work.now c.put_cell.new.work) c.lowest-at.ensures.0.is c.put_cell.ensures in
@@ -38,3 +33,8 @@ returns c =
 pub bounds-work-at : goal.bounds-work-at
 bounds-work-at c =
     omega (arith, c.lowest-at.ensures.0.is, way_in c.args.p c.bucket_at-first.ensures.1 c.lowest-at.ensures.0.few, c.requires.0.room)
+
+pub put_cell-requires : goal.put_cell-requires
+put_cell-requires c =
+    let s = (c.storable.ensures 1 (omega arith)).0 (c.if-not-storable.false) in
+    (c.requires.0, omega (arith, c.lowest-at.ensures.0.is, way_in c.args.p c.bucket_at-first.ensures.1 c.lowest-at.ensures.0.few), omega (arith, c.if-from-gt-ROWS.false, c.from.ensures), omega (arith, c.lowest-at.ensures.0.is, c.bucket_at-first.ensures.1.is), s.who, s.nesting, s.number, s.base)

@@ -1,15 +1,11 @@
 -- The place of an entry. Assumes nothing.
 use Prim.Native.Nat.{ℕ, ◌+◌, ◌*◌, ◌<◌}
 use mathlib.Core.Path.{sym, ap, subst}
-use mathlib.Core.Logic.{inr}
 use native.Mathlib.Omega.{arith}
 use Rattle.planner.specs.Inner.Memory.{facts_at, Place}
 use Rattle.planner.proofs.Slots.{sized_bounds}
 use Rattle.planner.proofs.TrueMemory.{placed}
 use Rattle.planner.proofs.entry.entry_at.Goals as goal
-
-pub remainder-requires : goal.remainder-requires
-remainder-requires c = inr c.requires.0.entries
 
 pub returns : goal.returns
 returns c =

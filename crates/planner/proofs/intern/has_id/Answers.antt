@@ -6,25 +6,13 @@ use lib.ListN.{get_or}
 use Rattle.planner.specs.Inner.Memory.{kept_at}
 use borrow.Author.Tests.{leb-true, leb-false}
 use Rattle.planner.proofs.SameBytes.{named_bytes}
-use Rattle.planner.proofs.TrueMemory.{unset, kept_as, blocks_most}
+use Rattle.planner.proofs.TrueMemory.{unset, kept_as}
 use Rattle.planner.proofs.intern.has_id.Goals as goal
-
-pub returns-then-id-eq0 : goal.returns-then-id-eq0
-returns-then-id-eq0 c = (unset, λ e x. omega (arith, x.inside.some, c.if-id-eq0.true))
 
 pub returns-then-p-from : goal.returns-then-p-from
 returns-then-p-from c =
     let wide : c.args.p.fluents + c.args.p.characters ≡ c.args.t.width = ap (λ (f : ℕ). f + c.args.p.characters) c.requires.0.fluents ∙ ap (λ (n : ℕ). c.args.t.fluents + n) c.requires.0.characters ∙ c.requires.0.wide in
     (unset, λ e x. omega (arith, x.inside.inside, ap (λ (k : ℕ). k * (c.args.p.fluents + c.args.p.characters)) x.count, ap (λ (k : ℕ). c.args.t.nodes * k) wide, c.if-p-from.true, ap (λ (k : ℕ). c.args.p.block * k) c.from.ensures, c.requires.0.laid.room))
-
-pub returns-then-from-t : goal.returns-then-from-t
-returns-then-from-t c =
-    let here = ap (λ (x : ℕ). get_or c.args.work.now (x - c.args.p.block + c.args.p.block * c.args.id) 0) c.requires.0.laid.tabled in
-    (unset, λ e x. omega (arith, here, x.count, c.from-2.ensures, c.if-from-t.true))
-
-pub first_other-requires : goal.first_other-requires
-first_other-requires c =
-    (omega (arith, c.requires.0.before, c.requires.0.room, c.requires.0.laid.room, c.requires.0.laid.tabled), omega (arith, c.if-p-from.false, blocks_most c.args.p c.requires.0.laid c.from.result (omega (arith, c.from.ensures, c.type_inv.work (c.args.p.memory + 48))), c.requires.0.room, c.requires.0.laid.room, c.requires.0.laid.tabled))
 
 pub returns : goal.returns
 returns c =

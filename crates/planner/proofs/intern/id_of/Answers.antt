@@ -15,8 +15,3 @@ returns-in-Some c =
         known = λ _. refl;
       },
     )
-
-pub returns : goal.returns
-returns c =
-    let (given, interning) = c.intern_slot.ensures in
-    (given, record { interning = interning; known = λ z. absurd (omega (arith, z, c.in_default.ensures.1)) })

@@ -4,19 +4,12 @@ use mathlib.Core.Path.{refl, sym, ◌∙◌, subst}
 use native.Mathlib.Omega.{arith}
 use lib.ListN.{set, length-set}
 use Rattle.chart.specs.Duties.Put.{PartCopied}
-use Rattle.planner.proofs.TrueMemory.{table_size, placed_none, placed_new, blocks_most}
+use Rattle.planner.proofs.TrueMemory.{placed_none, placed_new}
 use Rattle.planner.proofs.intern.store.Goals as goal
 
 pub returns-then-taken-more-gt-BLOCKS : goal.returns-then-taken-more-gt-BLOCKS
 returns-then-taken-more-gt-BLOCKS c =
     (tt, (λ _. placed_none c.args.p, λ f. absurd (omega (arith, f, c.from-taken.ensures, c.if-taken-more-gt-BLOCKS.true))))
-
-pub copy_part-requires : goal.copy_part-requires
-copy_part-requires c =
-    let long = length-set c.args.work.now (c.args.p.tables + c.args.p.block * c.from-taken.result) c.args.t.nodes in
-    let most = blocks_most c.args.p c.requires.laid c.from-taken.result (omega (arith, c.from-taken.ensures, c.slice_known-2-1.given (c.args.p.memory + 48))) in
-    let size = table_size c.args.p c.requires in
-    (omega (arith, c.requires.before, c.requires.laid.tabled), omega (arith, c.requires.before, c.requires.room, c.requires.laid.room, long), omega (arith, c.requires.room, c.requires.laid.tabled, long, most, size))
 
 pub overflow_add-work : goal.overflow_add-work
 overflow_add-work c = omega (arith, c.if-taken-more-gt-BLOCKS.false)

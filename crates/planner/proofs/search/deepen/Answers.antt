@@ -16,11 +16,6 @@ use Rattle.planner.proofs.EarliestList.{trail_outset, author_rules, at_outset, b
 use Rattle.planner.proofs.SearchCall.{shorter, shortest_found, shortest_none}
 use Rattle.planner.proofs.search.deepen.Goals as goal
 
-pub can_exceed-requires : goal.can_exceed-requires
-can_exceed-requires c =
-    let (th, (T, (y, mem, wr, le))) = c.requires.0 in
-    judged_readable (author_rules y 0 y.tabled.some).0
-
 -- none of the author's rules is above
 pub returns-then-not-can_exceed : goal.returns-then-not-can_exceed
 returns-then-not-can_exceed c =
@@ -28,31 +23,6 @@ returns-then-not-can_exceed c =
     let low = sym (author-exceeds y c.args.g.base c.can_exceed.ensures) ∙ c.if-not-can_exceed.true in
     let more : c.args.most < c.args.most + 1 = omega arith in
     shortest_none (λ q l. refl) (λ q l. refl) more refl (λ l v some few. no_end th c.args.p.foresight.actions c.args.g.nesting.0 c.args.g.base (meaning c.args.p.characters T 0) l v low)
-
-pub first_length-first-requires : goal.first_length-first-requires
-first_length-first-requires c =
-    let (th, (T, (y, mem, wr, le))) = c.requires.0 in
-    (((th, (T, y)), free_fewer c.args.p 0 (1 + c.args.most + (1 + c.args.p.foresight.actions) * c.args.g.nesting.0) 1 (omega arith) c.requires.3, omega arith), omega (arith, c.requires.1))
-
--- shorter lists are out of reach
-pub loop-n-init : goal.loop-n-init
-loop-n-init c =
-    let (some, beyond) = c.first_length-first.ensures in (
-      some,
-      refl,
-      refl,
-      λ q l. refl,
-      λ q l. refl,
-      λ th T y mem wr le. (mem, λ l v long k. ends_beyond th c.args.p.foresight.actions c.args.g.nesting.0 c.args.g.base (length l) (meaning c.args.p.characters T 0) (beyond (length l) long k th T y) l v refl),
-    )
-
-pub completes-requires : goal.completes-requires
-completes-requires c =
-    let (th, (T, (y, mem, wr, le))) = c.requires.0 in
-    let (some, long, same, low, high, rest) = c.loop-n.invariant in
-    let here = at_outset (slot_same 0 y low long) (rest th T y mem wr le).0 in
-    let count = 1 + c.loop-n.n + (1 + c.args.p.foresight.actions) * c.args.g.nesting.0 in
-    ((th, (T, (here.0, here.1, trail_outset c.args.p.foresight.actions c.args.g.nesting.0 c.args.g.base y low long wr le (rest th T y mem wr le).1))), free_outset c.args.p count (free_fewer c.args.p 0 (1 + c.args.most + (1 + c.args.p.foresight.actions) * c.args.g.nesting.0) count (omega (arith, c.loop-n-test.true)) c.requires.3), omega (arith, c.loop-n-test.true, c.requires.1, c.requires.2, ap length same))
 
 pub returns-in-Some : goal.returns-in-Some
 returns-in-Some c =
@@ -85,6 +55,26 @@ returns-in_default c =
     let b = best_outset (c.completes.ensures th T here.0 here.1 (trail_outset c.args.p.foresight.actions c.args.g.nesting.0 c.args.g.base y low long wr le (rest th T y mem wr le).1)) in
     let last : c.args.most < c.loop-n.n + 1 = omega arith in
     shortest_none (λ q l. b.low q l ∙ low q l) (λ q l. b.high q l ∙ high q l) last ((b.none c.in_default.is).0 ∙ same) (shorter (rest th T y mem wr le).1 (b.none c.in_default.is).1)
+
+-- shorter lists are out of reach
+pub loop-n-init : goal.loop-n-init
+loop-n-init c =
+    let (some, beyond) = c.first_length-first.ensures in (
+      some,
+      refl,
+      refl,
+      λ q l. refl,
+      λ q l. refl,
+      λ th T y mem wr le. (mem, λ l v long k. ends_beyond th c.args.p.foresight.actions c.args.g.nesting.0 c.args.g.base (length l) (meaning c.args.p.characters T 0) (beyond (length l) long k th T y) l v refl),
+    )
+
+pub completes-requires : goal.completes-requires
+completes-requires c =
+    let (th, (T, (y, mem, wr, le))) = c.requires.0 in
+    let (some, long, same, low, high, rest) = c.loop-n.invariant in
+    let here = at_outset (slot_same 0 y low long) (rest th T y mem wr le).0 in
+    let count = 1 + c.loop-n.n + (1 + c.args.p.foresight.actions) * c.args.g.nesting.0 in
+    ((th, (T, (here.0, here.1, trail_outset c.args.p.foresight.actions c.args.g.nesting.0 c.args.g.base y low long wr le (rest th T y mem wr le).1))), free_outset c.args.p count (free_fewer c.args.p 0 (1 + c.args.most + (1 + c.args.p.foresight.actions) * c.args.g.nesting.0) count (omega (arith, c.loop-n-test.true)) c.requires.3), omega (arith, c.loop-n-test.true, c.requires.1, c.requires.2, ap length same))
 
 pub returns-else-not-can_exceed : goal.returns-else-not-can_exceed
 returns-else-not-can_exceed c =

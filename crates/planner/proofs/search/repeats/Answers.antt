@@ -10,16 +10,7 @@ use native.Mathlib.Omega.{arith}
 use Rattle.planner.specs.Inner.Lists.{slot_table}
 use Rattle.planner.proofs.TrueMemory.{unset, set_not, state_moved}
 use Rattle.planner.proofs.SameBytes.{same_state_bytes}
-use Rattle.planner.proofs.EarliestList.{slots_upto}
 use Rattle.planner.proofs.search.repeats.Goals as goal
-
-pub loop-i-init : goal.loop-i-init
-loop-i-init c = λ j l. absurd (omega (arith, l))
-
-pub first_other-requires : goal.first_other-requires
-first_other-requires c =
-    let upto = slots_upto c.args.p {i = c.loop-i.i} {n = c.args.done} (omega (arith, c.loop-i-test.true)) in
-    (omega (arith, c.extent-n.ensures, c.requires.0.before, c.requires.0.room, c.requires.0.laid.room), omega (arith, c.extent-n.ensures, upto, c.requires.1, c.requires.0.before, c.requires.0.room, c.requires.0.laid.room))
 
 pub returns-then-n-first_other : goal.returns-then-n-first_other
 returns-then-n-first_other c =

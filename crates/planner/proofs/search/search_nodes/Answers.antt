@@ -20,33 +20,6 @@ worth : (c : After-utility-base) {th : Theory} {T : List Node} →
 worth c {th} {T} x =
     author-utility (seek_slot x (c.lay_start.ensures T (seek_laying x)) c.lay_start.auto.work) 0 (utility_in c.args.pack.now (get_or c.args.places.now 320 0) c.lay_start.new.work 0 c.utility-base.result c.table_in-t.ensures c.utility-base.ensures)
 
-pub lay_start-requires : goal.lay_start-requires
-lay_start-requires c =
-    let (th, (T, x)) = c.requires in
-    (T, seek_laying x)
-
-pub table_in-t-requires : goal.table_in-t-requires
-table_in-t-requires c =
-    let (th, (T, x)) = c.requires in
-    (omega (arith, x.room, c.lay_start.auto), omega (arith, x.theorized.small.characters, x.theorized.small.fluents, x.same_characters, x.same_fluents))
-
-pub utility-base-requires : goal.utility-base-requires
-utility-base-requires c =
-    let (th, (T, x)) = c.requires in
-    let s = seek_slot x (c.lay_start.ensures T (seek_laying x)) c.lay_start.auto.work in
-    rules_in _ _ _ 0 c.table_in-t.ensures (author_rules s 0 s.tabled.some).0
-
-pub deepen-found-requires : goal.deepen-found-requires
-deepen-found-requires c =
-    let (th, (T, x)) = c.requires in
-    let y = c.lay_start.ensures T (seek_laying x) in
-    ((th, (seek_table x y c.lay_start.auto.work, (seek_slot x y c.lay_start.auto.work, seek_memory x y c.lay_start.auto.work, y.starts.0, seek_base x y c.lay_start.auto.work (worth (goal.at.deepen-found-requires c).After-utility-base x)))), x.storied, x.has_list_room, x.slots)
-
-pub clear-requires : goal.clear-requires
-clear-requires c =
-    let (th, (T, x)) = c.requires in
-    omega (arith, x.room, c.deepen-found.auto.work, c.lay_start.auto)
-
 pub returns-in-None : goal.returns-in-None
 returns-in-None c =
     λ th T x.
@@ -60,3 +33,15 @@ returns-in-Some c =
     let y = c.lay_start.ensures T (seek_laying x) in
     let is = worth (goal.at.returns-in-Some c).After-utility-base x in
     seek_found x y c.lay_start.auto.work (seek_from x y c.lay_start.auto.work is) (seek_same x y c.lay_start.auto.work (c.deepen-found.ensures th (seek_table x y c.lay_start.auto.work) (seek_slot x y c.lay_start.auto.work) (seek_memory x y c.lay_start.auto.work) y.starts.0 (seek_base x y c.lay_start.auto.work is))) c.clear.ensures (omega (arith, c.clear.auto, c.deepen-found.auto.work, c.lay_start.auto)) c.deepen-found.auto.list c.in-Some.is
+
+pub utility-base-requires : goal.utility-base-requires
+utility-base-requires c =
+    let (th, (T, x)) = c.requires in
+    let s = seek_slot x (c.lay_start.ensures T (seek_laying x)) c.lay_start.auto.work in
+    rules_in _ _ _ 0 c.table_in-t.ensures (author_rules s 0 s.tabled.some).0
+
+pub deepen-found-requires : goal.deepen-found-requires
+deepen-found-requires c =
+    let (th, (T, x)) = c.requires in
+    let y = c.lay_start.ensures T (seek_laying x) in
+    ((th, (seek_table x y c.lay_start.auto.work, (seek_slot x y c.lay_start.auto.work, seek_memory x y c.lay_start.auto.work, y.starts.0, seek_base x y c.lay_start.auto.work (worth (goal.at.deepen-found-requires c).After-utility-base x)))), x.storied, x.has_list_room, x.slots)

@@ -6,39 +6,12 @@ use lib.Dec.{eqb}
 use borrow.Author.Tests.{eq-eqb, ne_eqb}
 use Rattle.pack.specs.State.{meaning}
 use Rattle.pack.specs.declared.table.Table.{Table}
-use Rattle.transition.specs.Laws.ChangedRows.{small}
 use Rattle.planner.specs.Inner.Memory.{id_byte, step_at, StepRead, Noted, LeftNoted}
 use Rattle.planner.specs.Inner.Explain.{Advanced}
 use Rattle.planner.proofs.Explanations.{stage_before, stage_slot, stage_same, stage_setting, table_stage, known_fact, step_again, step_left, step_refused}
 use Rattle.planner.proofs.LastNoted.{unread_step, once_again, once_refused, once_left}
 use Rattle.planner.proofs.steps.kept_step.Goals as goal
 use Rattle.planner.proofs.steps.kept_step.Goals.{in-Some+else-step_is, in_default}
-
-pub table_in-t-requires : goal.table_in-t-requires
-table_in-t-requires c =
-    let ((th, (T, (x, m))), there, row, free) = c.requires in
-    (omega (arith, free, x.room, x.laid.room), omega (arith, small x.tabled))
-
-pub id_of-requires : goal.id_of-requires
-id_of-requires c =
-    let ((th, (T, (x, m))), there, row, free) = c.requires in
-    stage_before x (omega (arith, free))
-
-pub step_at-at-requires : goal.step_at-at-requires
-step_at-at-requires c =
-    let ((th, (T, (x, m))), there, row, free) = c.requires in
-    (x.laid, c.in-Some.ensures.1.interning.small, omega (arith, row, x.tabled.few), omega (arith, there, x.theorized.found.most_actions))
-
-pub step_is-requires : goal.step_is-requires
-step_is-requires c =
-    let ((th, (T, (x, m))), there, row, free) = c.requires in
-    omega (arith, c.step_at-at.ensures.1.is, c.step_at-at.ensures.1.few, c.id_of.auto.work, x.room, x.laid.room)
-
-pub again-requires : goal.again-requires
-again-requires c =
-    let ((th, (T, (x, m))), there, row, free) = c.requires in
-    let fact = known_fact x free c.args.root c.in-Some.ensures.1.interning c.id_of.auto.work (c.step_is.ensures.0 c.if-step_is.true) c.step_at-at.ensures.1 (sym c.id_in-next.ensures.1) m in
-    (stage_slot (stage_same x (λ q l. c.in-Some.ensures.1.interning.only.low q (omega (arith, l, free))) c.id_of.auto.work) free, (c.id_in-next.ensures.0, (omega (arith, c.id_in-next.ensures.1, c.slice_known-then-step_is-1.given (c.step_at-at.result + 3)), λ z. (fact.left z).0)))
 
 pub returns-then-step_is : goal.returns-then-step_is
 returns-then-step_is c =
@@ -47,30 +20,6 @@ returns-then-step_is c =
       λ th T x m. step_again x free c.args.root c.in-Some.ensures.1.interning c.id_of.auto.work read c.step_at-at.ensures.1 (sym c.id_in-next.ensures.1) m c.again.ensures,
       once_again c.args.p c.in-Some.ensures.1 c.step_at-at.ensures.0 c.step_at-at.ensures.1 (stage_slot x free) x.slotted read (sym c.id_in-next.ensures.1) c.again.ensures,
     )
-
-pub step_slot-plays-requires : goal.step_slot-plays-requires
-step_slot-plays-requires c =
-    let ((th, (T, (x, m))), there, row, free) = c.requires in
-    let y = table_stage c.table_in-t.ensures x in
-    (th, (T, (_, (stage_setting (stage_same y (λ q l. c.id_of.ensures.1.interning.only.low q (omega (arith, l, free))) c.id_of.auto.work) free, there, (subst (λ (t : Table). c.args.root < t.nodes) (sym c.table_in-t.ensures) row)))))
-
-pub note_left-requires : goal.note_left-requires
-note_left-requires c =
-    let ((th, (T, (x, m))), there, row, free) = c.requires in
-    let y = table_stage c.table_in-t.ensures x in
-    let y' = stage_same y (λ q l. c.id_of.ensures.1.interning.only.low q (omega (arith, l, free))) c.id_of.auto.work in
-    let z = c.step_slot-plays.ensures th T _ (stage_setting y' free) there (subst (λ (t : Table). c.args.root < t.nodes) (sym c.table_in-t.ensures) row) in
-    let y'' = stage_same y' z.only.low c.step_slot-plays.auto.work in
-    (stage_before y'' (omega (arith, free)), omega (arith, row, x.tabled.few), omega (arith, there, x.theorized.found.most_actions), stage_slot y'' free, (z.plays c.if-plays.true).2.few)
-
-pub note-requires : goal.note-requires
-note-requires c =
-    let ((th, (T, (x, m))), there, row, free) = c.requires in
-    let y = table_stage c.table_in-t.ensures x in
-    let y' = stage_same y (λ q l. c.id_of.ensures.1.interning.only.low q (omega (arith, l, free))) c.id_of.auto.work in
-    let z = c.step_slot-plays.ensures th T _ (stage_setting y' free) there (subst (λ (t : Table). c.args.root < t.nodes) (sym c.table_in-t.ensures) row) in
-    let y'' = stage_same y' z.only.low c.step_slot-plays.auto.work in
-    (stage_before y'' (omega (arith, free)), omega (arith, row, x.tabled.few), omega (arith, there, x.theorized.found.most_actions), omega arith)
 
 pub returns-then-plays : goal.returns-then-plays
 returns-then-plays c =
@@ -101,3 +50,24 @@ returns-else-plays c =
           (step_refused y free c.args.root c.id_of.ensures.1.interning.only (c.id_of.ensures.1.interning.told th c.args.p.foresight.actions (c.args.slot + c.args.p.stride) (omega (arith, free)) x.slotted m).0 (c.step_slot-plays.ensures th T _ (stage_setting y' free) there (subst (λ (t : Table). c.args.root < t.nodes) (sym c.table_in-t.ensures) row)) (c.step_slot-plays.auto.work ∙ c.id_of.auto.work) c.if-plays.false (ne_eqb _ _ c.if-plays.false) c.note.ensures),
       once_refused c.args.p c.id_of.ensures.1 refl unread (ne_eqb _ _ c.if-plays.false) (subst (λ (t : Table). Noted c.args.p t c.args.root c.args.action 0 c.step_slot-plays.new.work c.note.new.work) c.table_in-t.ensures c.note.ensures),
     )
+
+pub again-requires : goal.again-requires
+again-requires c =
+    let ((th, (T, (x, m))), there, row, free) = c.requires in
+    let fact = known_fact x free c.args.root c.in-Some.ensures.1.interning c.id_of.auto.work (c.step_is.ensures.0 c.if-step_is.true) c.step_at-at.ensures.1 (sym c.id_in-next.ensures.1) m in
+    (stage_slot (stage_same x (λ q l. c.in-Some.ensures.1.interning.only.low q (omega (arith, l, free))) c.id_of.auto.work) free, (c.id_in-next.ensures.0, (omega (arith, c.id_in-next.ensures.1, c.slice_known-then-step_is-1.given (c.step_at-at.result + 3)), λ z. (fact.left z).0)))
+
+pub step_slot-plays-requires : goal.step_slot-plays-requires
+step_slot-plays-requires c =
+    let ((th, (T, (x, m))), there, row, free) = c.requires in
+    let y = table_stage c.table_in-t.ensures x in
+    (th, (T, (_, (stage_setting (stage_same y (λ q l. c.id_of.ensures.1.interning.only.low q (omega (arith, l, free))) c.id_of.auto.work) free, there, (subst (λ (t : Table). c.args.root < t.nodes) (sym c.table_in-t.ensures) row)))))
+
+pub note_left-requires : goal.note_left-requires
+note_left-requires c =
+    let ((th, (T, (x, m))), there, row, free) = c.requires in
+    let y = table_stage c.table_in-t.ensures x in
+    let y' = stage_same y (λ q l. c.id_of.ensures.1.interning.only.low q (omega (arith, l, free))) c.id_of.auto.work in
+    let z = c.step_slot-plays.ensures th T _ (stage_setting y' free) there (subst (λ (t : Table). c.args.root < t.nodes) (sym c.table_in-t.ensures) row) in
+    let y'' = stage_same y' z.only.low c.step_slot-plays.auto.work in
+    (stage_before y'' (omega (arith, free)), omega (arith, row, x.tabled.few), omega (arith, there, x.theorized.found.most_actions), stage_slot y'' free, (z.plays c.if-plays.true).2.few)

@@ -3,15 +3,8 @@ use Prim.Native.Nat.{◌+◌}
 use mathlib.Core.Path.{refl, ◌∙◌}
 use lib.ListN.{length-set}
 use Rattle.planner.specs.Inner.Memory.{id_at}
-use Rattle.planner.proofs.TrueMemory.{before_now, left_before, left_noted, left_unnoted}
+use Rattle.planner.proofs.TrueMemory.{left_noted, left_unnoted}
 use Rattle.planner.proofs.steps.note_left.Goals as goal
-
-pub intern_slot-requires : goal.intern_slot-requires
-intern_slot-requires c = left_before c.args.p c.requires.3 c.requires.4
-
-pub note-requires : goal.note-requires
-note-requires c =
-    (before_now c.args.p (c.intern_slot.auto.work ∙ length-set c.args.work.now (id_at c.args.p (c.args.slot + 1)) 0) c.requires.0, c.requires.1, c.requires.2, c.in-Some.ensures.1.small)
 
 pub returns-in-Some : goal.returns-in-Some
 returns-in-Some c =

@@ -3,12 +3,9 @@ use Prim.Native.Nat.{ℕ, ◌+◌, ◌*◌, ◌/◌, ◌<◌}
 use mathlib.Core.Path.{sym, ap, subst}
 use native.Mathlib.Omega.{arith}
 use Rattle.planner.specs.Inner.Memory.{steps_at, Place}
-use Rattle.planner.proofs.Slots.{sized_bounds, sized_half}
+use Rattle.planner.proofs.Slots.{sized_bounds}
 use Rattle.planner.proofs.TrueMemory.{placed}
 use Rattle.planner.proofs.steps.step_at.Goals as goal
-
-pub remainder-requires : goal.remainder-requires
-remainder-requires c = sized_half c.requires.0.entries
 
 pub returns : goal.returns
 returns c =
