@@ -1,8 +1,8 @@
 -- The slots of a call: as many as it wants lie before the memory, and the memory before the scratch. Assumes nothing.
-use Prim.Native.Nat.{ℕ, ◌+◌, ◌*◌, ◌-◌, ◌/◌, ◌%◌, ◌<◌, ◌≤◌}
+use Prim.Native.Nat.{ℕ, ◌+◌, ◌*◌, ◌-◌, ◌%◌, ◌<◌, ◌≤◌}
 use mathlib.Core.Path.{◌≡◌, refl, ap}
 use mathlib.Core.Bool.{Bool, true, false}
-use mathlib.Core.Logic.{◌⊎◌, inl, inr, ⊎_elim}
+use mathlib.Core.Logic.{inl, inr, ⊎_elim}
 use mathlib.Core.List.{List}
 use native.Mathlib.Nat.{mul-le-mul_right, div-add-mod, mod-lt}
 use native.Mathlib.Omega.{arith}
@@ -21,10 +21,6 @@ use Rattle.planner.specs.Inner.Explain.{Free}
 -- how many entries there may be
 pub sized_bounds : {n : ℕ} → Sized n → (256 ≤ n) × (n ≤ 1024)
 sized_bounds s = ⊎_elim (λ e. (omega (arith, e), omega (arith, e))) (λ t. ⊎_elim (λ e. (omega (arith, e), omega (arith, e))) (λ e. (omega (arith, e), omega (arith, e))) t) s
-
--- half as many
-pub sized_half : {n : ℕ} → Sized n → (n / 2 ≡ 128) ⊎ Sized (n / 2)
-sized_half s = ⊎_elim (λ e. inl (omega (arith, e))) (λ t. inr (⊎_elim (λ e. inl (omega (arith, e))) (λ e. inr (inl (omega (arith, e)))) t)) s
 
 -- how many entries there are, and that tables have room behind them
 are : (a b : Bool) → Sized (pick a 256 (pick b 512 1024))

@@ -7,7 +7,6 @@ use lib.ListN.{length, get_or}
 use borrow.Author.Count.{below_more}
 use Rattle.pack.specs.Syntax.{Node, Theory}
 use Rattle.pack.specs.State.{State, meaning}
-use Rattle.transition.specs.Laws.ChangedRows.{small}
 use Rattle.planner.specs.Ending.{Explained, utility_to}
 use Rattle.planner.specs.Inner.Lists.{slot_table, AboveBy, ExplainedBy}
 use Rattle.planner.specs.Inner.Lists as inner

@@ -11,8 +11,8 @@ use Rattle.planner.specs.Inner.Search.{Shortest}
 use Rattle.planner.specs.Inner.Bound.{no_end}
 use Rattle.planner.proofs.Explanations.{free_fewer, slot_same}
 use Rattle.planner.proofs.Reckoning.{ends_beyond}
-use Rattle.planner.proofs.Bounds.{judged_readable, author-exceeds}
-use Rattle.planner.proofs.EarliestList.{trail_outset, author_rules, at_outset, best_outset, free_outset}
+use Rattle.planner.proofs.Bounds.{author-exceeds}
+use Rattle.planner.proofs.EarliestList.{trail_outset, at_outset, best_outset, free_outset}
 use Rattle.planner.proofs.SearchCall.{shorter, shortest_found, shortest_none}
 use Rattle.planner.proofs.search.deepen.Goals as goal
 
