@@ -96,18 +96,13 @@ pub fn lowest(work: &[u8], p: Context, first: usize) -> usize
     lower(work, one, other)
 }
 
-// The rank of what took so many steps to find out: how many bits that number has, or as many as a byte can tell.
+// The rank of what took so many steps to find out: how many bits that number has.
 pub fn rank_of(steps: usize) -> u8 {
-    let mut left = steps;
-    let mut rank: u8 = 0;
-    while 0 < left {
-        if rank == 255 {
-            return rank;
-        }
-        left = left / 2;
-        rank = rank + 1;
+    if steps == 0 {
+        0
+    } else {
+        (steps.ilog2() + 1) as u8
     }
-    rank
 }
 
 // Puts what is known of the table in a slot into a cell.

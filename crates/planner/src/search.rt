@@ -2,7 +2,8 @@
 // slot of the work buffer; the slots behind it are free.
 //
 // Iterative deepening (`deepen`) over a depth-limited search (`completes`). The list is written on the way back from
-// its end, so nothing is put down where there is none. Everybody is asked: the character left out is the number of characters, which no consenter has.
+// its end, so nothing is put down where there is none. Everybody is asked: the character left out is the number of
+// characters, which no consenter has.
 ghost use Rattle.std.specs.Prelude.{◌≡◌, true, false, ◌&&◌, List, ℕ, suc, ◌+◌, ◌*◌, ◌<◌, ◌≤◌, length, get_or};
 ghost use Rattle.pack.specs.Syntax.{Node};
 ghost use Rattle.planner.specs.Inner.Lists.{slot_table, Ends, EndsBy};

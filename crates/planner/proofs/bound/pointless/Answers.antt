@@ -32,11 +32,11 @@ believed c y =
     stage_believed y 0 c.args.d.who y.tabled.some c.requires.1 (ap (λ (q : ℕ). get_or c.args.work.now q 0) (omega arith) ∙ sym c.from-q.ensures)
 
 -- the condition fails
-pub returns-then-not-may : goal.returns-then-not-may
-returns-then-not-may c =
+pub returns-then-not-holds : goal.returns-then-not-holds
+returns-then-not-holds c =
     λ e th T y K E.
-    let judged = subst (λ (t : Table). (d : Dimensions) → Over d t → (z : Condition) (n : ℕ) → condition_at d c.args.pack.now (get_or c.args.places.now (9 * c.args.d.action) 0) ≡ done z n → c.holds-may.result ≡ holds (state_of t c.args.work.now c.from-q.result) z) c.table_in-t.ensures c.holds-may.ensures in
-    λ z. explained_plays th K E c.args.d.who c.args.d.action (belief (meaning c.args.p.characters T 0) c.args.d.who) (λ s plays. stage_forbidden y c.args.d.action c.requires.2 c.from-q.result judged (c.if-not-may.true) s (subst (λ (z : State). Plays th z c.args.d.action s) (believed (goal.at.returns-then-not-may c).After-from-q y).0 plays)) (by_belief th K E c.args.d.who c.args.d.action (meaning c.args.p.characters T 0) z)
+    let judged = subst (λ (t : Table). (d : Dimensions) → Over d t → (z : Condition) (n : ℕ) → condition_at d c.args.pack.now (get_or c.args.places.now (9 * c.args.d.action) 0) ≡ done z n → c.holds.result ≡ holds (state_of t c.args.work.now c.from-q.result) z) c.table_in-t.ensures c.holds.ensures in
+    λ z. explained_plays th K E c.args.d.who c.args.d.action (belief (meaning c.args.p.characters T 0) c.args.d.who) (λ s plays. stage_forbidden y c.args.d.action c.requires.2 c.from-q.result judged (c.if-not-holds.true) s (subst (λ (z : State). Plays th z c.args.d.action s) (believed (goal.at.returns-then-not-holds c).After-from-q y).0 plays)) (by_belief th K E c.args.d.who c.args.d.action (meaning c.args.p.characters T 0) z)
 
 pub utility-base-requires : goal.utility-base-requires
 utility-base-requires c =
@@ -52,10 +52,10 @@ returns c =
     (subst (λ (b : ℕ). exceeds b (get_or th.utilities (suc c.args.d.who) []) ≡ false) (worth ∙ ap (utility_to th c.args.d.who) (sym (believed (goal.at.returns c).After-from-q y).0))
     (sym (stage_exceeds y c.utility-base.result c.args.d.who c.requires.1 c.can_exceed.ensures) ∙ not-true c.can_exceed.result e))
 
-pub holds-may-requires : goal.holds-may-requires
-holds-may-requires c =
+pub holds-requires : goal.holds-requires
+holds-requires c =
     let (th, (T, y)) = c.requires.0 in
-    subst (λ (t : Table). Judged condition_at c.args.pack.now (get_or c.args.places.now (9 * c.args.d.action) 0) t c.args.work.now c.from-q.result) (sym c.table_in-t.ensures) (stage_judged y c.args.d.action c.requires.2 c.from-q.result (believed (goal.at.holds-may-requires c).After-from-q y).1)
+    subst (λ (t : Table). Judged condition_at c.args.pack.now (get_or c.args.places.now (9 * c.args.d.action) 0) t c.args.work.now c.from-q.result) (sym c.table_in-t.ensures) (stage_judged y c.args.d.action c.requires.2 c.from-q.result (believed (goal.at.holds-requires c).After-from-q y).1)
 
 pub can_exceed-requires : goal.can_exceed-requires
 can_exceed-requires c =
