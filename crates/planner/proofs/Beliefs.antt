@@ -10,7 +10,7 @@ use Rattle.pack.specs.Syntax.{Node, Theory}
 use Rattle.pack.specs.State.{State, meaning, Closed}
 use Rattle.pack.specs.Duties.Table.{rows_at, table_of}
 use Rattle.chart.specs.Duties.Numbers.{Laid, Sound, Copied}
-use Rattle.chart.specs.Duties.Put.{Apart, PartCopied}
+use Rattle.chart.specs.Duties.Put.{PartCopied}
 use Rattle.chart.specs.Laws.Cells.{rows_same}
 use Rattle.transition.specs.Duties.Stage.{scratch_at}
 use Rattle.transition.specs.Laws.ChangedRows.{belief_is, belief_in}
@@ -54,15 +54,6 @@ module _ {th : Theory} {T : List Node} {pack places : List ℕ} {h : Context} {w
 
     few : r ≤ 32
     few = omega (arith, c.few, x.tabled.few)
-
-    pub copied_small : (r * w ≤ 960) × (1 + r * w ≤ h.stride) × (r ≤ 32)
-    copied_small = let (a, b) = rows_few r few in (a, b, few)
-
-    pub copy_down : Apart 40756 (next + 1) (r * w) × (40756 + r * w ≤ length counted) × (next + 1 + r * w ≤ length counted)
-    copy_down =
-        let (a, b) = rows_few r few in
-        let same = length-set mid next r ∙ long in
-        (omega (arith, a, b, f, x.laid.room), omega (arith, a, same, x.room), omega (arith, b, f, x.laid.room, same, x.room))
 
     module _ {part : List ℕ} (pc : PartCopied counted part 40756 (next + 1) (r * w)) (long' : length part ≡ length mid) where
       part_low : (q : ℕ) → q < next → get_or part q 0 ≡ get_or was q 0

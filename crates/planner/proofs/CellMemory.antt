@@ -6,7 +6,7 @@ use mathlib.Core.List.{List}
 use native.Mathlib.Decide.{ℕ_discrete, dec_lt}
 use native.Mathlib.Nat.{div-add-mod, mod-lt, mul-le-mul_right}
 use native.Mathlib.Omega.{arith}
-use lib.ListN.{length, get_or, set}
+use lib.ListN.{get_or, set}
 use lib.Seq.{get_or-set_other}
 use Rattle.pack.specs.Syntax.{Theory}
 use Rattle.pack.specs.Duties.Table.{state_of}
@@ -33,13 +33,6 @@ module _ (h : Context) where
 
   pub way_at : {a : ℕ} (b : Bucket h a) (i : ℕ) → a + i * cell_size h ≡ cell_at h (4 * b.number + i)
   way_at b i = omega (arith, b.is)
-
-  -- so do their bytes, by a size that was worked out
-  pub way_room : Laid h → {a i size : ℕ} → Bucket h a → size ≡ cell_size h → i < 4 → (i * size ≤ 744) × (a + i * size + cell_size h ≤ scratch_at)
-  way_room laid {a} {i} {size} b e l =
-      let few : i ≤ 3 = omega (arith, l) in
-      let same : i * size ≡ i * cell_size h = ap (λ (s : ℕ). i * s) e in
-      (omega (arith, same, mul-le-mul_right (cell_size h) few, size_most laid), omega (arith, same, way_in b l))
 
   -- there are buckets
   some_buckets : Laid h → 0 < (scratch_at - steps_at h) / (4 * cell_size h)
@@ -149,12 +142,6 @@ module _ (h : Context) where
           (λ l. let none : 0 ≡ r = omega (arith, l) in subst (λ (r : ℕ). Fact p K r k (state_of (slot_table h work slot) work)) none (fact_none p K k (state_of (slot_table h work slot) work))),
     );
   }
-
-  -- a table that stands in a slot still
-  pub before_slot : {was : List ℕ} (now : List ℕ) (slot : ℕ) → Before h was (slot_table h was slot) → length now ≡ length was → ((q : ℕ) → q < h.memory → get_or now q 0 ≡ get_or was q 0) → Before h now (slot_table h now slot)
-  before_slot {was} now slot b long low =
-      let e = low slot (omega (arith, b.before)) in
-      record { laid = b.laid; fluents = refl; characters = refl; wide = refl; narrow = b.laid.narrow; few = omega (arith, e, b.few); before = omega (arith, ap (λ (n : ℕ). n * w) e, b.before); room = omega (arith, long, b.room) }
 
   -- the mark and the key, the rank, and the table
   module _ (slot rank : ℕ) {was put now : List ℕ} {at mark n : ℕ} {k : Key} (b : Before h was (slot_table h was slot)) (few : get_or was slot 0 ≤ 6) (from : h.memory ≤ at) (key : KeyPut was put at mark k) (copied : PartCopied (set put (at + 6) rank) now slot (at + 7) n) (size : n ≡ 1 + get_or (set put (at + 6) rank) slot 0 * w) where

@@ -4,7 +4,7 @@ use mathlib.Core.Path.{◌≡◌, refl, sym, ap, ◌∙◌, subst}
 use mathlib.Core.Logic.{◌≢◌, ⊎_elim, by_cases}
 use mathlib.Core.List.{List, [], ◌∷◌}
 use native.Mathlib.Decide.{dec_le, ℕ_discrete}
-use native.Mathlib.Nat.{mul-le-mul_left, mul-le-mul_right}
+use native.Mathlib.Nat.{mul-le-mul_right}
 use native.Mathlib.Omega.{arith}
 use lib.ListN.{length, get_or}
 use Rattle.pack.specs.Syntax.{Node, Theory, Rule}
@@ -27,7 +27,7 @@ use Rattle.planner.specs.Ending.{Leads, Explained, author_utility}
 use Rattle.std.specs.Prelude.{Option, Some, None, MatchOption, is_some}
 use mathlib.Core.Bool.{true, false}
 use Rattle.planner.specs.Inner.Lists.{slot_table, Agreed, All, Ends, EndsBy}
-use Rattle.planner.specs.Inner.Memory.{Laid, Fact, Memory}
+use Rattle.planner.specs.Inner.Memory.{Fact, Memory}
 use Rattle.planner.specs.Inner.Explain.{Stage, Free}
 use Rattle.planner.specs.Inner.Search.{Dry, Trail, Repeated, Put, Chosen, Best}
 use Rattle.planner.specs.Laws.Explaining.{Agreeing}
@@ -78,9 +78,6 @@ fact_of_none th K e base s f = record { no = λ z. absurd (omega (arith, z)); ye
 -- a slot lies no further than one of a number at least as great, and a number no further than its slot
 pub slots_upto : (h : Context) {i n : ℕ} → i ≤ n → i * h.stride ≤ n * h.stride
 slots_upto h l = mul-le-mul_right h.stride l
-
-pub slots_most : (h : Context) (n : ℕ) → Laid h → n ≤ n * h.stride
-slots_most h n laid = let one : 1 ≤ h.stride = omega (arith, laid.some) in omega (arith, mul-le-mul_left n one)
 
 module _ (th : Theory) (K e base : ℕ) (s : State) where
   -- the author's path, one state longer

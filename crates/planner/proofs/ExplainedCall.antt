@@ -35,6 +35,7 @@ use Rattle.chart.specs.Laws.LookedUp.{cleared_all}
 use Rattle.chart.specs.Laws.Checks.{counted, lent, lent_told, pack_refused, Accepted, FirstRead, first_read, nodes_read, refused_by, accepted_by, left_alone, check_one}
 use Rattle.transition.specs.Laws.Loaded.{read_tabled}
 use Rattle.transition.specs.Laws.Loaded.{short-pack}
+use Rattle.planner.specs.declared.foreseen.Foreseen.{Foreseen}
 use Rattle.planner.specs.declared.limits.Context.{Context}
 use Rattle.planner.specs.Ending.{Explained}
 use Rattle.planner.specs.Answers.{explained_table}
@@ -159,9 +160,6 @@ module _ (pack chart : List ℕ) (c a K e : ℕ) (work : List ℕ) where
             let (ns, g, (x, replies)) = accepted_now in
             nodes_read x.accepted x.found first.read (ap (λ (l : List (List Node)). get_or (map length l) 0 0) (sym first.same) ∙ ap (λ (l : List ℕ). get_or l 0 0) x.long ∙ g)
 
-        abbrev pub context : Context
-        context = laid_out p (record { 0 = K }) (1 + (1 + K) * e)
-
         -- the numbers are those of something there
         pub judge_ranges : (c < p.characters) × (a < p.actions) × (0 < K) × (K ≤ 6) × (e ≤ 3)
         judge_ranges =
@@ -179,39 +177,44 @@ module _ (pack chart : List ℕ) (c a K e : ℕ) (work : List ℕ) where
             let (who, what, low, high, nested) = judge_ranges in
             (omega (arith, small.characters, x.found.characters), omega (arith, mul-le-mul_left (1 + K) nested, mul-le-mul_right 3 high))
 
-        ready : Judging theory first.table pack places context chart n c a K e work
-        ready =
-            let x = accepted_now.2.0 in
-            let (who, what, low, high, nested) = judge_ranges in
-            record {
-              theorized = record { small = small_pack pack x.the_pack x.accepted; found = x.found.theory; short = short-pack pack x.the_pack x.accepted; marked = marked };
-              read = read;
-              same_characters = x.found.characters;
-              same_fluents = x.found.fluents;
-              who = who;
-              what = what;
-              foreseen = (low, high);
-              laid = laid_fits p (record { 0 = K }) (1 + (1 + K) * e) (omega (arith, who)) judge_sizes;
-              slots = laid_free p (record { 0 = K }) (1 + (1 + K) * e);
-              room = leb-true work_room (length work) x.enough_there;
-            }
+        -- laid out by a foresight limit that is known to be one
+        module _ (f : Foreseen) (seen : f.actions ≡ K) where
+          abbrev pub context : Context
+          context = laid_out p f (1 + (1 + K) * e)
 
-        pub judge_able : (h : Context) → h ≡ context → Judgeable pack places h chart n c a h.foresight.0 e work
-        judge_able h made = subst (λ (h : Context). Judgeable pack places h chart n c a h.foresight.0 e work) (sym made) (theory, (first.table, ready))
+          ready : Judging theory first.table pack places context chart n c a K e work
+          ready =
+              let x = accepted_now.2.0 in
+              let (who, what, low, high, nested) = judge_ranges in
+              record {
+                theorized = record { small = small_pack pack x.the_pack x.accepted; found = x.found.theory; short = short-pack pack x.the_pack x.accepted; marked = marked };
+                read = read;
+                same_characters = x.found.characters;
+                same_fluents = x.found.fluents;
+                who = who;
+                what = what;
+                foreseen = (low, high);
+                laid = laid_fits p f (1 + (1 + K) * e) (omega (arith, who)) judge_sizes;
+                slots = laid_free p f (1 + (1 + K) * e);
+                room = leb-true work_room (length work) x.enough_there;
+              }
 
-        pub judge_done : (h : Context) → h ≡ context → (now : List ℕ) (v : Bool) → VerdictOf pack places h chart n c a h.foresight.0 e work now v → Judgement pack chart c a K e work now (Ok v)
-        unfolding work_after
-        judge_done h made now v put =
-            let (ns, g, (x, replies)) = accepted_now in
-            let z = subst (λ (h : Context). VerdictOf pack places h chart n c a h.foresight.0 e work now v) made put theory first.table ready in
-            let table = fits_table theory.characters theory.domains first.table (chart_fits (record { bytewise = pack-bytes; accepted = x.accepted }) (record { bytewise = chart-bytes; accepted = first.read })) in
-            let same : meaning p.characters first.table 0 ≡ meaning theory.characters first.table 0 = ap (λ (k : ℕ). meaning k first.table 0) (sym x.found.characters) in
-            let iff = explained_table_iff theory first.table table K e c a in
-            let is : v ≡ explained_table theory K e c a first.table = decided v (explained_table theory K e c a first.table) (λ h. iff.1 (subst (Explained theory K e c a) same (z.sound h))) (λ h k. z.complete h (subst (Explained theory K e c a) (sym same) (iff.0 k))) in
-            let gave : the_reply ≡ gives (explained_table theory K e c a first.table) = replies ∙ ap (λ (l : List (List Node)). gives (explained_table theory K e c a (first_of l))) first.same in
-            record { answer = ap gives is ∙ sym gave; scratch = z.scratch ∙ sym (ap (λ (y : Reply Bool). work_after y work) gave) }
-          where
-            decided : (v w : Bool) → (v ≡ true → w ≡ true) → (v ≡ false → w ≡ true → ⊥) → v ≡ w
-            decided true w f g = sym (f refl)
-            decided false true f g = absurd (g refl refl)
-            decided false false f g = refl
+          pub judge_able : (h : Context) → h ≡ context → Judgeable pack places h chart n c a h.foresight.actions e work
+          judge_able h made = subst (λ (h : Context). Judgeable pack places h chart n c a h.foresight.actions e work) (sym made) (subst (λ (k : ℕ). Judgeable pack places context chart n c a k e work) (sym seen) (theory, (first.table, ready)))
+
+          pub judge_done : (h : Context) → h ≡ context → (now : List ℕ) (v : Bool) → VerdictOf pack places h chart n c a h.foresight.actions e work now v → Judgement pack chart c a K e work now (Ok v)
+          unfolding work_after
+          judge_done h made now v put =
+              let (ns, g, (x, replies)) = accepted_now in
+              let z = subst (λ (k : ℕ). VerdictOf pack places context chart n c a k e work now v) seen (subst (λ (h : Context). VerdictOf pack places h chart n c a h.foresight.actions e work now v) made put) theory first.table ready in
+              let table = fits_table theory.characters theory.domains first.table (chart_fits (record { bytewise = pack-bytes; accepted = x.accepted }) (record { bytewise = chart-bytes; accepted = first.read })) in
+              let same : meaning p.characters first.table 0 ≡ meaning theory.characters first.table 0 = ap (λ (k : ℕ). meaning k first.table 0) (sym x.found.characters) in
+              let iff = explained_table_iff theory first.table table K e c a in
+              let is : v ≡ explained_table theory K e c a first.table = decided v (explained_table theory K e c a first.table) (λ h. iff.1 (subst (Explained theory K e c a) same (z.sound h))) (λ h k. z.complete h (subst (Explained theory K e c a) (sym same) (iff.0 k))) in
+              let gave : the_reply ≡ gives (explained_table theory K e c a first.table) = replies ∙ ap (λ (l : List (List Node)). gives (explained_table theory K e c a (first_of l))) first.same in
+              record { answer = ap gives is ∙ sym gave; scratch = z.scratch ∙ sym (ap (λ (y : Reply Bool). work_after y work) gave) }
+            where
+              decided : (v w : Bool) → (v ≡ true → w ≡ true) → (v ≡ false → w ≡ true → ⊥) → v ≡ w
+              decided true w f g = sym (f refl)
+              decided false true f g = absurd (g refl refl)
+              decided false false f g = refl

@@ -34,7 +34,7 @@ use Rattle.transition.specs.Happening.{nothing, action_of, Plays}
 use Rattle.transition.specs.Laws.Settled.{plays_one, plays_refuses}
 use Rattle.transition.specs.Duties.Play.{Setting, Left, PlayedIn}
 use Rattle.transition.specs.Duties.Stage.{scratch_at}
-use Rattle.transition.specs.Laws.ChangedRows.{tabled_same, small, row_inside, belief_is, belief_in as inside_table}
+use Rattle.transition.specs.Laws.ChangedRows.{tabled_same, small, belief_is, belief_in as inside_table}
 use Rattle.planner.specs.declared.limits.Context.{Context}
 use Rattle.planner.specs.declared.entry.Key.{Key}
 use Rattle.planner.specs.Ending.{Leads, Explained, utility_to}
@@ -439,9 +439,6 @@ module _ (h : Context) (slot : ℕ) {k e : ℕ} (some : 0 < k) (l : 0 < e) (f : 
 
 -- the row that a character believes in, and the consenters of an action
 module _ {th : Theory} {T : List Node} {pack places : List ℕ} {h : Context} {was : List ℕ} {t : Table} {slot : ℕ} (x : Stage th T pack places h was t slot) where
-  pub stage_row : (root c : ℕ) → root < t.nodes → c < t.characters → (t.rows + root * t.width + t.fluents + c < slot) × (slot ≤ h.memory → slot < length was)
-  stage_row root c i l = (omega (arith, row_inside x.tabled root i, x.behind), λ g. omega (arith, x.room))
-
   pub stage_believed : {q : ℕ} (root c : ℕ) → root < t.nodes → c < t.characters → get_or was (t.rows + root * t.width + t.fluents + c) 0 ≡ q → (belief (meaning t.characters T root) c ≡ meaning t.characters T q) × (q < t.nodes)
   stage_believed {q} root c i l e =
       let is : q ≡ target T root c = sym e ∙ belief_is x.tabled root c i l in
@@ -453,9 +450,6 @@ module _ {th : Theory} {T : List Node} {pack places : List ℕ} {h : Context} {w
 
     stand : Gives (consenters_at (dims th.characters th.domains)) pack (get_or places (9 * a + 2) 0) consenters_of
     stand = (x.theorized.found.action a l nothing).consenters
-
-    pub consent_place : (9 * a + 2 < 327) × (327 ≤ length places)
-    consent_place = (omega (arith, x.theorized.found.most_actions), x.theorized.marked)
 
     pub consent_readable : Readable consenters_at pack (get_or places (9 * a + 2) 0)
     consent_readable = record { over = dims th.characters th.domains; small = x.theorized.small; value = consenters_of; end = stand.end; reads = stand.reads }

@@ -18,14 +18,14 @@ use Rattle.pack.specs.Number.{counted, number_at}
 use Rattle.pack.specs.Grammar.{Dimensions, dimensions, test_at, condition_at, rules_at, rule_at, effect_at, effects_at}
 use Rattle.pack.specs.Condition.{holds, utility, write}
 use Rattle.pack.specs.Duties.Contents.{Gives}
-use Rattle.pack.specs.Duties.Copy.{Copyable, Copied}
+use Rattle.pack.specs.Duties.Copy.{Copied}
 use Rattle.pack.specs.Duties.Judge.{alternative_at, Small, Over, Readable, Judged, Tells, Ends}
-use Rattle.pack.specs.Duties.Table.{state_of, row_at, cells, TableFits}
+use Rattle.pack.specs.Duties.Table.{state_of, row_at, cells}
 use Rattle.pack.specs.Duties.Write.{Writable, EffectsWritten}
 use Rattle.pack.specs.declared.table.Table.{Table}
 use Rattle.pack.specs.Laws.Judged.{Left, Next, left_start, left_one, left_next, left_last, left_none, counted_starts, rule_parts}
 use Rattle.pack.specs.Laws.OneByte.{test_bytes_lem, effect_bytes_lem}
-use Rattle.pack.specs.Laws.Rows.{rows_at_lem, cells_at, cell_in}
+use Rattle.pack.specs.Laws.Rows.{rows_at_lem, cells_at}
 use Rattle.pack.specs.Laws.WrittenValues.{cells-length, Owed, Due, owed_one, owed_none}
 use Rattle.chart.specs.Call.{work_room}
 use Rattle.transition.specs.Happening.{change, act, nothing, action_of, Plays}
@@ -237,12 +237,6 @@ module _ {pack : List ℕ} {n : ℕ} (x : Readable effect_at pack n) where
       omega (arith, fluent x.over x.small x.value x.end x.reads, b.fluent, b.below, x.small.fluents)
 
 module _ {pack : List ℕ} {n : ℕ} {lows highs : List ℕ} where
-  pub widened_not : {w : ℕ} → Tells effect_at (λ (e : Effect). e.whom) pack n w → (w ≡ 0 → ⊥) → Widened effect_at InRange pack n lows highs lows highs
-  widened_not is other = record {
-    wider = wider_same;
-    covers = λ d small e m r q. absurd (other (is d small e m r ∙ q));
-  }
-
   pub widened_one : {f v l h : ℕ} → Tells effect_at (λ (e : Effect). e.fluent) pack n f → Tells effect_at (λ (e : Effect). e.value) pack n v → f < length lows → f < length highs
       → (l ≤ get_or lows f 0) × (l ≤ v) → (get_or highs f 0 ≤ h) × (v ≤ h) → Widened effect_at InRange pack n lows highs (set lows f l) (set highs f h)
   widened_one {f} {v} {l} {h} fluent value in-l in-h low high =
@@ -311,9 +305,6 @@ effects_inside {s} {at} x = (counted_starts 17 (effect_at x.over) s at x.value x
 
 -- by triggers one after the other
 module _ (pack places : List ℕ) (triggers : ℕ) where
-  pub triggered_few : Triggered pack places triggers → (triggers ≤ 16) × (327 ≤ length places)
-  triggered_few (p, (n, x)) = (x.found.most_triggers, x.marked)
-
   module _ (i : ℕ) (l : i < triggers) where
     place : (289 + 2 * i) ≡ (288 + 2 * i) + 1
     place = omega arith
@@ -354,13 +345,6 @@ module _ {work : List ℕ} {from F : ℕ} {was lows : List ℕ} (c : Copied work
     where
       sub_none : (v : ℕ) → v - 0 ≡ v
       sub_none v = omega arith
-
-pub row_copyable : {t : Table} {work lows : List ℕ} → TableFits t work → 0 < t.nodes → t.fluents ≤ length lows → Copyable work t.rows lows 0 t.fluents 0
-row_copyable {t} {work} {lows} fits some room = record {
-  source = λ i l. omega (arith, cell_in t work fits 0 i some (omega (arith, l, fits.wide)));
-  enough = λ i l. omega arith;
-  room = omega (arith, room);
-}
 
 -- values that are laid out, none behind them, are a range each of one value
 pub laid_within : (F : ℕ) (lows : List ℕ) → ((f : ℕ) → F ≤ f → get_or lows f 0 ≡ 0) → Within lows lows (cells lows 0 F)
@@ -403,21 +387,10 @@ module _ (pack places : List ℕ) (triggers a : ℕ) (work : List ℕ) (t : Tabl
     pub try_fluents : t.fluents ≤ 24
     try_fluents = omega (arith, y.trial.over.fluents, y.trial.over.small.fluents)
 
-    pub try_copyable : {lows : List ℕ} → length lows ≡ 24 → Copyable work t.rows lows 0 t.fluents 0
-    try_copyable long = row_copyable y.trial.fits y.trial.some (omega (arith, long, try_fluents))
-
     pub try_writable : {lows : List ℕ} → length lows ≡ 24 → Writable effects_at pack (get_or places (9 * a + 1) 0) lows 0 t.fluents
     try_writable long =
         let g = effects_at_lem y.theory y.trial in
         record { dimensions = dimensions y.theory; small = y.trial.over.small; wide = y.trial.over.fluents; value = (action_of y.theory a).effects; end = g.end; reads = g.reads; inside = omega (arith, long, try_fluents) }
-
-    pub try_triggered : Triggered pack places triggers
-    try_triggered = (y.theory, (y.trial.actions, y.trial.theorized))
-
-    pub try_rules : Readable rules_at pack (get_or places (320 + whose) 0)
-    try_rules =
-        let g = rules_at_lem y.rules y.theory y.trial in
-        record { over = dimensions y.theory; small = y.trial.over.small; value = get_or y.theory.utilities whose []; end = g.end; reads = g.reads }
 
     -- what the action leaves, and the triggers after it, is within the ranges
     pub try_hopeless : {mid late lows highs : List ℕ} → Copied work t.rows (replicate 24 0) mid 0 t.fluents 0 → EffectsWritten pack (get_or places (9 * a + 1) 0) 0 mid late 0 t.fluents → TriggersWidened pack places triggers late late lows highs

@@ -25,9 +25,9 @@ use Rattle.planner.specs.Ending.{Explained}
 use Rattle.planner.specs.Inner.Lists.{Other, Above, All, Ends}
 use Rattle.planner.specs.Inner.Memory.{Laid}
 use Rattle.planner.specs.Inner.Explain.{Stage, Free}
-use Rattle.planner.specs.Inner.Range.{could_hold, could_pass, could_exceed, Within, AllInRange, idle, TriggersInRange, unequal, no_exceed, within_barred, within_wider, all_wider, wider_same}
-use Rattle.planner.specs.Inner.Look.{Widened, TriggersWidened}
-use Rattle.planner.specs.Inner.Levels.{ActionThere, ActionWidened, Levelable, LevelWidened}
+use Rattle.planner.specs.Inner.Range.{could_hold, could_pass, could_exceed, Within, AllInRange, idle, TriggersInRange, no_exceed, within_barred, within_wider, all_wider}
+use Rattle.planner.specs.Inner.Look.{TriggersWidened}
+use Rattle.planner.specs.Inner.Levels.{ActionThere, ActionWidened, LevelWidened}
 use Rattle.planner.specs.Inner.Reach.{Passing, passing_more, passing_end, ActionsInRange, Played, leads_played}
 use Rattle.planner.proofs.Pruning.{all_triggers, own_values, copied_cells, laid_within, zeros}
 
@@ -40,9 +40,6 @@ module _ (pack places : List ℕ) (a : ℕ) where
   effects_there p m n x l = (x.found.action a l nothing).effects
 
   module _ (y : ActionThere pack places a) where
-    pub action_few : (a < 32) × (327 ≤ length places)
-    action_few = let (p, (m, (n, (x, l)))) = y in (omega (arith, l, x.found.most_actions), x.marked)
-
     pub action_condition : Readable condition_at pack (get_or places (9 * a) 0)
     action_condition =
         let (p, (m, (n, (x, l)))) = y in
@@ -55,25 +52,6 @@ module _ (pack places : List ℕ) (a : ℕ) where
         let g = effects_there p m n x l in
         record { over = dimensions p; small = x.small; value = (action_of p a).effects; end = g.end; reads = g.reads }
 
-  -- it could not be played, or what it writes is in range
-  pub action_not : (lower upper lows highs : List ℕ) {r : Bool} → Tells condition_at (could_hold (could_pass lower upper)) pack (get_or places (9 * a) 0) r → r ≡ false → ActionWidened pack places a lower upper lows highs lows highs
-  action_not lower upper lows highs told e = record {
-    wider = wider_same;
-    covers = λ p m n x l q.
-        let g = condition_there p m n x l in
-        absurd (unequal (sym q ∙ sym (told (dimensions p) x.small (action_of p a).condition g.end g.reads) ∙ e));
-  }
-
-  pub action_widened : {lower upper lows highs lows' highs' : List ℕ} → Widened effects_at AllInRange pack (get_or places (9 * a + 1) 0) lows highs lows' highs' → ActionWidened pack places a lower upper lows highs lows' highs'
-  action_widened w = record {
-    wider = w.wider;
-    covers = λ p m n x l q. let g = effects_there p m n x l in w.covers (dimensions p) x.small (action_of p a).effects g.end g.reads;
-  }
-
--- A level, action by action
-pub level_few : {pack places : List ℕ} {actions : ℕ} → Levelable pack places actions → actions ≤ 32
-level_few (p, (n, x)) = x.found.most_actions
-
 pub actions_more : {pack places : List ℕ} {actions a : ℕ} (lower upper : List ℕ) {lows highs lows' highs' : List ℕ} → a < actions → ActionWidened pack places a lower upper lows highs lows' highs'
     → (p : Theory) (n : ℕ) → Theorized p pack places actions n → ActionsInRange p lower upper lows highs a → ActionsInRange p lower upper lows' highs' (a + 1)
 actions_more {actions = actions} {a} lower upper {lows' = lows'} {highs'} l w p n x old =
@@ -83,14 +61,6 @@ actions_more {actions = actions} {a} lower upper {lows' = lows'} {highs'} l w p 
 
 -- From the start to the end
 module _ {th : Theory} {T : List Node} {pack places : List ℕ} {h : Context} {work : List ℕ} {t : Table} {slot : ℕ} (x : Stage th T pack places h work t slot) where
-  pub reach_rules : {whose : ℕ} → whose < t.characters + 1 → Readable rules_at pack (get_or places (320 + whose) 0)
-  reach_rules {whose} l =
-      let g = x.theorized.found.rules whose (omega (arith, l, x.tabled.over.characters)) in
-      record { over = dimensions th; small = x.theorized.small; value = get_or th.utilities whose []; end = g.end; reads = g.reads }
-
-  pub reach_fluents : t.fluents ≤ 24
-  reach_fluents = omega (arith, x.tabled.over.fluents, x.tabled.over.small.fluents)
-
   -- so many actions are left of every list that is within reach, from a state within the ranges on
   abbrev pub Bounded : (lows highs : List ℕ) (left k : ℕ) → Type 0
   Bounded lows highs left k = (list : List ℕ) (u : State) → length list ≤ left → Played th (meaning t.characters T 0) list u → Passing th lows highs k u

@@ -39,6 +39,7 @@ use Rattle.transition.specs.Laws.Loaded.{short-pack}
 use Rattle.pack.specs.declared.refusal.Refusal.TheVariants.{NoEnding}
 use Rattle.planner.specs.declared.Ending as answers
 use Rattle.planner.specs.declared.limits.Context.{Context}
+use Rattle.planner.specs.declared.foreseen.Foreseen.{Foreseen}
 use Rattle.planner.specs.declared.search.Ended.{Ended}
 use Rattle.std.specs.Prelude.{Option, Some, None}
 use Rattle.planner.proofs.EarliestList.{no_some, some_is}
@@ -259,9 +260,6 @@ module _ (pack : List ℕ) (T K E : ℕ) (list work : List ℕ) where
       abbrev the_nodes : List Node
       the_nodes = accepted_now.2.0.the_pack.nodes
 
-      abbrev pub context : Context
-      context = laid_out p (record { 0 = K }) (1 + T + (1 + K) * E)
-
       fit : ChartFits theory.characters theory.domains the_nodes
       fit = let y = accepted_now.2.0 in ((pack_exactly pack bytes y.the_pack).0 y.accepted).0.nodes
 
@@ -281,45 +279,50 @@ module _ (pack : List ℕ) (T K E : ℕ) (list work : List ℕ) where
           let (told, least, most, nested) = search_ranges in
           (omega (arith, small.characters, y.found.characters), omega (arith, told, mul-le-mul_left (1 + K) nested, mul-le-mul_right 3 most))
 
-      ready : Seeking theory the_nodes pack places context p.first p.nodes T K E list work
-      ready =
-          let y = accepted_now.2.0 in
-          let x = y.the_pack in
-          let g = y.found in
-          let (has_list_room, has_work_room) = and_true (fits list_room list) (fits work_room work) y.enough_there in
-          let (told, least, most, nested) = search_ranges in
-          let some = ((pack_exactly pack bytes x).0 y.accepted).0.characters.0 in
-          record {
-            theorized = record { small = small_pack pack x y.accepted; found = g.theory; short = short-pack pack x y.accepted; marked = marked };
-            end = g.rows.end;
-            read = nodes_packed bytes y.accepted g;
-            same_characters = g.characters;
-            same_fluents = g.fluents;
-            storied = told;
-            foreseen = (least, most);
-            laid = laid_fits p (record { 0 = K }) (1 + T + (1 + K) * E) (omega (arith, some, g.characters)) search_sizes;
-            slots = laid_free p (record { 0 = K }) (1 + T + (1 + K) * E);
-            has_list_room = leb-true list_room (length list) has_list_room;
-            room = leb-true work_room (length work) has_work_room;
-          }
+      -- laid out by a foresight limit that is known to be one
+      module _ (f : Foreseen) (seen : f.actions ≡ K) where
+        abbrev pub context : Context
+        context = laid_out p f (1 + T + (1 + K) * E)
 
-      pub search_able : (h : Context) → h ≡ context → Seekable pack places h p.first p.nodes T h.foresight.0 E list work
-      search_able h made = subst (λ (h : Context). Seekable pack places h p.first p.nodes T h.foresight.0 E list work) (sym made) (theory, (the_nodes, ready))
+        ready : Seeking theory the_nodes pack places context p.first p.nodes T K E list work
+        ready =
+            let y = accepted_now.2.0 in
+            let x = y.the_pack in
+            let g = y.found in
+            let (has_list_room, has_work_room) = and_true (fits list_room list) (fits work_room work) y.enough_there in
+            let (told, least, most, nested) = search_ranges in
+            let some = ((pack_exactly pack bytes x).0 y.accepted).0.characters.0 in
+            record {
+              theorized = record { small = small_pack pack x y.accepted; found = g.theory; short = short-pack pack x y.accepted; marked = marked };
+              end = g.rows.end;
+              read = nodes_packed bytes y.accepted g;
+              same_characters = g.characters;
+              same_fluents = g.fluents;
+              storied = told;
+              foreseen = (least, most);
+              laid = laid_fits p f (1 + T + (1 + K) * E) (omega (arith, some, g.characters)) search_sizes;
+              slots = laid_free p f (1 + T + (1 + K) * E);
+              has_list_room = leb-true list_room (length list) has_list_room;
+              room = leb-true work_room (length work) has_work_room;
+            }
 
-      pub search_done : (h : Context) → h ≡ context → (list' work' : List ℕ) (v : Result answers.Ending Refusal) → SearchPutFrom pack places h p.first p.nodes T h.foresight.0 E list list' work work' v → Searching pack T K E list work list' work' v
-      unfolding work_after result_after
-      search_done h made list' work' v put =
-          let (ns, g, (y, replies)) = accepted_now in
-          let z = subst (λ (h : Context). SearchPutFrom pack places h p.first p.nodes T h.foresight.0 E list list' work work' v) made put theory the_nodes ready in
-          let same : meaning p.characters the_nodes 0 ≡ meaning theory.characters the_nodes 0 = ap (λ (k : ℕ). meaning k the_nodes 0) (sym y.found.characters) in
-          let so : search_table theory T K E the_nodes ≡ z.answer = (search_table_iff theory the_nodes (fits_table theory.characters theory.domains the_nodes fit) T K E z.answer).0 (subst (λ (s : State). Searched theory T K E s z.answer) same z.is_so) in
-          let gave : the_reply ≡ answer_reply z.answer = replies ∙ ap answer_reply so in
-          record {
-            answer = z.said ∙ sym (ap (told summary) gave);
-            result = z.result ∙ sym (ap (λ (y : Reply Plan). result_after (told (λ p. p.list) y) list) gave);
-            scratch = z.scratch ∙ sym (ap (λ (y : Reply Plan). work_after y work) gave ∙ after z.answer);
-          }
-        where
-          after : (a : Answer) → work_after (answer_reply a) work ≡ cleared work
-          after (ending l v w) = refl
-          after none = refl
+        pub search_able : (h : Context) → h ≡ context → Seekable pack places h p.first p.nodes T h.foresight.actions E list work
+        search_able h made = subst (λ (h : Context). Seekable pack places h p.first p.nodes T h.foresight.actions E list work) (sym made) (subst (λ (k : ℕ). Seekable pack places context p.first p.nodes T k E list work) (sym seen) (theory, (the_nodes, ready)))
+
+        pub search_done : (h : Context) → h ≡ context → (list' work' : List ℕ) (v : Result answers.Ending Refusal) → SearchPutFrom pack places h p.first p.nodes T h.foresight.actions E list list' work work' v → Searching pack T K E list work list' work' v
+        unfolding work_after result_after
+        search_done h made list' work' v put =
+            let (ns, g, (y, replies)) = accepted_now in
+            let z = subst (λ (k : ℕ). SearchPutFrom pack places context p.first p.nodes T k E list list' work work' v) seen (subst (λ (h : Context). SearchPutFrom pack places h p.first p.nodes T h.foresight.actions E list list' work work' v) made put) theory the_nodes ready in
+            let same : meaning p.characters the_nodes 0 ≡ meaning theory.characters the_nodes 0 = ap (λ (k : ℕ). meaning k the_nodes 0) (sym y.found.characters) in
+            let so : search_table theory T K E the_nodes ≡ z.answer = (search_table_iff theory the_nodes (fits_table theory.characters theory.domains the_nodes fit) T K E z.answer).0 (subst (λ (s : State). Searched theory T K E s z.answer) same z.is_so) in
+            let gave : the_reply ≡ answer_reply z.answer = replies ∙ ap answer_reply so in
+            record {
+              answer = z.said ∙ sym (ap (told summary) gave);
+              result = z.result ∙ sym (ap (λ (y : Reply Plan). result_after (told (λ p. p.list) y) list) gave);
+              scratch = z.scratch ∙ sym (ap (λ (y : Reply Plan). work_after y work) gave ∙ after z.answer);
+            }
+          where
+            after : (a : Answer) → work_after (answer_reply a) work ≡ cleared work
+            after (ending l v w) = refl
+            after none = refl

@@ -1,8 +1,8 @@
 -- The slots of a call: as many as it wants lie before the memory, and the memory before the scratch. Assumes nothing.
-use Prim.Native.Nat.{ℕ, ◌+◌, ◌*◌, ◌-◌, ◌/◌, ◌%◌, ◌<◌, ◌≤◌}
+use Prim.Native.Nat.{ℕ, ◌+◌, ◌*◌, ◌-◌, ◌%◌, ◌<◌, ◌≤◌}
 use mathlib.Core.Path.{◌≡◌, refl, ap}
 use mathlib.Core.Bool.{Bool, true, false}
-use mathlib.Core.Logic.{◌⊎◌, inl, inr, ⊎_elim}
+use mathlib.Core.Logic.{inl, inr, ⊎_elim}
 use mathlib.Core.List.{List}
 use native.Mathlib.Nat.{mul-le-mul_right, div-add-mod, mod-lt}
 use native.Mathlib.Omega.{arith}
@@ -13,7 +13,7 @@ use Rattle.pack.specs.Reading.{pick}
 use Rattle.pack.specs.declared.contents.Contents.{Contents}
 use Rattle.transition.specs.Duties.Stage.{slot_room}
 use Rattle.planner.specs.declared.limits.Context.{Context}
-use Rattle.planner.specs.declared.limits.Foresight.{Foresight}
+use Rattle.planner.specs.declared.foreseen.Foreseen.{Foreseen}
 use Rattle.planner.specs.Inner.Layout.{entries, room_behind, laid_out}
 use Rattle.planner.specs.Inner.Memory.{Sized, Laid}
 use Rattle.planner.specs.Inner.Explain.{Free}
@@ -21,10 +21,6 @@ use Rattle.planner.specs.Inner.Explain.{Free}
 -- how many entries there may be
 pub sized_bounds : {n : ℕ} → Sized n → (256 ≤ n) × (n ≤ 1024)
 sized_bounds s = ⊎_elim (λ e. (omega (arith, e), omega (arith, e))) (λ t. ⊎_elim (λ e. (omega (arith, e), omega (arith, e))) (λ e. (omega (arith, e), omega (arith, e))) t) s
-
--- half as many
-pub sized_half : {n : ℕ} → Sized n → (n / 2 ≡ 128) ⊎ Sized (n / 2)
-sized_half s = ⊎_elim (λ e. inl (omega (arith, e))) (λ t. inr (⊎_elim (λ e. inl (omega (arith, e))) (λ e. inr (inl (omega (arith, e)))) t)) s
 
 -- how many entries there are, and that tables have room behind them
 are : (a b : Bool) → Sized (pick a 256 (pick b 512 1024))
@@ -40,7 +36,7 @@ fit false false room l g = omega (arith, g refl)
 pub entries_fit : (actions room : ℕ) → 11474 ≤ room → 436 + 9 * entries actions room + 255 * 25 ≤ room
 entries_fit actions room l = fit (ltb actions 12) (ltb room 24000) room l (λ e. ltb-false room 24000 e)
 
-module _ (c : Contents) (k : Foresight) (slots : ℕ) where
+module _ (c : Contents) (k : Foreseen) (slots : ℕ) where
   abbrev size : ℕ
   size = slot_room (c.domains.fluents + c.characters)
 

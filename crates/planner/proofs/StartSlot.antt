@@ -4,7 +4,7 @@ use mathlib.Core.Path.{◌≡◌, sym, ap, ◌∙◌, subst}
 use mathlib.Core.List.{List}
 use native.Mathlib.Nat.{mul-le-mul_right}
 use native.Mathlib.Omega.{arith}
-use lib.ListN.{length, get_or, set, length-set}
+use lib.ListN.{length, get_or, set}
 use lib.Seq.{get_or-set_same, get_or-set_other}
 use Rattle.pack.specs.Syntax.{Node}
 use Rattle.pack.specs.State.{meaning}
@@ -12,7 +12,7 @@ use Rattle.pack.specs.Duties.Copy.{TableCopied}
 use Rattle.pack.specs.Duties.Table.{rows_at}
 use Rattle.chart.specs.Call.{work_room}
 use Rattle.chart.specs.Chart.{Starts}
-use Rattle.chart.specs.Duties.Put.{Cleared, Apart, PartCopied}
+use Rattle.chart.specs.Duties.Put.{Cleared, PartCopied}
 use Rattle.chart.specs.Duties.Start.{Merged}
 use Rattle.chart.specs.Laws.Cells.{rows_same}
 use Rattle.chart.specs.Laws.LoadedNodes.{read_small, read_same, merged_small}
@@ -38,9 +38,6 @@ module _ {T : List Node} {pack : List ℕ} {first nodes : ℕ} {h : Context} {wo
       -- it takes no more than its slot
       merged_slot : 1 + r * w ≤ h.memory
       merged_slot = let most : r * w ≤ 32 * w = mul-le-mul_right w (omega (arith, z.few, x.read.few)) in omega (arith, most, x.laid.wide, x.slot)
-
-      pub lay_down : Apart 2400 1 (r * w) × (2400 + r * w ≤ length (set mid' 0 r)) × (1 + r * w ≤ length (set mid' 0 r))
-      lay_down = let room = length-set mid' 0 r ∙ long ∙ y.long in (omega (arith, merged_size), omega (arith, merged_size, room, x.room), omega (arith, merged_size, room, x.room))
 
       -- the memory is emptied
       module _ {now then : List ℕ} (c : PartCopied (set mid' 0 r) now 2400 1 (r * w)) (whole : Cleared now then h.memory (436 + 9 * h.lists)) where

@@ -69,56 +69,8 @@ key_same e f g h = λ j. record { who = e j; nesting = f j; number = g j; base =
 
 -- six bytes put down
 module _ (was : List ℕ) (a m w n l b : ℕ) (room : a + 6 ≤ length was) where
-  abbrev s1 : List ℕ
-  s1 = set was a m
-
-  abbrev s2 : List ℕ
-  s2 = set s1 (a + 1) w
-
-  abbrev s3 : List ℕ
-  s3 = set s2 (a + 2) n
-
-  abbrev s4 : List ℕ
-  s4 = set s3 (a + 3) l
-
-  abbrev s5 : List ℕ
-  s5 = set s4 (a + 4) (b % 256)
-
-  abbrev s6 : List ℕ
-  s6 = set s5 (a + 5) (b / 256)
-
-  pub long2 : length s2 ≡ length was
-  long2 = length-set s1 (a + 1) w ∙ length-set was a m
-
-  pub long4 : length s4 ≡ length was
-  long4 = length-set s3 (a + 3) l ∙ length-set s2 (a + 2) n ∙ long2
-
-  -- later ones leave an earlier one
-  from5 : (q : ℕ) → q ≢ a + 4 → q ≢ a + 5 → get_or s6 q 0 ≡ get_or s4 q 0
-  from5 q x y = get_or-set_other s5 (a + 5) q (b / 256) 0 y ∙ get_or-set_other s4 (a + 4) q (b % 256) 0 x
-
-  from3 : (q : ℕ) → q ≢ a + 2 → q ≢ a + 3 → get_or s4 q 0 ≡ get_or s2 q 0
-  from3 q x y = get_or-set_other s3 (a + 3) q l 0 y ∙ get_or-set_other s2 (a + 2) q n 0 x
-
-  from1 : (q : ℕ) → q ≢ a → q ≢ a + 1 → get_or s2 q 0 ≡ get_or was q 0
-  from1 q x y = get_or-set_other s1 (a + 1) q w 0 y ∙ get_or-set_other was a q m 0 x
-
   whole : b % 256 + 256 * (b / 256) ≡ b
   whole = omega (arith, div-add-mod b 256)
-
-  pub key_put : KeyPut was s6 a m (record { who = w; nesting = n; number = l; base = b })
-  key_put = record {
-    marked = from5 a (λ e. omega (arith, e)) (λ e. omega (arith, e)) ∙ from3 a (λ e. omega (arith, e)) (λ e. omega (arith, e)) ∙ get_or-set_other s1 (a + 1) a w 0 (λ e. omega (arith, e)) ∙ get_or-set_same was a m 0 (omega arith);
-    key = key_same
-        (from5 (a + 1) (λ e. omega (arith, e)) (λ e. omega (arith, e)) ∙ from3 (a + 1) (λ e. omega (arith, e)) (λ e. omega (arith, e)) ∙ get_or-set_same s1 (a + 1) w 0 (omega (arith, length-set was a m)))
-        (from5 (a + 2) (λ e. omega (arith, e)) (λ e. omega (arith, e)) ∙ get_or-set_other s3 (a + 3) (a + 2) l 0 (λ e. omega (arith, e)) ∙ get_or-set_same s2 (a + 2) n 0 (omega (arith, long2)))
-        (from5 (a + 3) (λ e. omega (arith, e)) (λ e. omega (arith, e)) ∙ get_or-set_same s3 (a + 3) l 0 (omega (arith, long2, length-set s2 (a + 2) n)))
-        (let low = get_or-set_other s5 (a + 5) (a + 4) (b / 256) 0 (λ e. omega (arith, e)) ∙ get_or-set_same s4 (a + 4) (b % 256) 0 (omega (arith, long4)) in
-        let high = get_or-set_same s5 (a + 5) (b / 256) 0 (omega (arith, long4, length-set s4 (a + 4) (b % 256))) in
-        omega (arith, low, high, whole));
-    low = λ q g. from5 q (λ e. omega (arith, e)) (λ e. omega (arith, e)) ∙ from3 q (λ e. omega (arith, e)) (λ e. omega (arith, e)) ∙ from1 q (λ e. omega (arith, e)) (λ e. omega (arith, e));
-    high = λ q g. from5 q (λ e. omega (arith, e)) (λ e. omega (arith, e)) ∙ from3 q (λ e. omega (arith, e)) (λ e. omega (arith, e)) ∙ from1 q (λ e. omega (arith, e)) (λ e. omega (arith, e));
-  }
 
 -- a fact of the same mark, key and state
 pub fact_same : (th : Theory) (K : ℕ) {m m' : ℕ} {k k' : Key} {s s' : ℕ → State} → m ≡ m' → k ≡ k' → s ≡ s' → Fact th K m k s → Fact th K m' k' s'
@@ -131,10 +83,6 @@ rows_mean c e = ap (λ (t : List Node). meaning c t) e
 -- of two multiples of a stride the greater is a stride further
 pub stride_on : (s : ℕ) {i j : ℕ} → i < j → s * i + s ≤ s * j
 stride_on s {i} {j} l = let next : i + 1 ≤ j = omega (arith, l) in omega (arith, mul-le-mul_left s next)
-
--- a part of a number is no greater
-pub part_most : (n d : ℕ) → 0 < d → n / d ≤ n
-part_most n d l = let one : 1 ≤ d = omega (arith, l) in omega (arith, div-add-mod n d, mul-le-mul_right (n / d) one)
 
 -- the place that a number leads to
 pub placed : (count : ℕ) → 0 < count → (first size x : ℕ) → Place count first size (first + size * (x % count))
@@ -162,10 +110,6 @@ module _ (h : Context) where
   -- another has its id elsewhere
   slot_apart : Laid h → {i j : ℕ} → h.stride * i < h.memory → h.stride * j < h.memory → id_at h (h.stride * i + 1) ≡ id_at h (h.stride * j + 1) → i ≡ j
   slot_apart laid {i} {j} l g e = omega (arith, slot_place laid i l, slot_place laid j g, e)
-
-  -- so many blocks lie before the scratch
-  pub blocks_most : Laid h → (n : ℕ) → n < 256 → tables_at h + h.block * n ≤ scratch_at
-  blocks_most laid n l = let few : n ≤ 255 = omega (arith, l) in omega (arith, mul-le-mul_left h.block few, laid.room)
 
   -- states of the same bytes
   pub state_moved : (was now : List ℕ) (a b : ℕ) → ((i : ℕ) → i < 1 + get_or was a 0 * w → get_or now (b + i) 0 ≡ get_or was (a + i) 0) → state_of (slot_table h now b) now 0 ≡ state_of (slot_table h was a) was 0
@@ -670,56 +614,6 @@ module _ (h : Context) where
               (cells_unspent (low (h.memory + 49) (omega (arith, bounds))) (low (taken_at h) (omega (arith, bounds))) (named some)) m';
         }
 
--- three bytes that nothing is asked of
-pub unasked_three : (h : Context) (was : List ℕ) (v u x : ℕ) → Unasked h was (set (set (set was (h.memory + 50) v) (h.memory + 50 + 1) u) (h.memory + 50 + 2) x)
-unasked_three h was v u x =
-    let first : List ℕ = set was (h.memory + 50) v in
-    let second : List ℕ = set first (h.memory + 50 + 1) u in
-    let other : (q : ℕ) → q ≢ h.memory + 50 → q ≢ h.memory + 50 + 1 → q ≢ h.memory + 50 + 2 → get_or (set second (h.memory + 50 + 2) x) q 0 ≡ get_or was q 0 = λ q a b c. get_or-set_other second (h.memory + 50 + 2) q x 0 c ∙ get_or-set_other first (h.memory + 50 + 1) q u 0 b ∙ get_or-set_other was (h.memory + 50) q v 0 a in
-    record { low = λ q l. other q (λ z. omega (arith, z, l)) (λ z. omega (arith, z, l)) (λ z. omega (arith, z, l)); high = λ q l. other q (λ z. omega (arith, z, l)) (λ z. omega (arith, z, l)) (λ z. omega (arith, z, l)) }
-
--- four bytes put down
-module _ (was : List ℕ) (a n r x y : ℕ) (room : a + 4 ≤ length was) where
-  abbrev b1 : List ℕ
-  b1 = set was a n
-
-  abbrev b2 : List ℕ
-  b2 = set b1 (a + 1) r
-
-  abbrev b3 : List ℕ
-  b3 = set b2 (a + 2) x
-
-  abbrev b4 : List ℕ
-  b4 = set b3 (a + 3) y
-
-  pub step_put : StepPut was b4 a n r x y
-  step_put = record {
-    read = o3 a (λ z. omega (arith, z)) ∙ o2 a (λ z. omega (arith, z)) ∙ o1 a (λ z. omega (arith, z)) ∙ get_or-set_same was a n 0 (omega arith);
-    row = o3 (a + 1) (λ z. omega (arith, z)) ∙ o2 (a + 1) (λ z. omega (arith, z)) ∙ get_or-set_same b1 (a + 1) r 0 (omega (arith, l1));
-    acted = o3 (a + 2) (λ z. omega (arith, z)) ∙ get_or-set_same b2 (a + 2) x 0 (omega (arith, l1, l2));
-    leaves = get_or-set_same b3 (a + 3) y 0 (omega (arith, l1, l2, l3));
-    low = λ q l. o3 q (λ z. omega (arith, z, l)) ∙ o2 q (λ z. omega (arith, z, l)) ∙ o1 q (λ z. omega (arith, z, l)) ∙ get_or-set_other was a q n 0 (λ z. omega (arith, z, l));
-    high = λ q l. o3 q (λ z. omega (arith, z, l)) ∙ o2 q (λ z. omega (arith, z, l)) ∙ o1 q (λ z. omega (arith, z, l)) ∙ get_or-set_other was a q n 0 (λ z. omega (arith, z, l));
-  }
-    where
-      l1 : length b1 ≡ length was
-      l1 = length-set was a n
-
-      l2 : length b2 ≡ length b1
-      l2 = length-set b1 (a + 1) r
-
-      l3 : length b3 ≡ length b2
-      l3 = length-set b2 (a + 2) x
-
-      o1 : (q : ℕ) → q ≢ a + 1 → get_or b2 q 0 ≡ get_or b1 q 0
-      o1 q z = get_or-set_other b1 (a + 1) q r 0 z
-
-      o2 : (q : ℕ) → q ≢ a + 2 → get_or b3 q 0 ≡ get_or b2 q 0
-      o2 q z = get_or-set_other b2 (a + 2) q x 0 z
-
-      o3 : (q : ℕ) → q ≢ a + 3 → get_or b4 q 0 ≡ get_or b3 q 0
-      o3 q z = get_or-set_other b3 (a + 3) q y 0 z
-
 -- steps that are known
 module _ (h : Context) where
   abbrev width : ℕ
@@ -738,10 +632,6 @@ module _ (h : Context) where
       subst (λ (q : ℕ). StepRead work q id root a) (sym here) (subst (λ (n : ℕ). StepRead work (step_at h n root a) n root a) e x.entry),
       ap (λ (q : ℕ). get_or work (q + 3) 0) (here ∙ ap (λ (n : ℕ). step_at h n root a) (sym e)) ∙ x.leaves,
     )
-
-  -- nothing is put down of a table without an id
-  pub noted_none : {t : Table} {was : List ℕ} {root a next : ℕ} → slot_id h was t ≡ 0 → Noted h t root a next was was
-  noted_none e = record { stands = λ z. absurd (omega (arith, e, z)); ids = λ q l. refl; only = record { low = λ q l. refl; high = λ q l. refl }; memory = λ p K limit few s m f. m }
 
   -- a step put down
   module _ {t : Table} {was now : List ℕ} {id root a next at : ℕ} (b : Before h was t) (e : slot_id h was t ≡ id) (some : 0 < id) (here : at ≡ step_at h id root a) (place : Place (h.lists / 2) (steps_at h) 4 at) (put : StepPut was now at id root a next) where
@@ -874,9 +764,6 @@ module _ (h : Context) where
       );
     }
 
-  pub refused_again : {was : List ℕ} {slot next : ℕ} → next ≡ 0 → Again h next slot was was false
-  refused_again e = record { refused = λ z. e; named = unset; others = λ q l n. refl; played = unset; low = λ q l. refl; high = λ q l. refl; memory = λ p K m. (m, unset) }
-
   -- what a step has left is named and put down
   module _ {was : List ℕ} {slot : ℕ} (s : Slot h was slot) (few : get_or was slot 0 ≤ 32) where
     abbrev left : Table
@@ -884,12 +771,6 @@ module _ (h : Context) where
 
     nameless_count : get_or (nameless s) slot 0 ≡ get_or was slot 0
     nameless_count = nameless_other s slot (λ z. omega (arith, z, s.before))
-
-    nameless_long : length (nameless s) ≡ length was
-    nameless_long = length-set was (id_at h (slot + 1)) 0
-
-    pub left_before : Before h (nameless s) left
-    left_before = record { laid = s.laid; fluents = refl; characters = refl; wide = refl; narrow = s.laid.narrow; few = omega (arith, nameless_count, few); before = let most : get_or (nameless s) slot 0 * width ≤ 32 * width = mul-le-mul_right width (omega (arith, nameless_count, few)) in omega (arith, most, s.laid.wide, s.before); room = omega (arith, nameless_long, s.room) }
 
     left_in : InSlot h (nameless s) left (slot + h.stride)
     left_in = record { number = s.number; rows = ap (λ (a : ℕ). a + 1) s.is; counted = ap (λ (a : ℕ). get_or (nameless s) a 0) (sym s.is); before = omega (arith, s.is) }

@@ -49,8 +49,7 @@ pub fn pointless(pack: &[u8], places: &[u16], p: Context, work: &[u8], slot: usi
     }
     let q = usize::from(work[slot + 1 + p.fluents + d.who]);
     let t = table_in(work, p, slot);
-    let may = holds(pack, places[ACTION * d.action] as usize, work, t, q);
-    if !may {
+    if !holds(pack, places[ACTION * d.action] as usize, work, t, q) {
         return true;
     }
     let rules = places[CHARACTER_UTILITIES + d.who] as usize;

@@ -95,18 +95,13 @@ pub fn lowest(work: &[u8], p: Context, first: usize) -> usize
     lower(work, one, other)
 }
 
-// The rank of what took so many steps to find out: how many bits that number has, or as many as a byte can tell.
+// The rank of what took so many steps to find out: how many bits that number has.
 pub fn rank_of(steps: usize) -> u8 {
-    let mut left = steps;
-    let mut rank: u8 = 0;
-    while 0 < left {
-        if rank == 255 {
-            return rank;
-        }
-        left = left / 2;
-        rank = rank + 1;
+    if steps == 0 {
+        0
+    } else {
+        (steps.ilog2() + 1) as u8
     }
-    rank
 }
 
 // Puts what is known of the table in a slot into a cell.
@@ -128,7 +123,7 @@ pub fn remember_cell(work: &mut [u8], p: Context, slot: usize, known: Known, k: 
     ensures { Remembered p (slot_table p work.old slot) (mark_of known) k work.old work.new
         × CellKept p slot (mark_of known) k work.old work.new }
 {
-    if ROWS < usize::from(work[slot]) || !storable(1, k) {
+    if ROWS < usize::from(work[slot]) || !storable(k) {
         return;
     }
     let first = bucket_at(work, p, slot, k);

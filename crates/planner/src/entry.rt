@@ -84,11 +84,11 @@ pub fn keyed(work: &[u8], at: usize, k: Key) -> bool
         && usize::from(work[at + 4]) + 256 * usize::from(work[at + 5]) == k.base
 }
 
-// Whether an id is one, and a key's numbers fit their bytes.
-pub fn storable(id: usize, k: Key) -> bool
-    ensures { (result ≡ true → Storable id k) × (result ≡ false → ¬ Storable id k) }
+// Whether a key's numbers fit their bytes.
+pub fn storable(k: Key) -> bool
+    ensures { (id : ℕ) → 0 < id → (result ≡ true → Storable id k) × (result ≡ false → ¬ Storable id k) }
 {
-    id != 0 && k.who < 256 && k.nesting < 256 && k.number < 256 && k.base < 65536
+    k.who < 256 && k.nesting < 256 && k.number < 256 && k.base < 65536
 }
 
 // What is known of the table in a slot by this key, if anything.
@@ -133,7 +133,7 @@ pub fn remember(work: &mut [u8], p: Context, slot: usize, known: Known, k: Key)
     let Some(id) = id_of(work, p, slot) else {
         return;
     };
-    if storable(id, k) {
+    if storable(k) {
         let at = entry_at(p, id, k);
         put_key(work, at, known, k);
         work[at + 6] = id as u8;

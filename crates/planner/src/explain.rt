@@ -43,10 +43,10 @@ pub fn explained(
     d: Deed,
 ) -> bool
     requires { Prepared pack.now places.now p work.old (slot_table p work.old slot) (slot + p.stride)
-        × (d.who < p.characters) × (d.action < p.actions) × (0 < p.foresight.0) × (p.foresight.0 ≤ 6)
-        × Free p slot (1 + (1 + p.foresight.0) * d.nesting.0) }
+        × (d.who < p.characters) × (d.action < p.actions)
+        × Free p slot (1 + (1 + p.foresight.actions) * d.nesting.0) }
     ensures { Answers pack.now places.now p slot work.old
-        work.new result (λ th s. Explained th p.foresight.0 d.nesting.0 d.who d.action s) }
+        work.new result (λ th s. Explained th p.foresight.actions d.nesting.0 d.who d.action s) }
 {
     if d.nesting.0 == 0 || pointless(pack, places, p, work, slot, d) {
         return false;
@@ -67,11 +67,11 @@ pub fn judged(
     q: usize,
 ) -> bool
     requires { Prepared pack.now places.now p work.old (slot_table p work.old slot) (slot + p.stride)
-        × (d.who < p.characters) × (d.action < p.actions) × (0 < p.foresight.0) × (p.foresight.0 ≤ 6)
-        × Free p slot ((1 + p.foresight.0) * d.nesting.0) × (0 < d.nesting.0)
+        × (d.who < p.characters) × (d.action < p.actions)
+        × Free p slot ((1 + p.foresight.actions) * d.nesting.0) × (0 < d.nesting.0)
         × (q < get_or work.old slot 0) }
     ensures { AnswersOf q pack.now places.now p slot work.old
-        work.new result (λ th b. ExplainedBy th p.foresight.0 d.nesting.0 d.who d.action b) }
+        work.new result (λ th b. ExplainedBy th p.foresight.actions d.nesting.0 d.who d.action b) }
 {
     let key = deed_key(d, q);
     if let Some(Known::Explained(verdict)) = recall(work, p, slot, key) {
@@ -95,11 +95,11 @@ pub fn explains(
     q: usize,
 ) -> bool
     requires { Prepared pack.now places.now p work.old (slot_table p work.old slot) (slot + p.stride)
-        × (d.who < p.characters) × (d.action < p.actions) × (0 < p.foresight.0) × (p.foresight.0 ≤ 6)
-        × Free p slot ((1 + p.foresight.0) * d.nesting.0) × (0 < d.nesting.0)
+        × (d.who < p.characters) × (d.action < p.actions)
+        × Free p slot ((1 + p.foresight.actions) * d.nesting.0) × (0 < d.nesting.0)
         × (q < get_or work.old slot 0) }
     ensures { AnswersOf q pack.now places.now p slot work.old
-        work.new result (λ th b. ExplainedBy th p.foresight.0 d.nesting.0 d.who d.action b) }
+        work.new result (λ th b. ExplainedBy th p.foresight.actions d.nesting.0 d.who d.action b) }
 {
     if !known_step(pack, places, p, d.action, work, slot, q) {
         return false;
@@ -117,7 +117,7 @@ pub fn explains(
     let quest = Quest {
         who: d.who,
         goal: Goal { nesting, base },
-        left: p.foresight.0 - 1,
+        left: p.foresight.actions - 1,
     };
     extends(pack, places, p, work, next, quest)
 }
@@ -133,11 +133,11 @@ pub fn extends(
     quest: Quest,
 ) -> bool
     requires { Prepared pack.now places.now p work.old (slot_table p work.old slot) (slot + p.stride)
-        × (quest.who < p.characters) × (0 < p.foresight.0) × (p.foresight.0 ≤ 6)
-        × Free p slot (1 + quest.left + (1 + p.foresight.0) * quest.goal.nesting.0) }
+        × (quest.who < p.characters)
+        × Free p slot (1 + quest.left + (1 + p.foresight.actions) * quest.goal.nesting.0) }
     ensures { Answers pack.now places.now p slot work.old
         work.new result
-        (λ th s. Above th p.foresight.0 quest.goal.nesting.0 quest.who quest.goal.base
+        (λ th s. Above th p.foresight.actions quest.goal.nesting.0 quest.who quest.goal.base
         (suc quest.left) s) }
 {
     let goal = quest.goal;
@@ -189,11 +189,11 @@ pub fn extends_by(
     quest: Quest,
 ) -> bool
     requires { Prepared pack.now places.now p work.old (slot_table p work.old slot) (slot + p.stride)
-        × (quest.who < p.characters) × (0 < p.foresight.0) × (p.foresight.0 ≤ 6)
-        × Free p slot (2 + quest.left + (1 + p.foresight.0) * quest.goal.nesting.0) }
+        × (quest.who < p.characters)
+        × Free p slot (2 + quest.left + (1 + p.foresight.actions) * quest.goal.nesting.0) }
     ensures { Answers pack.now places.now p slot work.old
         work.new result
-        (λ th s. AboveBySome th p.foresight.0 quest.goal.nesting.0 quest.who quest.goal.base
+        (λ th s. AboveBySome th p.foresight.actions quest.goal.nesting.0 quest.who quest.goal.base
         (suc quest.left) s) }
 {
     let hope = Hope {
@@ -225,11 +225,11 @@ pub fn via(
     quest: Quest,
 ) -> bool
     requires { Prepared pack.now places.now p work.old (slot_table p work.old slot) (slot + p.stride)
-        × (quest.who < p.characters) × (x < p.actions) × (0 < p.foresight.0) × (p.foresight.0 ≤ 6)
-        × Free p slot (2 + quest.left + (1 + p.foresight.0) * quest.goal.nesting.0) }
+        × (quest.who < p.characters) × (x < p.actions)
+        × Free p slot (2 + quest.left + (1 + p.foresight.actions) * quest.goal.nesting.0) }
     ensures { Answers pack.now places.now p slot work.old
         work.new result
-        (λ th s. AboveBy th p.foresight.0 quest.goal.nesting.0 quest.who quest.goal.base
+        (λ th s. AboveBy th p.foresight.actions quest.goal.nesting.0 quest.who quest.goal.base
         (suc quest.left) x s) }
 {
     let deed = Deed {
@@ -255,10 +255,10 @@ pub fn allowed(
     d: Deed,
 ) -> bool
     requires { Prepared pack.now places.now p work.old (slot_table p work.old slot) (slot + p.stride)
-        × (d.action < p.actions) × (0 < p.foresight.0) × (p.foresight.0 ≤ 6)
-        × Free p slot (1 + (1 + p.foresight.0) * d.nesting.0) }
+        × (d.action < p.actions)
+        × Free p slot (1 + (1 + p.foresight.actions) * d.nesting.0) }
     ensures { Answers pack.now places.now p slot work.old
-        work.new result (λ th s. Agreed th p.foresight.0 d.nesting.0 d.who d.action s) }
+        work.new result (λ th s. Agreed th p.foresight.actions d.nesting.0 d.who d.action s) }
 {
     let at = places[ACTION * d.action + CONSENTERS] as usize;
     let count = consenters(pack, at);
@@ -283,11 +283,11 @@ pub fn fine(
     d: Deed,
 ) -> bool
     requires { Prepared pack.now places.now p work.old (slot_table p work.old slot) (slot + p.stride)
-        × (c < p.characters) × (d.action < p.actions) × (0 < p.foresight.0) × (p.foresight.0 ≤ 6)
-        × Free p slot (1 + (1 + p.foresight.0) * d.nesting.0) }
+        × (c < p.characters) × (d.action < p.actions)
+        × Free p slot (1 + (1 + p.foresight.actions) * d.nesting.0) }
     ensures { Answers pack.now places.now p slot work.old
         work.new result
-        (λ th s. Other d.who c → Explained th p.foresight.0 d.nesting.0 c d.action s) }
+        (λ th s. Other d.who c → Explained th p.foresight.actions d.nesting.0 c d.action s) }
 {
     c == d.who || explained(pack, places, p, work, slot, Deed { who: c, ..d })
 }

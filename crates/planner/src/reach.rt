@@ -73,25 +73,25 @@ pub fn nearest(pack: &[u8], places: &[u16], p: Context, work: &[u8], slot: usize
     copy_bytes(work, slot + 1, &mut lows, 0, p.fluents, 0);
     let mut highs = lows;
     widen_by_triggers(pack, places, p.triggers, &mut lows, &mut highs);
-    let mut i = 0;
-    loop {
+    for i in 0..h.left {
         if could_exceed(pack, rules, &lows, &highs, h.base) {
             return i;
-        }
-        if i == h.left {
-            return i + 1;
         }
         let lower = lows;
         let upper = highs;
         widen_level(
             pack, places, p.actions, &lower, &upper, &mut lows, &mut highs,
         );
-        i += 1;
+    }
+    if could_exceed(pack, rules, &lows, &highs, h.base) {
+        h.left
+    } else {
+        h.left + 1
     }
 }
 
 // Whether a utility above another could be had within so many actions from the state in a slot. Each last action is
-// looked at by itself (`next_promising`), so of fewer than two nothing is reckoned, and of a search that is small.
+// looked at by itself (`promising`), so of fewer than two nothing is reckoned, and of a search that is small.
 pub fn within_reach(
     pack: &[u8],
     places: &[u16],
@@ -105,11 +105,5 @@ pub fn within_reach(
         → OutOfReach pack.now places.now p work.now slot (rules_of h.whose) h.left
         h.base }
 {
-    if h.left < 2 {
-        return true;
-    }
-    if !is_large(work, p) {
-        return true;
-    }
-    nearest(pack, places, p, work, slot, h) <= h.left
+    h.left < 2 || !is_large(work, p) || nearest(pack, places, p, work, slot, h) <= h.left
 }

@@ -2,7 +2,8 @@
 // slot of the work buffer; the slots behind it are free.
 //
 // Iterative deepening (`deepen`) over a depth-limited search (`completes`). The list is written on the way back from
-// its end, so nothing is put down where there is none. Everybody is asked: the character left out is the number of characters, which no consenter has.
+// its end, so nothing is put down where there is none. Everybody is asked: the character left out is the number of
+// characters, which no consenter has.
 ghost use Rattle.std.specs.Prelude.{◌≡◌, true, false, ◌&&◌, List, ℕ, suc, ◌+◌, ◌*◌, ◌<◌, ◌≤◌, length, get_or};
 ghost use Rattle.pack.specs.Syntax.{Node};
 ghost use Rattle.planner.specs.Inner.Lists.{slot_table, Ends, EndsBy};
@@ -17,6 +18,7 @@ use crate::Ending;
 use crate::bound::can_exceed;
 use crate::entry::{Deed, Goal, goal_key, recall, remember_worth};
 use crate::explain::allowed;
+use crate::foreseen::Foreseen;
 use crate::intern::{extent, table_in};
 use crate::known::Known;
 use crate::limits::{Context, Foresight, Limits, Nesting, SEASON, Story, laid_out, searchable};
@@ -68,12 +70,12 @@ pub fn completes(
     ahead: Ahead,
 ) -> Option<usize>
     requires { Underway ahead.goal.nesting.0 ahead.goal.base pack.now places.now p work.old
-        ahead.done ahead.left × (0 < p.foresight.0) × (p.foresight.0 ≤ 6)
-        × Free p (ahead.done * p.stride) (1 + ahead.left + (1 + p.foresight.0) * ahead.goal.nesting.0)
+        ahead.done ahead.left
+        × Free p (ahead.done * p.stride) (1 + ahead.left + (1 + p.foresight.actions) * ahead.goal.nesting.0)
         × (ahead.done + ahead.left ≤ length list.old) }
     ensures { Finds ahead.goal.nesting.0 ahead.goal.base pack.now places.now p
         ahead.done ahead.left list.old list.new work.old work.new result
-        (λ th. Ends th p.foresight.0 ahead.goal.nesting.0 ahead.goal.base) }
+        (λ th. Ends th p.foresight.actions ahead.goal.nesting.0 ahead.goal.base) }
 {
     let slot = ahead.done * p.stride;
     let goal = ahead.goal;
@@ -135,12 +137,12 @@ pub fn completes_after(
     ahead: Ahead,
 ) -> Option<usize>
     requires { Underway ahead.goal.nesting.0 ahead.goal.base pack.now places.now p work.old
-        ahead.done (suc ahead.left) × (0 < p.foresight.0) × (p.foresight.0 ≤ 6)
-        × Free p (ahead.done * p.stride) (2 + ahead.left + (1 + p.foresight.0) * ahead.goal.nesting.0)
+        ahead.done (suc ahead.left)
+        × Free p (ahead.done * p.stride) (2 + ahead.left + (1 + p.foresight.actions) * ahead.goal.nesting.0)
         × (ahead.done + suc ahead.left ≤ length list.old) }
     ensures { Finds ahead.goal.nesting.0 ahead.goal.base pack.now places.now p
         ahead.done (suc ahead.left) list.old list.new work.old
-        work.new result (λ th. Ends th p.foresight.0 ahead.goal.nesting.0 ahead.goal.base) }
+        work.new result (λ th. Ends th p.foresight.actions ahead.goal.nesting.0 ahead.goal.base) }
 {
     let slot = ahead.done * p.stride;
     let hope = Hope {
@@ -191,12 +193,12 @@ pub fn completes_by(
     x: usize,
 ) -> Option<usize>
     requires { Underway ahead.goal.nesting.0 ahead.goal.base pack.now places.now p work.old
-        ahead.done (suc ahead.left) × (x < p.actions) × (0 < p.foresight.0) × (p.foresight.0 ≤ 6)
-        × Free p (ahead.done * p.stride) (2 + ahead.left + (1 + p.foresight.0) * ahead.goal.nesting.0)
+        ahead.done (suc ahead.left) × (x < p.actions)
+        × Free p (ahead.done * p.stride) (2 + ahead.left + (1 + p.foresight.actions) * ahead.goal.nesting.0)
         × (ahead.done + suc ahead.left ≤ length list.old) }
     ensures { Finds ahead.goal.nesting.0 ahead.goal.base pack.now places.now p
         ahead.done (suc ahead.left) list.old list.new work.old
-        work.new result (λ th. EndsBy th p.foresight.0 ahead.goal.nesting.0 ahead.goal.base x) }
+        work.new result (λ th. EndsBy th p.foresight.actions ahead.goal.nesting.0 ahead.goal.base x) }
 {
     let done = ahead.done;
     let slot = done * p.stride;
@@ -258,9 +260,8 @@ pub fn deepen(
     g: Goal,
     most: usize,
 ) -> Option<Ended>
-    requires { Outset g.base pack.now places.now p work.old × (0 < p.foresight.0)
-        × (p.foresight.0 ≤ 6) × (most ≤ 8) × (8 ≤ length list.old)
-        × Free p 0 (1 + most + (1 + p.foresight.0) * g.nesting.0) }
+    requires { Outset g.base pack.now places.now p work.old × (most ≤ 8) × (8 ≤ length list.old)
+        × Free p 0 (1 + most + (1 + p.foresight.actions) * g.nesting.0) }
     ensures { ShortestFrom most g.nesting.0 g.base pack.now places.now p
         list.old list.new work.old work.new result }
 {
@@ -316,9 +317,9 @@ pub fn search_nodes(
     work: &mut [u8],
 ) -> Result<Ending, Refusal>
     requires { Seekable pack.now places.now p nodes.first nodes.count limits.story.0
-        p.foresight.0 limits.nesting.0 list.old work.old }
+        p.foresight.actions limits.nesting.0 list.old work.old }
     ensures { SearchPutFrom pack.now places.now p nodes.first nodes.count
-        limits.story.0 p.foresight.0 limits.nesting.0 list.old list.new
+        limits.story.0 p.foresight.actions limits.nesting.0 list.old list.new
         work.old work.new result }
 {
     lay_start(pack, nodes, p, work);
@@ -355,7 +356,8 @@ pub fn search(
     let p = read_pack(pack, &mut places)?;
     let enough = both_at_most(LIST_ROOM, list.len(), WORK_ROOM, work.len());
     check_lent(enough, searchable(t, k, e))?;
-    let context = laid_out(p, k, 1 + t.0 + (1 + k.0) * e.0);
+    let foreseen = Foreseen { actions: k.0 };
+    let context = laid_out(p, foreseen, 1 + t.0 + (1 + k.0) * e.0);
     let start = Nodes {
         first: p.first,
         count: p.nodes,

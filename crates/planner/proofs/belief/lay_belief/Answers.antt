@@ -6,82 +6,17 @@ use lib.ListN.{length-set}
 use Rattle.pack.specs.declared.table.Table.{Table}
 use Rattle.chart.specs.Duties.Numbers.{Laid, Sound, Copied}
 use Rattle.chart.specs.Duties.OfTable.{of_table}
-use Rattle.planner.specs.Inner.Memory.{id_at}
-use Rattle.planner.proofs.Beliefs.{belief_laid, belief_sound, copied_small, copy_down, belief-at}
+use Rattle.planner.proofs.Beliefs.{belief_laid, belief_sound, belief-at}
 use Rattle.planner.proofs.belief.lay_belief.Goals as goal
-
-pub table_in-t-requires : goal.table_in-t-requires
-table_in-t-requires c =
-    let (pack, (places, (th, (T, (x, m))))) = c.requires.0 in
-    (omega (arith, c.requires.2, x.laid.room, x.laid.some, x.room), x.laid.narrow)
-
-pub copy_reachable-nodes-requires : goal.copy_reachable-nodes-requires
-copy_reachable-nodes-requires c =
-    let (pack, (places, (th, (T, (x, m))))) = c.requires.0 in
-    let is = sym c.table_in-t.ensures in
-    (subst (λ (t : Table). of_table (Laid c.args.work.now) t 40304 40756) is (belief_laid c.args.slot x c.requires.2), subst (λ (t : Table). of_table (Sound c.args.work.now) t) is (belief_sound c.args.slot x c.requires.2), omega (arith, c.requires.1, ap (λ (t : Table). t.nodes) is))
-
-pub overflow_add-next : goal.overflow_add-next
-overflow_add-next c =
-    let (pack, (places, (th, (T, (x, m))))) = c.requires.0 in
-    omega (arith, c.requires.2, x.laid.room)
-
-pub overflow_cast-work : goal.overflow_cast-work
-overflow_cast-work c =
-    let (pack, (places, (th, (T, (x, m))))) = c.requires.0 in
-    let made = subst (λ (t : Table). of_table (Copied c.args.work.now c.copy_reachable-nodes.new.work) t 40304 40756 c.args.row c.copy_reachable-nodes.result) c.table_in-t.ensures c.copy_reachable-nodes.ensures in
-    omega (arith, copied_small c.args.slot x c.requires.2 made c.copy_reachable-nodes.auto.work)
-
-pub bounds-work-next : goal.bounds-work-next
-bounds-work-next c =
-    let (pack, (places, (th, (T, (x, m))))) = c.requires.0 in
-    omega (arith, c.requires.2, x.laid.room, x.laid.some, x.room, c.copy_reachable-nodes.auto.work)
-
-pub overflow_add-next-2 : goal.overflow_add-next-2
-overflow_add-next-2 c =
-    let (pack, (places, (th, (T, (x, m))))) = c.requires.0 in
-    omega (arith, c.requires.2, x.laid.room)
-
-pub overflow_add-p : goal.overflow_add-p
-overflow_add-p c =
-    let (pack, (places, (th, (T, (x, m))))) = c.requires.0 in
-    omega (arith, x.laid.narrow)
-
-pub overflow_mul-nodes : goal.overflow_mul-nodes
-overflow_mul-nodes c =
-    let (pack, (places, (th, (T, (x, m))))) = c.requires.0 in
-    let made = subst (λ (t : Table). of_table (Copied c.args.work.now c.copy_reachable-nodes.new.work) t 40304 40756 c.args.row c.copy_reachable-nodes.result) c.table_in-t.ensures c.copy_reachable-nodes.ensures in
-    omega (arith, copied_small c.args.slot x c.requires.2 made c.copy_reachable-nodes.auto.work)
-
-pub copy_part-requires : goal.copy_part-requires
-copy_part-requires c =
-    let (pack, (places, (th, (T, (x, m))))) = c.requires.0 in
-    let made = subst (λ (t : Table). of_table (Copied c.args.work.now c.copy_reachable-nodes.new.work) t 40304 40756 c.args.row c.copy_reachable-nodes.result) c.table_in-t.ensures c.copy_reachable-nodes.ensures in
-    copy_down c.args.slot x c.requires.2 made c.copy_reachable-nodes.auto.work
-
-pub overflow_add-work : goal.overflow_add-work
-overflow_add-work c =
-    let (pack, (places, (th, (T, (x, m))))) = c.requires.0 in
-    omega (arith, c.requires.2, x.laid.room)
-
-pub overflow_add-work-2 : goal.overflow_add-work-2
-overflow_add-work-2 c =
-    let (pack, (places, (th, (T, (x, m))))) = c.requires.0 in
-    omega (arith, x.laid.room)
-
-pub bounds-work-p : goal.bounds-work-p
-bounds-work-p c =
-    let (pack, (places, (th, (T, (x, m))))) = c.requires.0 in
-    let more = c.copy_part.auto.work ∙ length-set c.copy_reachable-nodes.new.work (c.args.slot + c.args.p.stride) c.copy_reachable-nodes.result in
-    omega (arith, x.laid.room, x.room, c.copy_reachable-nodes.auto.work, more)
-
-pub shape_of-work : goal.shape_of-work
-shape_of-work c =
-    let more = c.copy_part.auto.work ∙ length-set c.copy_reachable-nodes.new.work (c.args.slot + c.args.p.stride) c.copy_reachable-nodes.result in
-    length-set c.copy_part.new.work (id_at c.args.p (c.args.slot + c.args.p.stride + 1)) 0 ∙ more ∙ c.copy_reachable-nodes.auto.work
 
 pub returns : goal.returns
 returns c =
     let made = subst (λ (t : Table). of_table (Copied c.args.work.now c.copy_reachable-nodes.new.work) t 40304 40756 c.args.row c.copy_reachable-nodes.result) c.table_in-t.ensures c.copy_reachable-nodes.ensures in
     let more = c.copy_part.auto.work ∙ length-set c.copy_reachable-nodes.new.work (c.args.slot + c.args.p.stride) c.copy_reachable-nodes.result in
     λ pack places th T x m. belief-at c.args.slot x c.requires.2 made c.copy_reachable-nodes.auto.work c.copy_part.ensures more m
+
+pub copy_reachable-nodes-requires : goal.copy_reachable-nodes-requires
+copy_reachable-nodes-requires c =
+    let (pack, (places, (th, (T, (x, m))))) = c.requires.0 in
+    let is = sym c.table_in-t.ensures in
+    (subst (λ (t : Table). of_table (Laid c.args.work.now) t 40304 40756) is (belief_laid c.args.slot x c.requires.2), subst (λ (t : Table). of_table (Sound c.args.work.now) t) is (belief_sound c.args.slot x c.requires.2), omega (arith, c.requires.1, ap (λ (t : Table). t.nodes) is))

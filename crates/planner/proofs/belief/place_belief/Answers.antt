@@ -6,54 +6,20 @@ use lib.ListN.{get_or}
 use Rattle.pack.specs.State.{State}
 use Rattle.planner.specs.Inner.Explain.{BeliefAt}
 use Rattle.planner.proofs.Beliefs.{belief_here}
-use Rattle.planner.proofs.Explanations.{stage_row, stage_believed}
+use Rattle.planner.proofs.Explanations.{stage_believed}
 use Rattle.planner.proofs.belief.place_belief.Goals as goal
 
-pub overflow_add-slot : goal.overflow_add-slot
-overflow_add-slot c =
-    let (pack, (places, (th, (T, (x, m))))) = c.requires.0 in
-    omega (arith, c.requires.2, x.laid.room)
-
-pub overflow_add-slot-2 : goal.overflow_add-slot-2
-overflow_add-slot-2 c =
-    let (pack, (places, (th, (T, (x, m))))) = c.requires.0 in
-    omega (arith, c.requires.2, x.laid.room, x.laid.narrow)
-
-pub overflow_add-slot-3 : goal.overflow_add-slot-3
-overflow_add-slot-3 c =
-    let (pack, (places, (th, (T, (x, m))))) = c.requires.0 in
-    omega (arith, c.requires.2, x.laid.room, x.laid.narrow, c.requires.1)
-
-pub bounds-work-slot : goal.bounds-work-slot
-bounds-work-slot c =
-    let (pack, (places, (th, (T, (x, m))))) = c.requires.0 in
-    let (low, there) = stage_row x 0 c.args.c x.tabled.some c.requires.1 in
-    omega (arith, low, there (omega (arith, c.requires.2)))
-
-pub has_overflowed-requires : goal.has_overflowed-requires
-has_overflowed-requires c =
-    let (pack, (places, (th, (T, (x, m))))) = c.requires.0 in
-    (omega (arith, x.laid.room), x.room)
+pub returns-then-has_overflowed : goal.returns-then-has_overflowed
+returns-then-has_overflowed c =
+    λ pack places th T x m.
+    let row = stage_believed x 0 c.args.c x.tabled.some c.requires.1 (ap (λ (q : ℕ). get_or c.args.work.now q 0) (omega arith) ∙ sym c.from-row.ensures) in
+    subst (λ (b : State). BeliefAt th c.args.p.foresight.actions c.args.p pack places b c.args.work.now c.lay_belief.new.work c.args.slot (c.args.slot + c.args.p.stride) 0) (sym row.0) (c.lay_belief.ensures pack places th T x m)
 
 pub lay_belief-requires : goal.lay_belief-requires
 lay_belief-requires c =
     let (pack, (places, (th, (T, (x, m))))) = c.requires.0 in
     let row = stage_believed x 0 c.args.c x.tabled.some c.requires.1 (ap (λ (q : ℕ). get_or c.args.work.now q 0) (omega arith) ∙ sym c.from-row.ensures) in
     (c.requires.0, row.1, c.requires.2)
-
-pub overflow_add-result : goal.overflow_add-result
-overflow_add-result c =
-    let (pack, (places, (th, (T, (x, m))))) = c.requires.0 in
-    omega (arith, c.requires.2, x.laid.room)
-
-pub shape_of-work-then-has_overflowed : goal.shape_of-work-then-has_overflowed
-shape_of-work-then-has_overflowed c = c.lay_belief.auto.work
-
-pub returns-then-has_overflowed : goal.returns-then-has_overflowed
-returns-then-has_overflowed c =
-    λ pack places th T x m.
-    let row = stage_believed x 0 c.args.c x.tabled.some c.requires.1 (ap (λ (q : ℕ). get_or c.args.work.now q 0) (omega arith) ∙ sym c.from-row.ensures) in
-    subst (λ (b : State). BeliefAt th c.args.p.foresight.0 c.args.p pack places b c.args.work.now c.lay_belief.new.work c.args.slot (c.args.slot + c.args.p.stride) 0) (sym row.0) (c.lay_belief.ensures pack places th T x m)
 
 pub returns : goal.returns
 returns c =

@@ -9,6 +9,18 @@ use Rattle.planner.proofs.Pruning.{run_start, run_stop, run_on, run_none, tiny_r
 use Rattle.planner.proofs.Bounds.{above_none, above_here, above_not}
 use Rattle.planner.proofs.bound.can_exceed.Goals as goal
 
+pub returns-then-base-value : goal.returns-then-base-value
+returns-then-base-value c =
+    rules_told (run_stop (tiny_run rule_at _) _ _ c.loop-i.invariant (omega (arith, c.loop-i-test.true)) (λ k x rest g.
+    let is = same_value (rule_number c.after_condition.ensures (c.read_number.ensures ∙ ap said c.in-Ok.is) k x g) in
+    above_here _ x rest (omega (arith, is, c.if-base-value.true))))
+
+pub loop-i-preserved : goal.loop-i-preserved
+loop-i-preserved c =
+    run_on (tiny_run rule_at _) _ _ c.loop-i.invariant (omega (arith, c.loop-i-test.true)) _ (λ k x g. sym (same_place (rule_number c.after_condition.ensures (c.read_number.ensures ∙ ap said c.in-Ok.is) k x g))) (λ k x rest g.
+    let is = same_value (rule_number c.after_condition.ensures (c.read_number.ensures ∙ ap said c.in-Ok.is) k x g) in
+    above_not _ x rest (omega (arith, is, c.if-base-value.false))) (omega (arith, c.loop-i-test.true))
+
 pub overflow_add-n : goal.overflow_add-n
 overflow_add-n c = omega (arith, run_inside rule_at (rules_parts c.requires))
 
@@ -26,18 +38,6 @@ after_condition-requires c =
 pub returns-in_default : goal.returns-in_default
 returns-in_default c =
     rules_told (run_stop (tiny_run rule_at _) _ _ c.loop-i.invariant (omega (arith, c.loop-i-test.true)) (λ k x rest g. never (rule_number c.after_condition.ensures (c.read_number.ensures ∙ ap said c.in_default.is) k x g)))
-
-pub returns-then-base-value : goal.returns-then-base-value
-returns-then-base-value c =
-    rules_told (run_stop (tiny_run rule_at _) _ _ c.loop-i.invariant (omega (arith, c.loop-i-test.true)) (λ k x rest g.
-    let is = same_value (rule_number c.after_condition.ensures (c.read_number.ensures ∙ ap said c.in-Ok.is) k x g) in
-    above_here _ x rest (omega (arith, is, c.if-base-value.true))))
-
-pub loop-i-preserved : goal.loop-i-preserved
-loop-i-preserved c =
-    run_on (tiny_run rule_at _) _ _ c.loop-i.invariant (omega (arith, c.loop-i-test.true)) _ (λ k x g. sym (same_place (rule_number c.after_condition.ensures (c.read_number.ensures ∙ ap said c.in-Ok.is) k x g))) (λ k x rest g.
-    let is = same_value (rule_number c.after_condition.ensures (c.read_number.ensures ∙ ap said c.in-Ok.is) k x g) in
-    above_not _ x rest (omega (arith, is, c.if-base-value.false))) (omega (arith, c.loop-i-test.true))
 
 pub returns : goal.returns
 returns c =

@@ -20,7 +20,6 @@ use Rattle.planner.specs.Inner.Lists.{slot_table}
 use Rattle.planner.specs.Inner.Explain.{Stage}
 use Rattle.planner.specs.Inner.Bound.{exceeds, unexplained}
 use Rattle.planner.proofs.Explanations.{stage_believed, stage_rules, stage_utility, rules_in, utility_in, explained_plays, by_belief}
-use Rattle.planner.proofs.TrueMemory.{unset}
 use Rattle.planner.proofs.Bounds.{judged_readable, stage_judged, stage_forbidden, stage_exceeds}
 use Rattle.planner.proofs.bound.pointless.Goals as goal
 use Rattle.planner.proofs.bound.pointless.Goals.{After-from-q}
@@ -32,71 +31,17 @@ believed : (c : After-from-q) {th : Theory} {T : List Node} →
 believed c y =
     stage_believed y 0 c.args.d.who y.tabled.some c.requires.1 (ap (λ (q : ℕ). get_or c.args.work.now q 0) (omega arith) ∙ sym c.from-q.ensures)
 
-pub is_large-requires : goal.is_large-requires
-is_large-requires c =
-    let (th, (T, y)) = c.requires.0 in
-    (omega (arith, y.laid.room), y.room)
-
-pub returns-then-not-is_large : goal.returns-then-not-is_large
-returns-then-not-is_large c = unset
-
-pub overflow_mul-d : goal.overflow_mul-d
-overflow_mul-d c =
-    let (th, (T, y)) = c.requires.0 in
-    omega (arith, c.requires.2, y.theorized.found.most_actions)
-
-pub offset_bounds-places-d : goal.offset_bounds-places-d
-offset_bounds-places-d c =
-    let (th, (T, y)) = c.requires.0 in
-    omega (arith, c.requires.2, y.theorized.found.most_actions)
-
-pub bounds-places-d : goal.bounds-places-d
-bounds-places-d c =
-    let (th, (T, y)) = c.requires.0 in
-    omega (arith, c.requires.2, y.theorized.found.most_actions, y.theorized.marked)
-
-pub overflow_cast-places : goal.overflow_cast-places
-overflow_cast-places c = omega (arith, c.type_inv.places (9 * c.args.d.action))
-
-pub holds-may-requires : goal.holds-may-requires
-holds-may-requires c =
-    let (th, (T, y)) = c.requires.0 in
-    subst (λ (t : Table). Judged condition_at c.args.pack.now (get_or c.args.places.now (9 * c.args.d.action) 0) t c.args.work.now c.from-q.result) (sym c.table_in-t.ensures) (stage_judged y c.args.d.action c.requires.2 c.from-q.result (believed (goal.at.holds-may-requires c).After-from-q y).1)
-
 -- the condition fails
-pub returns-then-not-may : goal.returns-then-not-may
-returns-then-not-may c =
+pub returns-then-not-holds : goal.returns-then-not-holds
+returns-then-not-holds c =
     λ e th T y K E.
-    let judged = subst (λ (t : Table). (d : Dimensions) → Over d t → (z : Condition) (n : ℕ) → condition_at d c.args.pack.now (get_or c.args.places.now (9 * c.args.d.action) 0) ≡ done z n → c.holds-may.result ≡ holds (state_of t c.args.work.now c.from-q.result) z) c.table_in-t.ensures c.holds-may.ensures in
-    λ z. explained_plays th K E c.args.d.who c.args.d.action (belief (meaning c.args.p.characters T 0) c.args.d.who) (λ s plays. stage_forbidden y c.args.d.action c.requires.2 c.from-q.result judged (c.if-not-may.true) s (subst (λ (z : State). Plays th z c.args.d.action s) (believed (goal.at.returns-then-not-may c).After-from-q y).0 plays)) (by_belief th K E c.args.d.who c.args.d.action (meaning c.args.p.characters T 0) z)
-
-pub overflow_add-rules : goal.overflow_add-rules
-overflow_add-rules c =
-    let (th, (T, y)) = c.requires.0 in
-    omega (arith, (stage_rules y _ 0 c.requires.1 y.tabled.some).1)
-
-pub offset_bounds-places-d-2 : goal.offset_bounds-places-d-2
-offset_bounds-places-d-2 c =
-    let (th, (T, y)) = c.requires.0 in
-    omega (arith, (stage_rules y _ 0 c.requires.1 y.tabled.some).1)
-
-pub bounds-places-d-2 : goal.bounds-places-d-2
-bounds-places-d-2 c =
-    let (th, (T, y)) = c.requires.0 in
-    omega (arith, (stage_rules y _ 0 c.requires.1 y.tabled.some).1)
-
-pub overflow_cast-rules : goal.overflow_cast-rules
-overflow_cast-rules c = omega (arith, c.type_inv.places (321 + c.args.d.who))
+    let judged = subst (λ (t : Table). (d : Dimensions) → Over d t → (z : Condition) (n : ℕ) → condition_at d c.args.pack.now (get_or c.args.places.now (9 * c.args.d.action) 0) ≡ done z n → c.holds.result ≡ holds (state_of t c.args.work.now c.from-q.result) z) c.table_in-t.ensures c.holds.ensures in
+    λ z. explained_plays th K E c.args.d.who c.args.d.action (belief (meaning c.args.p.characters T 0) c.args.d.who) (λ s plays. stage_forbidden y c.args.d.action c.requires.2 c.from-q.result judged (c.if-not-holds.true) s (subst (λ (z : State). Plays th z c.args.d.action s) (believed (goal.at.returns-then-not-holds c).After-from-q y).0 plays)) (by_belief th K E c.args.d.who c.args.d.action (meaning c.args.p.characters T 0) z)
 
 pub utility-base-requires : goal.utility-base-requires
 utility-base-requires c =
     let (th, (T, y)) = c.requires.0 in
     rules_in _ _ _ c.from-q.result c.table_in-t.ensures (stage_rules y _ _ c.requires.1 (believed (goal.at.utility-base-requires c).After-from-q y).1).0
-
-pub can_exceed-requires : goal.can_exceed-requires
-can_exceed-requires c =
-    let (th, (T, y)) = c.requires.0 in
-    judged_readable (stage_rules y _ _ c.requires.1 (believed (goal.at.can_exceed-requires c).After-from-q y).1).0
 
 -- no rule is above what the belief is worth
 pub returns : goal.returns
@@ -106,3 +51,13 @@ returns c =
     unexplained th K E c.args.d.who c.args.d.action (meaning c.args.p.characters T 0)
     (subst (λ (b : ℕ). exceeds b (get_or th.utilities (suc c.args.d.who) []) ≡ false) (worth ∙ ap (utility_to th c.args.d.who) (sym (believed (goal.at.returns c).After-from-q y).0))
     (sym (stage_exceeds y c.utility-base.result c.args.d.who c.requires.1 c.can_exceed.ensures) ∙ not-true c.can_exceed.result e))
+
+pub holds-requires : goal.holds-requires
+holds-requires c =
+    let (th, (T, y)) = c.requires.0 in
+    subst (λ (t : Table). Judged condition_at c.args.pack.now (get_or c.args.places.now (9 * c.args.d.action) 0) t c.args.work.now c.from-q.result) (sym c.table_in-t.ensures) (stage_judged y c.args.d.action c.requires.2 c.from-q.result (believed (goal.at.holds-requires c).After-from-q y).1)
+
+pub can_exceed-requires : goal.can_exceed-requires
+can_exceed-requires c =
+    let (th, (T, y)) = c.requires.0 in
+    judged_readable (stage_rules y _ _ c.requires.1 (believed (goal.at.can_exceed-requires c).After-from-q y).1).0

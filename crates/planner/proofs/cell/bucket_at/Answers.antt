@@ -1,26 +1,11 @@
 -- A remainder, so one of the buckets that there are. Assumes nothing.
 use Prim.Native.Nat.{ℕ, ◌+◌, ◌*◌, ◌-◌, ◌/◌, ◌%◌}
 use mathlib.Core.Path.{refl, sym, ap, ◌∙◌, subst}
-use native.Mathlib.Omega.{arith}
 use Rattle.chart.specs.Laws.Sums.{sum_of}
 use Rattle.transition.specs.Duties.Stage.{scratch_at}
 use Rattle.planner.specs.Inner.Memory.{steps_at, cell_size, Bucket}
 use Rattle.planner.proofs.CellMemory.{bucket_placed, reckoned}
 use Rattle.planner.proofs.cell.bucket_at.Goals as goal
-
-pub nonzero_rem-result : goal.nonzero_rem-result
-nonzero_rem-result c =
-    omega (arith, (reckoned c.args.p c.requires.laid 0 (ap (λ (s : ℕ). 4 * s) c.cell_size-size.ensures) refl).some)
-
-pub overflow_mul-result : goal.overflow_mul-result
-overflow_mul-result c =
-    let x = c.digest.result + c.args.k.who % 8 * 37 + c.args.k.number % 32 * 5 + c.args.k.nesting % 4 in
-    omega (arith, (reckoned c.args.p c.requires.laid x (ap (λ (s : ℕ). 4 * s) c.cell_size-size.ensures) refl).room)
-
-pub overflow_add-result : goal.overflow_add-result
-overflow_add-result c =
-    let x = c.digest.result + c.args.k.who % 8 * 37 + c.args.k.number % 32 * 5 + c.args.k.nesting % 4 in
-    omega (arith, (reckoned c.args.p c.requires.laid x (ap (λ (s : ℕ). 4 * s) c.cell_size-size.ensures) refl).room)
 
 pub returns : goal.returns
 returns c =

@@ -7,11 +7,6 @@ use Rattle.planner.specs.Inner.Memory.{cell_size, CellIn, rank_at}
 use Rattle.planner.proofs.CellMemory.{four}
 use Rattle.planner.proofs.cell.lowest.Goals as goal
 
-pub lower-requires : goal.lower-requires
-lower-requires c =
-    let (laid, bucket, room) = c.requires in
-    (⊎_elim (λ e. omega (arith, e, bucket.room, room)) (λ e. omega (arith, e, c.cell_size-size.ensures, bucket.room, room)) c.lower-one.ensures.0, ⊎_elim (λ e. omega (arith, e, c.cell_size-size.ensures, bucket.room, room)) (λ e. omega (arith, e, c.cell_size-size.ensures, bucket.room, room)) c.lower-other.ensures.0)
-
 pub returns : goal.returns
 returns c =
     let cell : (i : ℕ) → i < 4 → c.lower.result ≡ c.args.first + i * cell_size c.args.p → CellIn c.args.p c.args.first c.lower.result = λ i few is. record { number = i; few = few; is = is } in

@@ -6,34 +6,8 @@ use native.Mathlib.Decide.{ℕ_discrete}
 use native.Mathlib.Omega.{arith}
 use lib.ListN.{get_or}
 use Rattle.planner.specs.Inner.Memory.{Holds, cell_size, bucket_at}
-use Rattle.planner.proofs.CellMemory.{way_room}
 use Rattle.planner.proofs.TrueMemory.{unmarked}
 use Rattle.planner.proofs.cell.recall_cell.Goals as goal
-
-pub bucket_at-first-requires : goal.bucket_at-first-requires
-bucket_at-first-requires c = c.requires
-
-pub cell_size-size-requires : goal.cell_size-size-requires
-cell_size-size-requires c = c.requires.laid.narrow
-
-pub loop-i-init : goal.loop-i-init
-loop-i-init c = λ j l. absurd (omega (arith, l))
-
-pub overflow_mul-at : goal.overflow_mul-at
-overflow_mul-at c =
-    omega (arith, way_room c.args.p c.requires.laid c.bucket_at-first.ensures.1 c.cell_size-size.ensures c.loop-i-test.true)
-
-pub overflow_add-at : goal.overflow_add-at
-overflow_add-at c =
-    omega (arith, way_room c.args.p c.requires.laid c.bucket_at-first.ensures.1 c.cell_size-size.ensures c.loop-i-test.true)
-
-pub cell_has-requires : goal.cell_has-requires
-cell_has-requires c =
-    (c.requires, (way_room c.args.p c.requires.laid c.bucket_at-first.ensures.1 c.cell_size-size.ensures c.loop-i-test.true).1)
-
-pub bounds-work-at : goal.bounds-work-at
-bounds-work-at c =
-    omega (arith, c.requires.room, way_room c.args.p c.requires.laid c.bucket_at-first.ensures.1 c.cell_size-size.ensures c.loop-i-test.true)
 
 pub returns-then-cell_has : goal.returns-then-cell_has
 returns-then-cell_has c =

@@ -1,30 +1,11 @@
 -- The place of an entry. Assumes nothing.
-use Prim.Native.Nat.{ℕ, ◌+◌, ◌*◌, ◌%◌, ◌<◌}
+use Prim.Native.Nat.{ℕ, ◌+◌, ◌*◌, ◌<◌}
 use mathlib.Core.Path.{sym, ap, subst}
-use mathlib.Core.Logic.{inr}
-use native.Mathlib.Nat.{mod-lt}
 use native.Mathlib.Omega.{arith}
 use Rattle.planner.specs.Inner.Memory.{facts_at, Place}
 use Rattle.planner.proofs.Slots.{sized_bounds}
 use Rattle.planner.proofs.TrueMemory.{placed}
 use Rattle.planner.proofs.entry.entry_at.Goals as goal
-
-pub remainder-requires : goal.remainder-requires
-remainder-requires c = inr c.requires.0.entries
-
-pub overflow_mul-result-2 : goal.overflow_mul-result-2
-overflow_mul-result-2 c =
-    let sizes = sized_bounds c.requires.0.entries in
-    let some : 0 < c.args.p.lists = omega (arith, sizes) in
-    let few = mod-lt (c.args.id * 11 + c.args.k.who % 8 * 37 + c.args.k.number % 32 * 5 + c.args.k.nesting % 4) some in
-    omega (arith, few, sizes, c.remainder.ensures)
-
-pub overflow_add-result-3 : goal.overflow_add-result-3
-overflow_add-result-3 c =
-    let sizes = sized_bounds c.requires.0.entries in
-    let some : 0 < c.args.p.lists = omega (arith, sizes) in
-    let few = mod-lt (c.args.id * 11 + c.args.k.who % 8 * 37 + c.args.k.number % 32 * 5 + c.args.k.nesting % 4) some in
-    omega (arith, few, sizes, c.remainder.ensures, c.requires.0.room)
 
 pub returns : goal.returns
 returns c =

@@ -5,18 +5,6 @@ use Rattle.planner.proofs.TrueMemory.{fact_here, recalled_none, recalled, unmark
 use Rattle.planner.proofs.entry.recall.Goals as goal
 use Rattle.planner.proofs.entry.recall.Goals.{then-from-id-via-then-from-id, then-from-id-via-else-from-id+then-not-keyed}
 
-pub returns-then-in_cells : goal.returns-then-in_cells
-returns-then-in_cells c =
-    let sp = c.in_cells.ensures.0 c.if-in_cells.true in
-    let (mark, says, found) = c.recall_cell.ensures in
-    (mark, says, recalled_cell c.args.p c.requires.laid sp found, λ room. absurd (omega (arith, room, sp.once)), λ _. found)
-
-pub returns-in_err-id : goal.returns-in_err-id
-returns-in_err-id c =
-    let is = c.in_err-id.ensures.1 in
-    let r = recalled_none c.args.p c.requires is (λ m f. omega (arith, f.some, is.interning.stands)) in
-    (0, marks_none c.from_residual.ensures, r.0, λ _. r.1, λ sp. absurd (c.in_cells.ensures.1 c.if-in_cells.false sp))
-
 pub returns-then-from-id : goal.returns-then-from-id
 returns-then-from-id c =
     let r = recalled_none c.args.p c.requires c.in_ok-id.ensures.1 (λ m f.
@@ -31,3 +19,15 @@ pub returns : goal.returns
 returns c =
     let r = recalled c.args.p c.requires c.id_of.auto.work c.in_ok-id.ensures.1 c.in_ok-id.ensures.0 c.entry_at-at.ensures.0 c.entry_at-at.ensures.1 (omega (arith, c.from.ensures, c.if-from-id.false)) (c.keyed.ensures.0 (c.if-not-keyed.false)) in
     (_, c.known_of.ensures, r.0, λ _. r.1, λ sp. absurd (c.in_cells.ensures.1 c.if-in_cells.false sp))
+
+pub returns-then-in_cells : goal.returns-then-in_cells
+returns-then-in_cells c =
+    let sp = c.in_cells.ensures.0 c.if-in_cells.true in
+    let (mark, says, found) = c.recall_cell.ensures in
+    (mark, says, recalled_cell c.args.p c.requires.laid sp found, λ room. absurd (omega (arith, room, sp.once)), λ _. found)
+
+pub returns-in_err-id : goal.returns-in_err-id
+returns-in_err-id c =
+    let is = c.in_err-id.ensures.1 in
+    let r = recalled_none c.args.p c.requires is (λ m f. omega (arith, f.some, is.interning.stands)) in
+    (0, marks_none c.from_residual.ensures, r.0, λ _. r.1, λ sp. absurd (c.in_cells.ensures.1 c.if-in_cells.false sp))

@@ -1,36 +1,18 @@
 -- An entry put down by the table's id. Assumes nothing.
-use Prim.Native.Nat.{◌+◌}
-use mathlib.Core.Path.{◌∙◌}
 use native.Mathlib.Omega.{arith}
-use lib.ListN.{length-set}
 use Rattle.planner.proofs.TrueMemory.{remembered, notes, remembered_none}
 use Rattle.planner.proofs.entry.remember.Goals as goal
 
-pub entry_at-at-requires : goal.entry_at-at-requires
-entry_at-at-requires c = (c.requires.laid, c.in-Some.ensures.1.interning.small)
+pub returns-then-storable : goal.returns-then-storable
+returns-then-storable c =
+    let some = c.in-Some.ensures.0 in
+    let (at, place) = c.entry_at-at.ensures in
+    (remembered c.args.p c.requires c.id_of.auto.work c.put_key.auto.work c.in-Some.ensures.1 some at place c.put_key.ensures, notes c.args.p c.requires c.id_of.auto.work c.put_key.auto.work c.in-Some.ensures.1 some at place c.put_key.ensures)
 
 pub put_key-requires : goal.put_key-requires
 put_key-requires c =
-    let s = c.storable.ensures.0 c.if-storable.true in
+    let s = (c.storable.ensures c.in-Some.id c.in-Some.ensures.0).0 c.if-storable.true in
     (omega (arith, c.entry_at-at.ensures.1.is, c.entry_at-at.ensures.1.few, c.id_of.auto.work, c.requires.room, c.requires.laid.room), s.who, s.nesting, s.number, s.base)
-
-pub overflow_add-work : goal.overflow_add-work
-overflow_add-work c =
-    omega (arith, c.entry_at-at.ensures.1.is, c.entry_at-at.ensures.1.few, c.requires.laid.room)
-
-pub bounds-work-at : goal.bounds-work-at
-bounds-work-at c =
-    omega (arith, c.entry_at-at.ensures.1.is, c.entry_at-at.ensures.1.few, c.id_of.auto.work, c.put_key.auto.work, c.requires.room, c.requires.laid.room)
-
-pub shape_of-work-then-storable : goal.shape_of-work-then-storable
-shape_of-work-then-storable c =
-    length-set c.put_key.new.work (c.entry_at-at.result + 6) c.in-Some.id ∙ c.put_key.auto.work ∙ c.id_of.auto.work
-
-pub returns-then-storable : goal.returns-then-storable
-returns-then-storable c =
-    let some = (c.storable.ensures.0 c.if-storable.true).some in
-    let (at, place) = c.entry_at-at.ensures in
-    (remembered c.args.p c.requires c.id_of.auto.work c.put_key.auto.work c.in-Some.ensures.1 some at place c.put_key.ensures, notes c.args.p c.requires c.id_of.auto.work c.put_key.auto.work c.in-Some.ensures.1 some at place c.put_key.ensures)
 
 pub returns-in_default : goal.returns-in_default
 returns-in_default c =
@@ -38,4 +20,4 @@ returns-in_default c =
 
 pub returns-else-storable : goal.returns-else-storable
 returns-else-storable c =
-    remembered_none c.args.p c.requires c.in-Some.ensures.1 (c.storable.ensures.1 c.if-storable.false)
+    remembered_none c.args.p c.requires c.in-Some.ensures.1 ((c.storable.ensures c.in-Some.id c.in-Some.ensures.0).1 c.if-storable.false)

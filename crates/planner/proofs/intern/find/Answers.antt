@@ -7,33 +7,6 @@ use Rattle.planner.specs.Inner.Memory.{links_at, Behind, OnChain, Alike}
 use Rattle.planner.proofs.Chains.{behind_here, behind_on, behind_none, chain_next}
 use Rattle.planner.proofs.intern.find.Goals as goal
 
-pub bounds-work-at : goal.bounds-work-at
-bounds-work-at c = omega (arith, c.requires.1)
-
-pub loop-id-init : goal.loop-id-init
-loop-id-init c =
-    let small = c.type_inv.work c.args.at in (
-      omega (arith, c.from-id.ensures, small),
-      λ z. record { some = z; low = omega (arith, small); links = 0; behind = subst (Behind c.args.p c.args.work.now c.from-id.result 0) c.from-id.ensures (behind_here c.args.p c.args.work.now c.from-id.result) },
-      λ n x y. (x.links, subst (Behind c.args.p c.args.work.now n x.links) (sym c.from-id.ensures) x.behind),
-    )
-
-pub has_id-requires : goal.has_id-requires
-has_id-requires c = (c.requires.0, c.loop-id.invariant.0)
-
-pub returns-then-has_id : goal.returns-then-has_id
-returns-then-has_id c =
-    (c.loop-id-test.true, record { small = c.loop-id.invariant.0; alike = λ _. c.has_id.ensures.0 c.if-has_id.true; listed = c.loop-id.invariant.1; none = λ z. absurd (omega (arith, z, c.loop-id-test.true)) })
-
-pub overflow_add-p : goal.overflow_add-p
-overflow_add-p c = omega (arith, c.requires.0.laid.room)
-
-pub overflow_add-p-in-loop-id : goal.overflow_add-p-in-loop-id
-overflow_add-p-in-loop-id c = omega (arith, c.requires.0.laid.room, c.loop-id.invariant.0)
-
-pub bounds-work-p : goal.bounds-work-p
-bounds-work-p c = omega (arith, c.requires.0.laid.room, c.requires.0.room, c.loop-id.invariant.0)
-
 pub returns-then-id-next : goal.returns-then-id-next
 returns-then-id-next c = (
   tt,
@@ -46,9 +19,6 @@ returns-then-id-next c = (
         ⊎_elim (λ e. c.has_id.ensures.1 c.if-has_id.false (subst (Alike c.args.p c.args.work.now c.args.t) (sym e) y)) (λ (falls, _). omega (arith, falls, c.from-next.ensures, c.if-id-next.true)) (behind_on c.args.p c.args.work.now n k c.loop-id.id z);
   },
 )
-
-pub loop-id-smaller : goal.loop-id-smaller
-loop-id-smaller c = omega (arith, c.if-id-next.false)
 
 pub loop-id-preserved : goal.loop-id-preserved
 loop-id-preserved c = (
@@ -69,3 +39,11 @@ returns c = (
     none = λ _ n x y. let (k, z) = c.loop-id.invariant.2 n x y in behind_none c.args.p c.args.work.now n k c.loop-id.id x.some (omega (arith, c.loop-id-test.false)) z;
   },
 )
+
+pub loop-id-init : goal.loop-id-init
+loop-id-init c =
+    let small = c.type_inv.work c.args.at in (
+      omega (arith, c.from-id.ensures, small),
+      λ z. record { some = z; low = omega (arith, small); links = 0; behind = subst (Behind c.args.p c.args.work.now c.from-id.result 0) c.from-id.ensures (behind_here c.args.p c.args.work.now c.from-id.result) },
+      λ n x y. (x.links, subst (Behind c.args.p c.args.work.now n x.links) (sym c.from-id.ensures) x.behind),
+    )

@@ -5,66 +5,13 @@ use native.Mathlib.Omega.{arith}
 use lib.ListN.{get_or}
 use Rattle.planner.specs.Inner.Memory.{kept_at}
 use Rattle.planner.proofs.SameBytes.{named_bytes}
-use Rattle.planner.proofs.TrueMemory.{unset, kept_as, blocks_most}
+use Rattle.planner.proofs.TrueMemory.{unset, kept_as}
 use Rattle.planner.proofs.intern.has_id.Goals as goal
-
-pub returns-then-id-eq0 : goal.returns-then-id-eq0
-returns-then-id-eq0 c = (unset, λ e x. omega (arith, x.inside.some, c.if-id-eq0.true))
-
-pub overflow_add-p : goal.overflow_add-p
-overflow_add-p c = omega (arith, c.requires.0.laid.room, c.requires.0.laid.tabled)
-
-pub bounds-work-p : goal.bounds-work-p
-bounds-work-p c = omega (arith, c.requires.0.laid.room, c.requires.0.room)
-
-pub overflow_mul-p : goal.overflow_mul-p
-overflow_mul-p c =
-    omega (arith, c.requires.0.laid.tabled, blocks_most c.args.p c.requires.0.laid c.from.result (omega (arith, c.from.ensures, c.type_inv.work (c.args.p.memory + 48))))
-
-pub overflow_add-p-2 : goal.overflow_add-p-2
-overflow_add-p-2 c =
-    omega (arith, c.requires.0.laid.tabled, blocks_most c.args.p c.requires.0.laid c.from.result (omega (arith, c.from.ensures, c.type_inv.work (c.args.p.memory + 48))), c.requires.0.laid.room, c.requires.0.laid.tabled)
-
-pub overflow_mul-p-2 : goal.overflow_mul-p-2
-overflow_mul-p-2 c =
-    omega (arith, c.requires.0.laid.tabled, blocks_most c.args.p c.requires.0.laid c.args.id c.requires.1)
-
-pub overflow_add-p-3 : goal.overflow_add-p-3
-overflow_add-p-3 c =
-    omega (arith, c.requires.0.laid.tabled, blocks_most c.args.p c.requires.0.laid c.args.id c.requires.1, c.requires.0.before, c.requires.0.laid.room, c.requires.0.laid.tabled)
 
 pub returns-then-p-from : goal.returns-then-p-from
 returns-then-p-from c =
     let wide : c.args.p.fluents + c.args.p.characters ≡ c.args.t.width = ap (λ (f : ℕ). f + c.args.p.characters) c.requires.0.fluents ∙ ap (λ (n : ℕ). c.args.t.fluents + n) c.requires.0.characters ∙ c.requires.0.wide in
     (unset, λ e x. omega (arith, x.inside.inside, ap (λ (k : ℕ). k * (c.args.p.fluents + c.args.p.characters)) x.count, ap (λ (k : ℕ). c.args.t.nodes * k) wide, c.if-p-from.true, ap (λ (k : ℕ). c.args.p.block * k) c.from.ensures, c.requires.0.laid.room))
-
-pub overflow_sub-at : goal.overflow_sub-at
-overflow_sub-at c = omega (arith, c.requires.0.laid.room, c.requires.0.laid.tabled)
-
-pub overflow_mul-at : goal.overflow_mul-at
-overflow_mul-at c =
-    omega (arith, c.requires.0.laid.tabled, blocks_most c.args.p c.requires.0.laid c.args.id c.requires.1)
-
-pub overflow_add-at : goal.overflow_add-at
-overflow_add-at c =
-    omega (arith, c.requires.0.laid.tabled, blocks_most c.args.p c.requires.0.laid c.args.id c.requires.1, c.requires.0.laid.room, c.requires.0.laid.tabled)
-
-pub bounds-work-at : goal.bounds-work-at
-bounds-work-at c =
-    omega (arith, c.requires.0.laid.tabled, blocks_most c.args.p c.requires.0.laid c.from.result (omega (arith, c.from.ensures, c.type_inv.work (c.args.p.memory + 48))), c.requires.0.laid.room, c.requires.0.room, c.if-p-from.false)
-
-pub returns-then-from-t : goal.returns-then-from-t
-returns-then-from-t c =
-    let here = ap (λ (x : ℕ). get_or c.args.work.now (x - c.args.p.block + c.args.p.block * c.args.id) 0) c.requires.0.laid.tabled in
-    (unset, λ e x. omega (arith, here, x.count, c.from-2.ensures, c.if-from-t.true))
-
-pub overflow_add-at-2 : goal.overflow_add-at-2
-overflow_add-at-2 c =
-    omega (arith, c.requires.0.laid.tabled, blocks_most c.args.p c.requires.0.laid c.args.id c.requires.1, c.requires.0.laid.room, c.requires.0.laid.tabled)
-
-pub same_part-requires : goal.same_part-requires
-same_part-requires c =
-    (omega (arith, c.requires.0.before, c.requires.0.room, c.requires.0.laid.room, c.requires.0.laid.tabled), omega (arith, c.if-p-from.false, blocks_most c.args.p c.requires.0.laid c.from.result (omega (arith, c.from.ensures, c.type_inv.work (c.args.p.memory + 48))), c.requires.0.room, c.requires.0.laid.room, c.requires.0.laid.tabled))
 
 pub returns : goal.returns
 returns c =

@@ -6,15 +6,6 @@ use Rattle.planner.specs.Inner.Memory.{id_at}
 use Rattle.planner.proofs.TrueMemory.{naming_known}
 use Rattle.planner.proofs.intern.id_of.Goals as goal
 
-pub overflow_add-slot : goal.overflow_add-slot
-overflow_add-slot c = omega (arith, c.requires.before, c.requires.laid.room)
-
-pub overflow_add-p : goal.overflow_add-p
-overflow_add-p c = omega (arith, c.requires.laid.room)
-
-pub bounds-work-p : goal.bounds-work-p
-bounds-work-p c = omega (arith, c.requires.laid.room, c.requires.room)
-
 pub returns-in-Some : goal.returns-in-Some
 returns-in-Some c =
     let (some, is) = c.in-Some.ensures in (
@@ -24,8 +15,3 @@ returns-in-Some c =
         known = λ _. refl;
       },
     )
-
-pub returns : goal.returns
-returns c =
-    let (given, interning) = c.intern_slot.ensures in
-    (given, record { interning = interning; known = λ z. absurd (omega (arith, z, c.in_default.ensures.1)) })

@@ -1,32 +1,12 @@
 -- The id that is looked up is the slot's. Assumes nothing.
 use Prim.Native.Nat.{ℕ, ◌+◌, ◌<◌}
 use mathlib.Core.Path.{sym, subst}
-use native.Mathlib.Omega.{arith}
 use Rattle.pack.specs.declared.table.Table.{Table}
-use Rattle.planner.specs.Inner.Memory.{id_at, id_byte, Roomy, Before, Fits, Stored, Interning}
+use Rattle.planner.specs.Inner.Memory.{id_at, id_byte, Roomy, Fits, Stored, Interning}
 use Rattle.planner.specs.Inner.Lists.{slot_table}
 use lib.ListN.{set}
 use Rattle.planner.proofs.TrueMemory.{naming_new}
 use Rattle.planner.proofs.intern.intern_slot.Goals as goal
-
-pub table_in-t-requires : goal.table_in-t-requires
-table_in-t-requires c =
-    (omega (arith, c.requires.before, c.requires.room, c.requires.laid.room), c.requires.narrow)
-
-pub intern-id-requires : goal.intern-id-requires
-intern-id-requires c = subst (Before c.args.p c.args.work.now) (sym c.table_in-t.ensures) c.requires
-
-pub overflow_add-work : goal.overflow_add-work
-overflow_add-work c = omega (arith, c.requires.before, c.requires.laid.room)
-
-pub overflow_add-work-2 : goal.overflow_add-work-2
-overflow_add-work-2 c = omega (arith, c.requires.laid.room)
-
-pub bounds-work-p : goal.bounds-work-p
-bounds-work-p c = omega (arith, c.requires.laid.room, c.requires.room, c.intern-id.auto.work)
-
-pub id_byte-requires : goal.id_byte-requires
-id_byte-requires c = c.intern-id.ensures.1.0.small
 
 pub returns : goal.returns
 returns c =

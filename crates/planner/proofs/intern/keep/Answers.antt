@@ -1,25 +1,9 @@
 -- A table is kept where there is room; else all is forgotten. Assumes nothing.
 use Prim.Native.Nat.{◌+◌}
-use mathlib.Core.Path.{◌∙◌}
 use native.Mathlib.Omega.{arith}
-use lib.ListN.{length-set}
 use lib.Seq.{get_or-set_same}
-use Rattle.planner.proofs.TrueMemory.{placed_none, placed_wiped}
+use Rattle.planner.proofs.TrueMemory.{placed_wiped}
 use Rattle.planner.proofs.intern.keep.Goals as goal
-
-pub returns-then-has_overflowed : goal.returns-then-has_overflowed
-returns-then-has_overflowed c =
-    (tt, (placed_none c.args.p, λ room _. absurd (c.has_overflowed.ensures.0 c.if-has_overflowed.true room)))
-
-pub returns-in-Some : goal.returns-in-Some
-returns-in-Some c =
-    let roomy = c.has_overflowed.ensures.1 c.if-has_overflowed.false in
-    let (some, (placed, _)) = c.in-Some.ensures in
-    (some, (placed (λ sp. omega (arith, sp.once, roomy)), λ _ _. some))
-
-pub shape_of-work : goal.shape_of-work
-shape_of-work c =
-    length-set c.clear.new.work (c.args.p.memory + 49) 1 ∙ c.clear.auto.work ∙ c.store.auto.work
 
 pub returns : goal.returns
 returns c =

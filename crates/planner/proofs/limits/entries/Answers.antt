@@ -8,16 +8,7 @@ use borrow.Author.Tests.{lt-ltb, le-ltb}
 use Rattle.pack.specs.Reading.{pick}
 use Rattle.planner.proofs.limits.entries.Goals as goal
 
-pub returns-then-actions-lt-SEASON : goal.returns-then-actions-lt-SEASON
-returns-then-actions-lt-SEASON c =
-    sym (ap (λ (b : Bool). pick {A = ℕ} b 256 (pick (ltb c.args.room 24000) 512 1024)) (lt-ltb c.args.actions 12 c.if-actions-lt-SEASON.true))
-
 pub returns-then-room-lt24000 : goal.returns-then-room-lt24000
 returns-then-room-lt24000 c =
     sym (ap (λ (b : Bool). pick {A = ℕ} b 256 (pick (ltb c.args.room 24000) 512 1024)) (le-ltb c.args.actions 12 (omega (arith, c.if-actions-lt-SEASON.false)))
     ∙ ap (λ (b : Bool). pick {A = ℕ} b 512 1024) (lt-ltb c.args.room 24000 c.if-room-lt24000.true))
-
-pub returns : goal.returns
-returns c =
-    sym (ap (λ (b : Bool). pick {A = ℕ} b 256 (pick (ltb c.args.room 24000) 512 1024)) (le-ltb c.args.actions 12 (omega (arith, c.if-actions-lt-SEASON.false)))
-    ∙ ap (λ (b : Bool). pick {A = ℕ} b 512 1024) (le-ltb c.args.room 24000 (omega (arith, c.if-room-lt24000.false))))

@@ -5,6 +5,16 @@ use Rattle.pack.specs.Duties.Judge.{alternative_at}
 use Rattle.planner.proofs.Pruning.{run_start, run_stop, run_last, run_on, run_none, tiny_run, run_next, run_inside, condition_parts, condition_told, told_of, end_of, some_by, some_none}
 use Rattle.planner.proofs.range.could_hold.Goals as goal
 
+pub returns-then-i-count : goal.returns-then-i-count
+returns-then-i-count c =
+    condition_told (run_last (tiny_run alternative_at _) _ _ c.loop-i.invariant (omega (arith, c.loop-i-test.true)) (omega (arith, c.if-i-count.true))
+    (λ k x rest g. some_by _ x rest (told_of alternative_at _ c.could_all.ensures k x g) c.if-could_all.false) (λ k. some_none _))
+
+pub loop-i-preserved : goal.loop-i-preserved
+loop-i-preserved c =
+    run_on (tiny_run alternative_at _) _ _ c.loop-i.invariant (omega (arith, c.loop-i-test.true)) _ (end_of alternative_at c.after_alternative-n.ensures)
+    (λ k x rest g. some_by _ x rest (told_of alternative_at _ c.could_all.ensures k x g) c.if-could_all.false) (omega (arith, c.loop-i-test.true))
+
 pub overflow_add-n : goal.overflow_add-n
 overflow_add-n c = omega (arith, run_inside alternative_at (condition_parts c.requires.0))
 
@@ -23,19 +33,9 @@ returns-then-could_all c =
     condition_told (run_stop (tiny_run alternative_at _) _ _ c.loop-i.invariant (omega (arith, c.loop-i-test.true))
     (λ k x rest g. some_by _ x rest (told_of alternative_at _ c.could_all.ensures k x g) c.if-could_all.true))
 
-pub returns-then-i-count : goal.returns-then-i-count
-returns-then-i-count c =
-    condition_told (run_last (tiny_run alternative_at _) _ _ c.loop-i.invariant (omega (arith, c.loop-i-test.true)) (omega (arith, c.if-i-count.true))
-    (λ k x rest g. some_by _ x rest (told_of alternative_at _ c.could_all.ensures k x g) c.if-could_all.false) (λ k. some_none _))
-
 pub after_alternative-n-requires : goal.after_alternative-n-requires
 after_alternative-n-requires c =
     run_next alternative_at (condition_parts c.requires.0) c.loop-i.invariant (omega (arith, c.loop-i-test.true))
-
-pub loop-i-preserved : goal.loop-i-preserved
-loop-i-preserved c =
-    run_on (tiny_run alternative_at _) _ _ c.loop-i.invariant (omega (arith, c.loop-i-test.true)) _ (end_of alternative_at c.after_alternative-n.ensures)
-    (λ k x rest g. some_by _ x rest (told_of alternative_at _ c.could_all.ensures k x g) c.if-could_all.false) (omega (arith, c.loop-i-test.true))
 
 pub returns : goal.returns
 returns c =

@@ -3,9 +3,6 @@ use native.Mathlib.Omega.{arith}
 use Rattle.planner.proofs.Pruning.{pass_open, pass_own, fluent_few}
 use Rattle.planner.proofs.range.could_pass.Goals as goal
 
-pub returns-then-chain_of-ne0 : goal.returns-then-chain_of-ne0
-returns-then-chain_of-ne0 c = pass_open _ _ _ _ c.chain_of.ensures c.if-chain_of-ne0.true
-
 pub bounds-lows-fluent : goal.bounds-lows-fluent
 bounds-lows-fluent c =
     omega (arith, fluent_few c.requires.0 c.fluent_of-fluent.ensures, c.requires.1.lowest)
@@ -13,6 +10,9 @@ bounds-lows-fluent c =
 pub bounds-highs-fluent : goal.bounds-highs-fluent
 bounds-highs-fluent c =
     omega (arith, fluent_few c.requires.0 c.fluent_of-fluent.ensures, c.requires.1.highest)
+
+pub returns-then-chain_of-ne0 : goal.returns-then-chain_of-ne0
+returns-then-chain_of-ne0 c = pass_open _ _ _ _ c.chain_of.ensures c.if-chain_of-ne0.true
 
 pub returns : goal.returns
 returns c =

@@ -6,6 +6,15 @@ use Rattle.planner.specs.Inner.Range.{wider_same, wider_then}
 use Rattle.planner.proofs.Pruning.{widening_start, widening_one, widening_next, widening_none, effects_inside}
 use Rattle.planner.proofs.range.widen.Goals as goal
 
+pub loop-i-preserved : goal.loop-i-preserved
+loop-i-preserved c =
+    let (long, tall, wider, owed) = c.loop-i.invariant in (
+      c.widen_one.auto.lows ∙ long,
+      c.widen_one.auto.highs ∙ tall,
+      wider_then wider c.widen_one.ensures.wider,
+      λ d small xs end e. widening_next (owed d small xs end e) (omega (arith, c.loop-i-test.true)) small c.widen_one.ensures c.after_effect-n.ensures (omega (arith, c.loop-i-test.true)),
+    )
+
 pub overflow_add-n : goal.overflow_add-n
 overflow_add-n c = omega (arith, effects_inside c.requires.0)
 
@@ -25,21 +34,6 @@ pub after_effect-n-requires : goal.after_effect-n-requires
 after_effect-n-requires c =
     let x = widening_one (c.loop-i.invariant.3 c.requires.0.over c.requires.0.small c.requires.0.value c.requires.0.end c.requires.0.reads) (omega (arith, c.loop-i-test.true)) in
     record { over = c.requires.0.over; small = c.requires.0.small; value = x.item; end = x.place; reads = x.here }
-
-pub loop-i-preserved : goal.loop-i-preserved
-loop-i-preserved c =
-    let (long, tall, wider, owed) = c.loop-i.invariant in (
-      c.widen_one.auto.lows ∙ long,
-      c.widen_one.auto.highs ∙ tall,
-      wider_then wider c.widen_one.ensures.wider,
-      λ d small xs end e. widening_next (owed d small xs end e) (omega (arith, c.loop-i-test.true)) small c.widen_one.ensures c.after_effect-n.ensures (omega (arith, c.loop-i-test.true)),
-    )
-
-pub shape_of-lows : goal.shape_of-lows
-shape_of-lows c = c.loop-i.invariant.0
-
-pub shape_of-highs : goal.shape_of-highs
-shape_of-highs c = c.loop-i.invariant.1
 
 pub returns : goal.returns
 returns c =

@@ -1,25 +1,10 @@
 -- What the triggers below i write is in range. Assumes nothing.
 use Prim.Native.Nat.{◌+◌, ◌*◌}
-use mathlib.Core.Path.{refl, ◌∙◌}
+use mathlib.Core.Path.{◌∙◌}
 use native.Mathlib.Omega.{arith}
-use Rattle.planner.specs.Inner.Range.{wider_same, wider_then}
-use Rattle.planner.proofs.Pruning.{triggered_few, trigger_readable, triggers_more}
+use Rattle.planner.specs.Inner.Range.{wider_then}
+use Rattle.planner.proofs.Pruning.{trigger_readable, triggers_more}
 use Rattle.planner.proofs.range.widen_by_triggers.Goals as goal
-
-pub loop-i-init : goal.loop-i-init
-loop-i-init c = (refl, refl, wider_same, λ p n x j l. absurd (omega (arith, l)))
-
-pub overflow_mul-effects : goal.overflow_mul-effects
-overflow_mul-effects c = omega (arith, triggered_few _ _ _ c.requires.0, c.loop-i-test.true)
-
-pub overflow_add-effects : goal.overflow_add-effects
-overflow_add-effects c = omega (arith, triggered_few _ _ _ c.requires.0, c.loop-i-test.true)
-
-pub offset_bounds-places-i : goal.offset_bounds-places-i
-offset_bounds-places-i c = omega (arith, triggered_few _ _ _ c.requires.0, c.loop-i-test.true)
-
-pub bounds-places-i : goal.bounds-places-i
-bounds-places-i c = omega (arith, triggered_few _ _ _ c.requires.0, c.loop-i-test.true)
 
 pub overflow_cast-effects : goal.overflow_cast-effects
 overflow_cast-effects c = omega (arith, c.type_inv.places (289 + 2 * c.loop-i.i))
@@ -36,13 +21,3 @@ loop-i-preserved c =
       wider_then wider c.widen.ensures.wider,
       λ p n x. triggers_more _ _ _ c.loop-i.i c.loop-i-test.true c.widen.ensures p n x (old p n x),
     )
-
-pub shape_of-lows : goal.shape_of-lows
-shape_of-lows c = c.loop-i.invariant.0
-
-pub shape_of-highs : goal.shape_of-highs
-shape_of-highs c = c.loop-i.invariant.1
-
-pub returns : goal.returns
-returns c =
-    record { wider = c.loop-i.invariant.2; covers = λ p n x j l. c.loop-i.invariant.3 p n x j (omega (arith, l, c.loop-i-test.false)) }

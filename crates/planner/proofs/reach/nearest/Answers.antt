@@ -1,88 +1,44 @@
 -- Every list within reach passes a state within the ranges of the level. Assumes nothing.
 use Prim.Native.Nat.{ℕ, suc, ◌+◌}
-use mathlib.Core.Path.{◌∙◌, sym, subst}
+use mathlib.Core.Path.{◌≡◌, ◌∙◌, subst}
 use Rattle.pack.specs.Grammar.{rules_at}
-use Rattle.pack.specs.Duties.Judge.{Readable, Tells}
+use Rattle.pack.specs.Duties.Judge.{Tells}
 use Rattle.planner.specs.Inner.Who.{rules_of}
 use native.Mathlib.Omega.{arith}
 use lib.ListN.{get_or}
 use borrow.Author.Count.{below_more}
 use Rattle.planner.specs.Inner.Range.{could_exceed, could_pass, idle, all_wider}
 use Rattle.planner.specs.Inner.Levels.{OutOfReach}
-use Rattle.planner.proofs.Pruning.{row_copyable}
-use Rattle.planner.proofs.Reckoning.{reach_rules, reach_fluents, bounded_start, bounded_more, bounded_end}
+use Rattle.planner.proofs.Reckoning.{bounded_start, bounded_more, bounded_end}
 use Rattle.planner.proofs.reach.nearest.Goals as goal
 
-pub overflow_cast-rules : goal.overflow_cast-rules
-overflow_cast-rules c = omega (arith, c.type_inv.places (320 + c.rules_of.result))
+pub returns-else-could_exceed-2 : goal.returns-else-could_exceed-2
+returns-else-could_exceed-2 c =
+    let here : OutOfReach c.args.pack.now c.args.places.now c.args.p c.args.work.now c.args.slot (rules_of c.args.h.whose) c.loop-i.i c.args.h.base = λ th T x. bounded_end x (omega arith) c.requires.0.2 (λ list u short played. (c.loop-i.invariant.2 th T x).1 0 list u (omega (arith, short)) played) (subst (λ (k : ℕ). Tells rules_at (could_exceed (could_pass c.loop-i.lows c.loop-i.highs) c.args.h.base) c.args.pack.now (get_or c.args.places.now (320 + k) 0) c.could_exceed-2.result) c.rules_of.ensures c.could_exceed-2.ensures) c.if-could_exceed-2.false in
+    let last : c.loop-i.i ≡ c.args.h.left = omega (arith, c.loop-i-test.false) in
+    record { within = omega arith; beyond = λ k l. below_more (λ (k : ℕ). OutOfReach c.args.pack.now c.args.places.now c.args.p c.args.work.now c.args.slot (rules_of c.args.h.whose) k c.args.h.base) c.loop-i.i c.loop-i.invariant.3 here k (omega (arith, l, last)) }
 
-pub rules_of-requires : goal.rules_of-requires
-rules_of-requires c =
-    let (th, (T, x)) = c.requires.0.0 in
-    omega (arith, c.requires.0.2, x.laid.narrow)
-
-pub overflow_add-slot : goal.overflow_add-slot
-overflow_add-slot c =
-    let (th, (T, x)) = c.requires.0.0 in
-    omega (arith, c.requires.0.1, x.laid.room, x.laid.some, x.room)
-
-pub copy_bytes-requires : goal.copy_bytes-requires
-copy_bytes-requires c =
-    let (th, (T, x)) = c.requires.0.0 in
-    row_copyable x.tabled.fits x.tabled.some (reach_fluents x)
-
-pub widen_by_triggers-requires : goal.widen_by_triggers-requires
-widen_by_triggers-requires c =
-    let (th, (T, x)) = c.requires.0.0 in
-    ((th, (c.args.p.actions, x.theorized)), record { lowest = omega (arith, c.copy_bytes.auto.buffer); highest = omega (arith, c.copy_bytes.auto.buffer) })
-
-pub loop-p-init : goal.loop-p-init
-loop-p-init c = (
-  c.widen_by_triggers.auto.lows ∙ c.copy_bytes.auto.buffer,
-  c.widen_by_triggers.auto.highs ∙ c.copy_bytes.auto.buffer,
-  omega arith,
-  λ th T x. (c.widen_by_triggers.ensures.covers th c.args.p.actions x.theorized, λ m list u short played. bounded_start x {left = m} c.copy_bytes.ensures c.widen_by_triggers.ensures list u (omega (arith, short)) played),
-  λ k l. absurd (omega (arith, l)),
-)
-
-pub could_exceed-requires : goal.could_exceed-requires
-could_exceed-requires c =
-    let (th, (T, x)) = c.requires.0.0 in
-    (subst (λ (k : ℕ). Readable rules_at c.args.pack.now (get_or c.args.places.now (320 + k) 0)) (sym c.rules_of.ensures) (reach_rules x c.requires.0.2), record { lowest = omega (arith, c.loop-p.invariant.0); highest = omega (arith, c.loop-p.invariant.1) })
-
-pub returns-then-could_exceed : goal.returns-then-could_exceed
-returns-then-could_exceed c =
-    record { within = omega (arith, c.loop-p.invariant.2); beyond = c.loop-p.invariant.4 }
-
-pub overflow_add-result : goal.overflow_add-result
-overflow_add-result c = omega (arith, c.loop-p.invariant.2, c.requires.1)
-
-pub returns-then-i-h : goal.returns-then-i-h
-returns-then-i-h c =
-    let here : OutOfReach c.args.pack.now c.args.places.now c.args.p c.args.work.now c.args.slot (rules_of c.args.h.whose) c.loop-p.i c.args.h.base = λ th T x. bounded_end x (omega arith) c.requires.0.2 (λ list u short played. (c.loop-p.invariant.3 th T x).1 0 list u (omega (arith, short)) played) (subst (λ (k : ℕ). Tells rules_at (could_exceed (could_pass c.loop-p.lows c.loop-p.highs) c.args.h.base) c.args.pack.now (get_or c.args.places.now (320 + k) 0) c.could_exceed.result) c.rules_of.ensures c.could_exceed.ensures) c.if-could_exceed.false in
-    record { within = omega (arith, c.loop-p.invariant.2); beyond = below_more (λ (k : ℕ). OutOfReach c.args.pack.now c.args.places.now c.args.p c.args.work.now c.args.slot (rules_of c.args.h.whose) k c.args.h.base) c.loop-p.i c.loop-p.invariant.4 here }
-
-pub widen_level-requires : goal.widen_level-requires
-widen_level-requires c =
-    let (th, (T, x)) = c.requires.0.0 in
-    ((th, (c.args.p.triggers, x.theorized)), record { lowest = omega (arith, c.loop-p.invariant.0); highest = omega (arith, c.loop-p.invariant.1) }, record { lowest = omega (arith, c.loop-p.invariant.0); highest = omega (arith, c.loop-p.invariant.1) })
-
-pub overflow_add-i : goal.overflow_add-i
-overflow_add-i c = omega (arith, c.loop-p.invariant.2, c.if-i-h.false, c.requires.1)
-
-pub loop-p-smaller : goal.loop-p-smaller
-loop-p-smaller c = omega (arith, c.loop-p.invariant.2, c.if-i-h.false)
-
-pub loop-p-preserved : goal.loop-p-preserved
-loop-p-preserved c =
-    let (long, tall, few, old, beyond) = c.loop-p.invariant in
-    let here : OutOfReach c.args.pack.now c.args.places.now c.args.p c.args.work.now c.args.slot (rules_of c.args.h.whose) c.loop-p.i c.args.h.base = λ th T x. bounded_end x (omega arith) c.requires.0.2 (λ list u short played. (old th T x).1 0 list u (omega (arith, short)) played) (subst (λ (k : ℕ). Tells rules_at (could_exceed (could_pass c.loop-p.lows c.loop-p.highs) c.args.h.base) c.args.pack.now (get_or c.args.places.now (320 + k) 0) c.could_exceed.result) c.rules_of.ensures c.could_exceed.ensures) c.if-could_exceed.false in (
+pub loop-i-preserved : goal.loop-i-preserved
+loop-i-preserved c =
+    let (long, tall, old, beyond) = c.loop-i.invariant in
+    let here : OutOfReach c.args.pack.now c.args.places.now c.args.p c.args.work.now c.args.slot (rules_of c.args.h.whose) c.loop-i.i c.args.h.base = λ th T x. bounded_end x (omega arith) c.requires.0.2 (λ list u short played. (old th T x).1 0 list u (omega (arith, short)) played) (subst (λ (k : ℕ). Tells rules_at (could_exceed (could_pass c.loop-i.lows c.loop-i.highs) c.args.h.base) c.args.pack.now (get_or c.args.places.now (320 + k) 0) c.could_exceed.result) c.rules_of.ensures c.could_exceed.ensures) c.if-could_exceed.false in (
       c.widen_level.auto.lows ∙ long,
       c.widen_level.auto.highs ∙ tall,
-      omega (arith, few, c.if-i-h.false),
       λ th T x. (
         λ j h. all_wider c.widen_level.ensures.wider (get_or th.triggers j idle).effects ((old th T x).0 j h),
         λ m list u short played. bounded_more x (old th T x).0 c.widen_level.ensures ((old th T x).1 (suc m)) list u (omega (arith, short)) played,
       ),
-      below_more (λ (k : ℕ). OutOfReach c.args.pack.now c.args.places.now c.args.p c.args.work.now c.args.slot (rules_of c.args.h.whose) k c.args.h.base) c.loop-p.i beyond here,
+      below_more (λ (k : ℕ). OutOfReach c.args.pack.now c.args.places.now c.args.p c.args.work.now c.args.slot (rules_of c.args.h.whose) k c.args.h.base) c.loop-i.i beyond here,
     )
+
+pub loop-i-init : goal.loop-i-init
+loop-i-init c = (
+  c.widen_by_triggers.auto.lows ∙ c.copy_bytes.auto.buffer,
+  c.widen_by_triggers.auto.highs ∙ c.copy_bytes.auto.buffer,
+  λ th T x. (c.widen_by_triggers.ensures.covers th c.args.p.actions x.theorized, λ m list u short played. bounded_start x {left = m} c.copy_bytes.ensures c.widen_by_triggers.ensures list u (omega (arith, short)) played),
+  λ k l. absurd (omega (arith, l)),
+)
+
+pub returns-then-could_exceed-2 : goal.returns-then-could_exceed-2
+returns-then-could_exceed-2 c =
+    record { within = omega arith; beyond = λ k l. c.loop-i.invariant.3 k (omega (arith, l, c.loop-i-test.false)) }

@@ -1,17 +1,8 @@
 -- What the actions below x write that could be played is in range. Assumes nothing.
-use mathlib.Core.Path.{refl, ◌∙◌}
-use native.Mathlib.Omega.{arith}
-use Rattle.planner.specs.Inner.Range.{wider_same, wider_then}
+use mathlib.Core.Path.{◌∙◌}
+use Rattle.planner.specs.Inner.Range.{wider_then}
 use Rattle.planner.proofs.Reckoning.{actions_more}
 use Rattle.planner.proofs.reach.widen_level.Goals as goal
-
-pub loop-x-init : goal.loop-x-init
-loop-x-init c = (refl, refl, wider_same, λ p n y a l. absurd (omega (arith, l)))
-
-pub widen_action-requires : goal.widen_action-requires
-widen_action-requires c =
-    let (th, (n, y)) = c.requires.0 in
-    ((th, (c.args.actions, (n, (y, c.loop-x-test.true)))), c.requires.1, record { lowest = omega (arith, c.loop-x.invariant.0, c.requires.2.lowest); highest = omega (arith, c.loop-x.invariant.1, c.requires.2.highest) })
 
 pub loop-x-preserved : goal.loop-x-preserved
 loop-x-preserved c =
@@ -21,13 +12,3 @@ loop-x-preserved c =
       wider_then wider c.widen_action.ensures.wider,
       λ p n x. actions_more _ _ c.loop-x-test.true c.widen_action.ensures p n x (old p n x),
     )
-
-pub shape_of-lows : goal.shape_of-lows
-shape_of-lows c = c.loop-x.invariant.0
-
-pub shape_of-highs : goal.shape_of-highs
-shape_of-highs c = c.loop-x.invariant.1
-
-pub returns : goal.returns
-returns c =
-    record { wider = c.loop-x.invariant.2; covers = λ p n x a l. c.loop-x.invariant.3 p n x a (omega (arith, l, c.loop-x-test.false)) }

@@ -3,28 +3,9 @@ use mathlib.Core.Path.{refl, ap}
 use Rattle.std.specs.Prelude.{Some}
 use native.Mathlib.Omega.{arith}
 use lib.ListN.{get_or}
-use Rattle.transition.specs.Laws.ChangedRows.{small}
 use Rattle.planner.proofs.Explanations.{rules_in, utility_in}
 use Rattle.planner.proofs.EarliestList.{author_rules, author-utility}
 use Rattle.planner.proofs.search.ends.Goals as goal
-
-pub table_in-t-requires : goal.table_in-t-requires
-table_in-t-requires c =
-    let (th, (T, y)) = c.requires.0 in
-    (omega (arith, c.requires.1, y.room, y.laid.some, y.laid.room), omega (arith, small y.tabled))
-
-pub bounds-places-320 : goal.bounds-places-320
-bounds-places-320 c =
-    let (th, (T, y)) = c.requires.0 in
-    omega (arith, y.theorized.marked)
-
-pub overflow_cast-places : goal.overflow_cast-places
-overflow_cast-places c = omega (arith, c.type_inv.places 320)
-
-pub utility-worth-requires : goal.utility-worth-requires
-utility-worth-requires c =
-    let (th, (T, y)) = c.requires.0 in
-    rules_in _ _ _ 0 c.table_in-t.ensures (author_rules y 0 y.tabled.some).0
 
 pub returns-then-base-worth : goal.returns-then-base-worth
 returns-then-base-worth c =
@@ -37,3 +18,8 @@ returns-else-base-worth c =
     λ th T y.
     let is = author-utility y 0 (utility_in c.args.pack.now (get_or c.args.places.now 320 0) c.args.work.now 0 c.utility-worth.result c.table_in-t.ensures c.utility-worth.ensures) in
     (λ l. absurd (omega (arith, is, l, c.if-base-worth.false)), λ l. refl)
+
+pub utility-worth-requires : goal.utility-worth-requires
+utility-worth-requires c =
+    let (th, (T, y)) = c.requires.0 in
+    rules_in _ _ _ 0 c.table_in-t.ensures (author_rules y 0 y.tabled.some).0

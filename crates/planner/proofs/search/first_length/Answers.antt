@@ -2,9 +2,6 @@
 use native.Mathlib.Omega.{arith}
 use Rattle.planner.proofs.search.first_length.Goals as goal
 
-pub returns-then-p-lt-SEASON : goal.returns-then-p-lt-SEASON
-returns-then-p-lt-SEASON c = (omega arith, λ k some l. absurd (omega (arith, some, l)))
-
 pub returns : goal.returns
 returns c = (
   omega (arith, c.max.ensures),

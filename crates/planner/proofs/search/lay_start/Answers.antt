@@ -1,61 +1,15 @@
 -- The nodes laid out as a table, merged, and put into the first slot; then the memory emptied. Assumes nothing.
-use mathlib.Core.Path.{◌∙◌, subst}
-use native.Mathlib.Omega.{arith}
-use lib.ListN.{length-set}
-use Rattle.chart.specs.Laws.LoadedNodes.{read_copies, read_merges, read_slim}
+use mathlib.Core.Path.{subst}
+use Rattle.chart.specs.Laws.LoadedNodes.{read_merges}
 use Rattle.chart.specs.Duties.Put.{Cleared}
 use Rattle.planner.proofs.TrueMemory.{fixed}
-use Rattle.planner.proofs.StartSlot.{merged_size, lay_down, lay_done}
+use Rattle.planner.proofs.StartSlot.{lay_done}
 use Rattle.planner.proofs.search.lay_start.Goals as goal
-
-pub copy_table-requires : goal.copy_table-requires
-copy_table-requires c =
-    let (T, x) = c.requires in
-    read_copies x.read x.room
-
-pub overflow_add-width : goal.overflow_add-width
-overflow_add-width c =
-    let (T, x) = c.requires in
-    omega (arith, (read_slim x.read).0)
 
 pub merge_table-rows-requires : goal.merge_table-rows-requires
 merge_table-rows-requires c =
     let (T, x) = c.requires in
     read_merges x.read x.room c.copy_table.ensures
-
-pub overflow_cast-work : goal.overflow_cast-work
-overflow_cast-work c =
-    let (T, x) = c.requires in
-    omega (arith, merged_size x c.copy_table.ensures c.merge_table-rows.ensures c.merge_table-rows.auto.work)
-
-pub bounds-work-0 : goal.bounds-work-0
-bounds-work-0 c =
-    let (T, x) = c.requires in
-    omega (arith, x.room, c.copy_table.ensures.long, c.merge_table-rows.auto.work)
-
-pub overflow_mul-rows : goal.overflow_mul-rows
-overflow_mul-rows c =
-    let (T, x) = c.requires in
-    omega (arith, merged_size x c.copy_table.ensures c.merge_table-rows.ensures c.merge_table-rows.auto.work)
-
-pub copy_part-requires : goal.copy_part-requires
-copy_part-requires c =
-    let (T, x) = c.requires in
-    lay_down x c.copy_table.ensures c.merge_table-rows.ensures c.merge_table-rows.auto.work
-
-pub overflow_sub-p : goal.overflow_sub-p
-overflow_sub-p c =
-    let (T, x) = c.requires in
-    omega (arith, x.laid.tabled)
-
-pub clear-requires : goal.clear-requires
-clear-requires c =
-    let (T, x) = c.requires in
-    omega (arith, x.laid.room, x.laid.tabled, x.room, c.copy_table.ensures.long, c.merge_table-rows.auto.work, length-set c.merge_table-rows.new.work 0 c.merge_table-rows.result, c.copy_part.auto.work)
-
-pub shape_of-work : goal.shape_of-work
-shape_of-work c =
-    c.clear.auto.work ∙ c.copy_part.auto.work ∙ length-set c.merge_table-rows.new.work 0 c.merge_table-rows.result ∙ c.merge_table-rows.auto.work ∙ c.copy_table.ensures.long
 
 pub returns : goal.returns
 returns c =

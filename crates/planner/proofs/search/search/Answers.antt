@@ -1,5 +1,5 @@
 -- The checks, and then the search. Assumes nothing.
-use Rattle.std.proofs.Common.{rules, arith, sym, subst, ◌≡◌, Err}
+use Rattle.std.proofs.Common.{rules, arith, sym, refl, subst, ◌≡◌, Err}
 use Rattle.planner.specs.Promises.{Searching}
 use Rattle.planner.proofs.SearchCall.{search_unread, search_refused, search_able, search_done, search_sizes, search_ranges}
 use Rattle.planner.proofs.search.search.Goals as goal
@@ -48,9 +48,9 @@ laid_out-context-requires c =
 pub search_nodes-requires : goal.search_nodes-requires
 search_nodes-requires c =
     search_able c.args.pack.now c.args.t.0 c.args.k.0 c.args.e.0 c.args.list.now c.args.work.now c.in_ok-p.ensures c.both_at_most-enough.result c.both_at_most-enough.ensures c.searchable.result c.searchable.ensures c.check_lent.result c.check_lent.ensures
-    (λ i. omega (arith, c.type_inv.pack i)) (omega (arith, c.read_pack.auto)) c.in_ok-check_lent.was c.laid_out-context.result c.laid_out-context.ensures
+    (λ i. omega (arith, c.type_inv.pack i)) (omega (arith, c.read_pack.auto)) c.in_ok-check_lent.was _ refl c.laid_out-context.result c.laid_out-context.ensures
 
 pub returns : goal.returns
 returns c =
     search_done c.args.pack.now c.args.t.0 c.args.k.0 c.args.e.0 c.args.list.now c.args.work.now c.in_ok-p.ensures c.both_at_most-enough.result c.both_at_most-enough.ensures c.searchable.result c.searchable.ensures c.check_lent.result c.check_lent.ensures
-    (λ i. omega (arith, c.type_inv.pack i)) (omega (arith, c.read_pack.auto)) c.in_ok-check_lent.was c.laid_out-context.result c.laid_out-context.ensures _ _ _ c.search_nodes.ensures
+    (λ i. omega (arith, c.type_inv.pack i)) (omega (arith, c.read_pack.auto)) c.in_ok-check_lent.was _ refl c.laid_out-context.result c.laid_out-context.ensures _ _ _ c.search_nodes.ensures

@@ -1,61 +1,14 @@
 -- The table of an id is copied into a slot, which has that id from then on. Assumes nothing.
-use Prim.Native.Nat.{ℕ, ◌+◌, ◌*◌, ◌-◌, ◌≤◌}
+use Prim.Native.Nat.{ℕ, ◌+◌, ◌*◌, ◌-◌}
 use mathlib.Core.Path.{◌≡◌, sym, ap, subst}
-use native.Mathlib.Nat.{mul-le-mul_right}
 use native.Mathlib.Omega.{arith}
 use lib.ListN.{get_or}
 use Rattle.chart.specs.Duties.Put.{PartCopied}
-use Rattle.chart.specs.Laws.Cells.{rows_most}
 use Rattle.planner.specs.Inner.Memory.{id_byte, id_at, kept_at, Again}
 use lib.ListN.{set}
 use mathlib.Core.Bool.{true}
-use Rattle.planner.proofs.Chains.{kept_from}
-use Rattle.planner.proofs.TrueMemory.{again_kept, copied_again, refused_again, blocks_most}
+use Rattle.planner.proofs.TrueMemory.{again_kept, copied_again}
 use Rattle.planner.proofs.steps.again.Goals as goal
-
-pub returns-in_default : goal.returns-in_default
-returns-in_default c = refused_again c.args.p (ap id_byte c.in_default.is)
-
-pub overflow_sub-from : goal.overflow_sub-from
-overflow_sub-from c = omega (arith, c.requires.0.laid.room, c.requires.0.laid.tabled)
-
-pub overflow_mul-from : goal.overflow_mul-from
-overflow_mul-from c =
-    omega (arith, c.requires.0.laid.tabled, blocks_most c.args.p c.requires.0.laid c.in-Some.next (again_kept c.in-Some.is c.requires.1).0)
-
-pub overflow_add-from : goal.overflow_add-from
-overflow_add-from c =
-    omega (arith, c.requires.0.laid.tabled, blocks_most c.args.p c.requires.0.laid c.in-Some.next (again_kept c.in-Some.is c.requires.1).0, c.requires.0.laid.room, c.requires.0.laid.tabled)
-
-pub bounds-work-from : goal.bounds-work-from
-bounds-work-from c =
-    let k = (again_kept c.in-Some.is c.requires.1).1 in omega (arith, c.requires.0.laid.tabled, k.inside.inside, blocks_most c.args.p c.requires.0.laid (get_or c.args.work.now (c.args.p.memory + 48) 0) (omega (arith, c.slice_known-1.given (c.args.p.memory + 48))), c.requires.0.room)
-
-pub overflow_mul-nodes : goal.overflow_mul-nodes
-overflow_mul-nodes c =
-    let k = (again_kept c.in-Some.is c.requires.1).1 in omega (arith, rows_most {n = c.from-nodes.result} {k = 32} (omega (arith, k.inside.few, c.from-nodes.ensures, ap (λ (x : ℕ). get_or c.args.work.now (x - c.args.p.block + c.args.p.block * c.in-Some.next) 0) c.requires.0.laid.tabled)) c.requires.0.laid.narrow)
-
-pub overflow_add-nodes : goal.overflow_add-nodes
-overflow_add-nodes c =
-    let k = (again_kept c.in-Some.is c.requires.1).1 in omega (arith, rows_most {n = c.from-nodes.result} {k = 32} (omega (arith, k.inside.few, c.from-nodes.ensures, ap (λ (x : ℕ). get_or c.args.work.now (x - c.args.p.block + c.args.p.block * c.in-Some.next) 0) c.requires.0.laid.tabled)) c.requires.0.laid.narrow)
-
-pub copy_part-requires : goal.copy_part-requires
-copy_part-requires c =
-    let k = (again_kept c.in-Some.is c.requires.1).1 in
-    let most : c.from-nodes.result * (c.args.p.fluents + c.args.p.characters) ≤ 32 * (c.args.p.fluents + c.args.p.characters) = mul-le-mul_right (c.args.p.fluents + c.args.p.characters) (omega (arith, k.inside.few, c.from-nodes.ensures, ap (λ (x : ℕ). get_or c.args.work.now (x - c.args.p.block + c.args.p.block * c.in-Some.next) 0) c.requires.0.laid.tabled)) in
-    let size = ap (λ (n : ℕ). n * (c.args.p.fluents + c.args.p.characters)) c.from-nodes.ensures in
-    let taken = blocks_most c.args.p c.requires.0.laid (get_or c.args.work.now (c.args.p.memory + 48) 0) (omega (arith, c.slice_known-1.given (c.args.p.memory + 48))) in
-    (omega (arith, kept_from c.args.p c.in-Some.next k.inside.some, c.requires.0.before, most, c.requires.0.laid.wide, c.requires.0.laid.tabled), omega (arith, k.inside.inside, ap (λ (x : ℕ). get_or c.args.work.now (x - c.args.p.block + c.args.p.block * c.in-Some.next) 0 * (c.args.p.fluents + c.args.p.characters)) c.requires.0.laid.tabled, size, taken, c.requires.0.room, c.requires.0.laid.tabled), omega (arith, c.requires.0.before, c.requires.0.room, most, c.requires.0.laid.wide, c.requires.0.laid.room))
-
-pub overflow_add-work : goal.overflow_add-work
-overflow_add-work c =
-    omega (arith, c.requires.0.before, c.requires.0.laid.room, c.requires.0.laid.tabled)
-
-pub overflow_add-work-2 : goal.overflow_add-work-2
-overflow_add-work-2 c = omega (arith, c.requires.0.laid.room, c.requires.0.laid.tabled)
-
-pub bounds-work-p : goal.bounds-work-p
-bounds-work-p c = omega (arith, c.requires.0.laid.room, c.requires.0.room, c.copy_part.auto.work)
 
 pub returns : goal.returns
 returns c =

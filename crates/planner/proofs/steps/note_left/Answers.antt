@@ -1,39 +1,14 @@
 -- The slot's old id is forgotten, its table named, and the step put down. Assumes nothing.
 use Prim.Native.Nat.{◌+◌}
 use mathlib.Core.Path.{refl, ◌∙◌}
-use native.Mathlib.Omega.{arith}
 use lib.ListN.{length-set}
 use Rattle.planner.specs.Inner.Memory.{id_at}
-use Rattle.planner.proofs.TrueMemory.{before_now, left_before, left_noted, left_unnoted}
+use Rattle.planner.proofs.TrueMemory.{left_noted, left_unnoted}
 use Rattle.planner.proofs.steps.note_left.Goals as goal
-
-pub overflow_add-work : goal.overflow_add-work
-overflow_add-work c = omega (arith, c.requires.3.before, c.requires.3.laid.room)
-
-pub overflow_add-work-2 : goal.overflow_add-work-2
-overflow_add-work-2 c = omega (arith, c.requires.3.laid.room)
-
-pub bounds-work-p : goal.bounds-work-p
-bounds-work-p c = omega (arith, c.requires.3.laid.room, c.requires.3.room)
-
-pub intern_slot-requires : goal.intern_slot-requires
-intern_slot-requires c = left_before c.args.p c.requires.3 c.requires.4
-
-pub note-requires : goal.note-requires
-note-requires c =
-    (before_now c.args.p (c.intern_slot.auto.work ∙ length-set c.args.work.now (id_at c.args.p (c.args.slot + 1)) 0) c.requires.0, c.requires.1, c.requires.2, c.in-Some.ensures.1.small)
-
-pub shape_of-work-in-Some : goal.shape_of-work-in-Some
-shape_of-work-in-Some c =
-    c.note.auto.work ∙ c.intern_slot.auto.work ∙ length-set c.args.work.now (id_at c.args.p (c.args.slot + 1)) 0
 
 pub returns-in-Some : goal.returns-in-Some
 returns-in-Some c =
     left_noted c.args.p c.requires.3 c.requires.4 c.requires.0 (c.intern_slot.auto.work ∙ length-set c.args.work.now (id_at c.args.p (c.args.slot + 1)) 0) c.in-Some.ensures.1 c.in-Some.ensures.0 c.note.ensures
-
-pub shape_of-work-in_default : goal.shape_of-work-in_default
-shape_of-work-in_default c =
-    c.intern_slot.auto.work ∙ length-set c.args.work.now (id_at c.args.p (c.args.slot + 1)) 0
 
 pub returns-in_default : goal.returns-in_default
 returns-in_default c =

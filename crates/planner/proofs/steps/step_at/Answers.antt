@@ -1,29 +1,11 @@
 -- The place of an entry. Assumes nothing.
 use Prim.Native.Nat.{ℕ, ◌+◌, ◌*◌, ◌/◌, ◌<◌}
 use mathlib.Core.Path.{sym, ap, subst}
-use native.Mathlib.Nat.{mod-lt}
 use native.Mathlib.Omega.{arith}
 use Rattle.planner.specs.Inner.Memory.{steps_at, Place}
-use Rattle.planner.proofs.Slots.{sized_bounds, sized_half}
+use Rattle.planner.proofs.Slots.{sized_bounds}
 use Rattle.planner.proofs.TrueMemory.{placed}
 use Rattle.planner.proofs.steps.step_at.Goals as goal
-
-pub remainder-requires : goal.remainder-requires
-remainder-requires c = sized_half c.requires.0.entries
-
-pub overflow_mul-result : goal.overflow_mul-result
-overflow_mul-result c =
-    let sizes = sized_bounds c.requires.0.entries in
-    let some : 0 < c.args.p.lists / 2 = omega (arith, sizes) in
-    let few = mod-lt (c.args.id * 11 + c.args.root * 5 + c.args.action) some in
-    omega (arith, few, sizes, c.remainder.ensures)
-
-pub overflow_add-result-2 : goal.overflow_add-result-2
-overflow_add-result-2 c =
-    let sizes = sized_bounds c.requires.0.entries in
-    let some : 0 < c.args.p.lists / 2 = omega (arith, sizes) in
-    let few = mod-lt (c.args.id * 11 + c.args.root * 5 + c.args.action) some in
-    omega (arith, few, sizes, c.remainder.ensures, c.requires.0.room)
 
 pub returns : goal.returns
 returns c =

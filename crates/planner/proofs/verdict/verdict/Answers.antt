@@ -57,10 +57,10 @@ pub verdict_in-verdict-requires : goal.verdict_in-verdict-requires
 verdict_in-verdict-requires c =
     let nodes : counted c.in_ok-p.p c.args.chart.now ≡ replied c.check_chart.result = rw (c.dimensions.ensures.0, c.dimensions.ensures.1) at c.check_chart.ensures in
     judge_able c.args.pack.now c.args.chart.now c.args.character c.args.action c.args.k.0 c.args.e.0 c.args.work.now c.in_ok-p.ensures c.in_range-there.result c.in_range-there.ensures c.in_ok-nodes.nodes (nodes ∙ ap replied c.in_ok-nodes.was) c.check_lent.result c.check_lent.ensures
-    (λ i. omega (arith, c.type_inv.pack i)) (λ i. omega (arith, c.type_inv.chart i)) (omega (arith, c.read_pack.auto)) c.in_ok-check_lent.was c.laid_out-context.result c.laid_out-context.ensures
+    (λ i. omega (arith, c.type_inv.pack i)) (λ i. omega (arith, c.type_inv.chart i)) (omega (arith, c.read_pack.auto)) c.in_ok-check_lent.was _ refl c.laid_out-context.result c.laid_out-context.ensures
 
 pub returns : goal.returns
 returns c =
     let nodes : counted c.in_ok-p.p c.args.chart.now ≡ replied c.check_chart.result = rw (c.dimensions.ensures.0, c.dimensions.ensures.1) at c.check_chart.ensures in
     judge_done c.args.pack.now c.args.chart.now c.args.character c.args.action c.args.k.0 c.args.e.0 c.args.work.now c.in_ok-p.ensures c.in_range-there.result c.in_range-there.ensures c.in_ok-nodes.nodes (nodes ∙ ap replied c.in_ok-nodes.was) c.check_lent.result c.check_lent.ensures
-    (λ i. omega (arith, c.type_inv.pack i)) (λ i. omega (arith, c.type_inv.chart i)) (omega (arith, c.read_pack.auto)) c.in_ok-check_lent.was c.laid_out-context.result c.laid_out-context.ensures _ _ c.verdict_in-verdict.ensures
+    (λ i. omega (arith, c.type_inv.pack i)) (λ i. omega (arith, c.type_inv.chart i)) (omega (arith, c.read_pack.auto)) c.in_ok-check_lent.was _ refl c.laid_out-context.result c.laid_out-context.ensures _ _ c.verdict_in-verdict.ensures

@@ -7,34 +7,19 @@ use Rattle.planner.proofs.TrueMemory.{fixed}
 use Rattle.planner.proofs.ExplainedCall.{judge_ready, judge_memory, judge_high, judge_verdict}
 use Rattle.planner.proofs.verdict.verdict_in.Goals as goal
 
-pub copy_table-requires : goal.copy_table-requires
-copy_table-requires c =
-    let (th, (T, x)) = c.requires in
-    read_copies x.read x.room
-
-pub overflow_sub-p : goal.overflow_sub-p
-overflow_sub-p c =
-    let (th, (T, x)) = c.requires in
-    omega (arith, x.laid.tabled)
-
-pub clear-requires : goal.clear-requires
-clear-requires c =
-    let (th, (T, x)) = c.requires in
-    omega (arith, x.laid.room, x.laid.tabled, x.room, c.copy_table.ensures.long)
-
-pub explained-verdict-requires : goal.explained-verdict-requires
-explained-verdict-requires c =
-    let (th, (T, x)) = c.requires in
-    let z = subst (Cleared c.copy_table.new.buffer c.clear.new.work c.args.p.memory) (fixed x.laid) c.clear.ensures in
-    ((th, (T, (judge_ready x c.copy_table.ensures z c.clear.auto.work, judge_memory x c.copy_table.ensures z c.clear.auto.work))), x.who, x.what, x.foreseen.0, x.foreseen.1, x.slots)
-
-pub clear-requires-2 : goal.clear-requires-2
-clear-requires-2 c =
-    let (th, (T, x)) = c.requires in
-    omega (arith, x.room, c.explained-verdict.auto, c.clear.auto, c.copy_table.ensures.long)
-
 pub returns : goal.returns
 returns c =
     λ th T x.
     let f = subst (Cleared c.copy_table.new.buffer c.clear.new.work c.args.p.memory) (fixed x.laid) c.clear.ensures in
     judge_verdict x c.copy_table.ensures (judge_high x c.copy_table.ensures f c.clear.auto.work) (c.explained-verdict.ensures th T (judge_ready x c.copy_table.ensures f c.clear.auto.work) (judge_memory x c.copy_table.ensures f c.clear.auto.work)) c.clear-2.ensures (omega (arith, c.clear-2.auto, c.explained-verdict.auto, c.clear.auto, c.copy_table.ensures.long))
+
+pub copy_table-requires : goal.copy_table-requires
+copy_table-requires c =
+    let (th, (T, x)) = c.requires in
+    read_copies x.read x.room
+
+pub explained-verdict-requires : goal.explained-verdict-requires
+explained-verdict-requires c =
+    let (th, (T, x)) = c.requires in
+    let z = subst (Cleared c.copy_table.new.buffer c.clear.new.work c.args.p.memory) (fixed x.laid) c.clear.ensures in
+    ((th, (T, (judge_ready x c.copy_table.ensures z c.clear.auto.work, judge_memory x c.copy_table.ensures z c.clear.auto.work))), x.who, x.what, x.slots)
