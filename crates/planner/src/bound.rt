@@ -24,7 +24,7 @@ pub fn can_exceed(pack: &[u8], at: usize, base: usize) -> bool
 {
     let mut n = at + 1;
     let count = usize::from(pack[at]);
-    for i in 0..count {
+    for left in (0..count).rev() {
         let Ok((value, next)) = read_number(pack, after_condition(pack, n)) else {
             return false;
         };

@@ -50,6 +50,7 @@ pub fn could_leave(
 
 // Whether action x is worth a try in row 0: its condition holds, and where it is the last one it could leave a utility
 // above base.
+#[inline(always)]
 pub fn promising(
     pack: &[u8],
     places: &[u16],

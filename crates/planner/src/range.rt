@@ -57,7 +57,7 @@ pub fn could_all(pack: &[u8], at: usize, lows: &[u8], highs: &[u8]) -> bool
 {
     let mut n = at + 1;
     let count = usize::from(pack[at]);
-    for i in 0..count {
+    for left in (0..count).rev() {
         if !could_pass(pack, n, lows, highs) {
             return false;
         }
@@ -74,11 +74,11 @@ pub fn could_hold(pack: &[u8], at: usize, lows: &[u8], highs: &[u8]) -> bool
 {
     let mut n = at + 1;
     let count = usize::from(pack[at]);
-    for i in 0..count {
+    for left in (0..count).rev() {
         if could_all(pack, n, lows, highs) {
             return true;
         }
-        if i + 1 == count {
+        if left == 0 {
             return false;
         }
         n = after_alternative(pack, n);
@@ -94,9 +94,9 @@ pub fn could_exceed(pack: &[u8], at: usize, lows: &[u8], highs: &[u8], base: usi
 {
     let mut n = at + 1;
     let count = usize::from(pack[at]);
-    for i in 0..count {
+    for left in (0..count).rev() {
         let could = could_hold(pack, n, lows, highs);
-        if !could && i + 1 == count {
+        if !could && left == 0 {
             return false;
         }
         let Ok((value, next)) = read_number(pack, after_condition(pack, n)) else {
@@ -132,7 +132,7 @@ pub fn widen(pack: &[u8], at: usize, lows: &mut [u8], highs: &mut [u8])
 {
     let mut n = at + 1;
     let count = usize::from(pack[at]);
-    for i in 0..count {
+    for left in (0..count).rev() {
         widen_one(pack, n, lows, highs);
         n = after_effect(pack, n);
     }
