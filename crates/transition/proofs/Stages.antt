@@ -25,7 +25,6 @@ use Rattle.chart.specs.Laws.Unique.{ordered_reached, some}
 use Rattle.chart.specs.Laws.Cells.{rows_same, rows_most}
 use Rattle.chart.specs.Laws.MergedRows.{classed_apart}
 use Rattle.chart.specs.Laws.Numbering.{pigeons}
-use Rattle.transition.specs.declared.stop.Stop.{Stop}
 use Rattle.transition.specs.declared.stop.Stop.TheVariants.{States}
 use Rattle.std.specs.Prelude.{Ok, Err}
 use Rattle.transition.specs.declared.change.Change.{Change}

@@ -1,5 +1,4 @@
 -- The first i bytes are copied, and nothing else is changed. Assumes nothing.
-use Prim.Native.Nat.{◌-◌, ◌≤◌}
 use Rattle.pack.specs.Laws.CopiedRows.{Copying}
 use Rattle.pack.proofs.copy.copy_bytes.Given as goal
 

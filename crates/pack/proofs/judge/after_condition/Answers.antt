@@ -1,8 +1,5 @@
 -- What is left ends where the whole ends. Assumes nothing.
-use borrow.Author.Rules.{rules}
-use Prim.Native.Nat.{◌-◌}
 use native.Mathlib.Omega.{arith}
-use lib.ListN.{get_or}
 use mathlib.Core.Path.{refl, sym}
 use Rattle.pack.specs.Duties.Judge.{alternative_at}
 use Rattle.pack.specs.Grammar.{condition_at}

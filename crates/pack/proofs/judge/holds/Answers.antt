@@ -1,9 +1,6 @@
 -- What is left says of the state what the whole says. Assumes nothing.
-use borrow.Author.Rules.{rules}
-use Prim.Native.Nat.{◌-◌}
 use native.Mathlib.Omega.{arith}
 use mathlib.Core.Bool.{true}
-use lib.ListN.{get_or}
 use mathlib.Core.Path.{◌≡◌, refl, sym, ◌∙◌}
 use Rattle.pack.specs.Duties.Table.{state_of}
 use Rattle.pack.specs.Duties.Judge.{alternative_at}

@@ -1,8 +1,6 @@
 -- What is left gives the state the number that the whole gives it. Assumes nothing.
 use borrow.Author.Rules.{rules}
-use Prim.Native.Nat.{◌-◌}
 use native.Mathlib.Omega.{arith}
-use lib.ListN.{get_or}
 use mathlib.Core.Path.{refl, sym, ap, ◌∙◌}
 use Rattle.pack.specs.Duties.Table.{state_of}
 use Rattle.pack.specs.Grammar.{rule_at, rules_at}

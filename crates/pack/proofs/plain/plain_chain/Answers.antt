@@ -1,5 +1,5 @@
 -- Each byte of the chain is below the limit. Assumes nothing.
-use Rattle.std.proofs.Common.{rules, ◌<◌, ◌≤◌, ◌+◌, ◌-◌, take, drop}
+use Rattle.std.proofs.Common.{rules, ◌<◌, ◌≤◌}
 use native.Mathlib.Omega.{arith}
 use borrow.Author.Tests.{tests}
 use Rattle.std.proofs.lemmas.Iterator.{cases_from_all, YieldsList-from_slice}

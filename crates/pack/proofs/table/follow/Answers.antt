@@ -1,9 +1,9 @@
 -- Where what is left leads from `there` is where the whole leads. Assumes nothing.
 use native.Mathlib.Omega.{arith}
 use Prim.Native.Nat.{ℕ, ◌+◌, ◌-◌, ◌<◌, ◌≤◌}
-use mathlib.Core.Path.{◌≡◌, refl, sym, ap, ◌∙◌}
+use mathlib.Core.Path.{◌≡◌, sym, ap, ◌∙◌}
 use mathlib.Core.List.{List}
-use lib.ListN.{length, get_or}
+use lib.ListN.{get_or}
 use Rattle.std.proofs.Common.{subst}
 use Rattle.pack.specs.State.{walk, target, Valid}
 use Rattle.pack.specs.Syntax.{Node}

@@ -1,5 +1,5 @@
 -- The first byte of a test. Assumes nothing.
-use mathlib.Core.Path.{sym, ◌∙◌}
+use mathlib.Core.Path.{◌∙◌}
 use native.Mathlib.Omega.{arith}
 use Rattle.pack.specs.Laws.OneByte.{test_read, chain_length}
 use Rattle.pack.proofs.test.chain_of.Goals as goal

@@ -1,5 +1,4 @@
 -- What is left of the effects still has to be written to make what the whole writes. Assumes nothing.
-use borrow.Author.Rules.{rules}
 use native.Mathlib.Omega.{arith}
 use mathlib.Core.Path.{refl, sym}
 use Rattle.pack.specs.Grammar.{effect_at, effects_at}

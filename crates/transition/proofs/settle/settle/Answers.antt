@@ -1,13 +1,9 @@
 -- After so many rounds the state that has come about stands in the slot. Assumes nothing.
-use mathlib.Core.Path.{◌≡◌, refl, sym, ap, ◌∙◌, subst}
+use mathlib.Core.Path.{refl, ap, ◌∙◌}
 use native.Mathlib.Omega.{arith}
-use Prim.Native.Nat.{ℕ, ◌≤◌}
-use lib.ListN.{length}
-use Rattle.pack.specs.State.{meaning}
 use Rattle.pack.specs.declared.table.Table.{Table}
-use Rattle.transition.specs.Inner.Fire.{Firable}
 use Rattle.std.proofs.lemmas.Result.{err_from_is_err_and}
-use Rattle.transition.proofs.Rounds.{InRound, round_start, round_table, round_firable, theory_triggers, round-idle, round_quiet, round_last, round_scene, round_slotted, round_stands, round_room, round-many, round_next}
+use Rattle.transition.proofs.Rounds.{round_start, round_table, round_firable, theory_triggers, round-idle, round_quiet, round_last, round_scene, round_slotted, round_stands, round_room, round-many, round_next}
 use Rattle.transition.proofs.settle.settle.Goals as goal
 
 pub returns-then-triggers-eq0 : goal.returns-then-triggers-eq0

@@ -1,5 +1,5 @@
 -- The condition, part 1, the rounds. Assumes nothing.
-use mathlib.Core.Path.{sym, ◌∙◌}
+use mathlib.Core.Path.{◌∙◌}
 use native.Mathlib.Omega.{arith}
 use Prim.Native.Nat.{◌*◌}
 use Rattle.std.proofs.lemmas.Result.{err_from_is_err_and}
