@@ -35,7 +35,11 @@ pub fn passes(s: &[u8], at: usize, buffer: &[u8], t: Table, node: usize) -> bool
     let count = usize::from(s[at]);
     let there = follow(s, at + 1, count, buffer, t, node);
     let n = at + 1 + count;
-    relates(s[n], t.value(buffer, there, usize::from(s[n + 1])), s[n + 2])
+    relates(
+        s[n],
+        t.value(buffer, there, usize::from(s[n + 1])),
+        s[n + 2],
+    )
 }
 
 // Whether all tests of an alternative hold.

@@ -62,5 +62,5 @@ returns c =
     let row = value-at c.args.t c.args.buffer.now c.follow-there.result c.from.result c.follow-there.ensures.1 (omega (arith, c.from.ensures, i.below)) in
     let byte = c.value.ensures ∙ row ∙ ap (λ (f : ℕ). get_or c.args.buffer.now ((c.args.t.rows + c.follow-there.result * c.args.t.width) + f) 0) c.from.ensures in
     λ d over x n' e. c.relates.ensures.0 i.known
-        ∙ ap (λ (v : ℕ). compares (kind_of (get_or c.args.s.now n 0)) v (get_or c.args.s.now (n + 2) 0)) byte
-        ∙ sym (passes_by c.args.t c.args.buffer.now c.args.node d over c.args.s.now c.args.at x n' e c.from-count.result c.follow-there.result (sym c.from-count.ensures) c.follow-there.ensures.0 c.follow-there.ensures.1)
+    ∙ ap (λ (v : ℕ). compares (kind_of (get_or c.args.s.now n 0)) v (get_or c.args.s.now (n + 2) 0)) byte
+    ∙ sym (passes_by c.args.t c.args.buffer.now c.args.node d over c.args.s.now c.args.at x n' e c.from-count.result c.follow-there.result (sym c.from-count.ensures) c.follow-there.ensures.0 c.follow-there.ensures.1)

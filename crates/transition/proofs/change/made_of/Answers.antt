@@ -1,10 +1,7 @@
 -- The tests made on a slot tell what it stands for. Assumes nothing.
-use mathlib.Core.Path.{◌≡◌, sym, ◌∙◌}
+use mathlib.Core.Path.{◌≡◌, sym}
 use mathlib.Core.Bool.{true≢false}
-use Prim.Native.Nat.{◌+◌, ◌*◌, ◌/◌, ◌%◌, ◌<◌, ◌≤◌}
-use lib.ListN.{length}
-use mir.Syntax.{w64}
-use mir.Val.{Fits}
+use Prim.Native.Nat.{◌/◌, ◌%◌, ◌<◌}
 use native.Mathlib.Omega.{arith}
 use Rattle.pack.specs.State.{target}
 use Rattle.transition.specs.Laws.ChangedRows.{watched, belief_told, believed_row, believed_keeps, member_first, member_old, member_acted, member_edge, member_there}

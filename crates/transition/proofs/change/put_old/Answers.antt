@@ -1,8 +1,8 @@
 -- The slots of the characters below d are put. Assumes nothing.
-use mathlib.Core.Path.{◌≡◌, refl, sym, ap, ◌∙◌}
+use mathlib.Core.Path.{◌≡◌, refl, ◌∙◌}
 use Prim.Native.Nat.{ℕ, ◌+◌, ◌*◌, ◌<◌, ◌≤◌}
 use mathlib.Core.List.{List}
-use lib.ListN.{length, length-set, get_or}
+use lib.ListN.{length, length-set}
 use native.Mathlib.Omega.{arith}
 use Rattle.pack.specs.Syntax.{Node}
 use Rattle.pack.specs.Grammar.{Dimensions}

@@ -1,10 +1,8 @@
 -- The rows below m are judged. Assumes nothing.
-use mathlib.Core.Path.{refl, sym, subst}
-use Prim.Native.Nat.{◌+◌}
-use lib.ListN.{length, length-set, set}
+use mathlib.Core.Path.{refl}
+use lib.ListN.{length, length-set}
 use borrow.Author.Tests.{ltb-true, ltb-false}
 use native.Mathlib.Omega.{arith}
-use Rattle.transition.specs.Inner.Fire.{FiredBelow}
 use Rattle.transition.proofs.FiringTriggers.{fired_none, fired_more, fired_all}
 use Rattle.transition.proofs.fire.fire_all.Goals as goal
 
