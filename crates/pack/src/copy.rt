@@ -8,6 +8,7 @@ pub fn copy_bytes(s: &[u8], from: usize, buffer: &mut [u8], to: usize, count: us
     requires { Copyable s.now from buffer.old to count less }
     ensures { Copied s.now from buffer.old buffer.new to count less }
 {
+    // By index: the proof of a `zip` of the two slices, one of them written, did not close.
     for i in 0..count {
         buffer[to + i] = s[from + i] - less;
     }

@@ -2,6 +2,8 @@
 //
 // Where the last alternative or rule fails, nothing is left to read, so the place after it is not looked for: most
 // conditions have one alternative, and most utilities one or two rules.
+//
+// Each walk is a loop of its own: a trait of what is read, to share three lines, would be longer than the loops.
 ghost use Rattle.std.specs.Prelude.{ℕ, ◌<◌, ◌≤◌, ◌≡◌, false, List};
 ghost use Rattle.pack.specs.Syntax.{Test, Condition, Rule};
 ghost use Rattle.pack.specs.Reading.{done};
@@ -18,6 +20,7 @@ use crate::test::after_test;
 pub fn relates(kind: u8, x: u8, value: u8) -> bool
     ensures { (kind < 3 → result ≡ compares (kind_of kind) x value) × (3 ≤ kind → result ≡ false) }
 {
+    // The kind stays the pack's byte: it is compared once, where it stands.
     match kind {
         0 => x == value,
         1 => x != value,

@@ -126,7 +126,8 @@ pub fn put_old(h: Change, work: &mut [u8], m: usize, to: usize)
     }
 }
 
-// Of which row a slot's row is made, and whether that one took part; and whether it is told something besides.
+// Of which row a slot's row is made, and whether that one took part; and whether it is told something besides. No enum:
+// either kind of row may be told something.
 #[derive(Clone, Copy)]
 pub struct Source {
     pub row: usize,
@@ -277,6 +278,7 @@ pub fn change_table(
     let root = number_of(work, NUMBERS, size, 0, first);
     let mut count = more(0, root);
     let mut i = 0;
+    // The rows that are made grow while they are walked.
     while i < count {
         count = change_row(pack, places, effects, h, work, i, count);
         i += 1;

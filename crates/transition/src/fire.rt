@@ -6,8 +6,8 @@ use pack::judge::holds;
 use pack::places::{TRIGGER, TRIGGER_EFFECTS, TRIGGERS};
 use pack::table::Table;
 
-// A place behind every pack, which may have so many bytes: no `Option`, of which 32 are filled in every step, measured to
-// be slower.
+// A place behind every pack, which may have so many bytes. It is no `Option`: 32 of them, filled in every step, were
+// measured to make a step 3 to 6 parts of 100 slower.
 pub const NOWHERE: u16 = 8192;
 
 // The place of the effects of the lowest trigger that holds in row m, or `NOWHERE`.

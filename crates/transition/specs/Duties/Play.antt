@@ -1,5 +1,6 @@
 -- An action and the rounds after it, in a slot of the work buffer. Assumes nothing.
-use Rattle.std.specs.Prelude.{◌≡◌, true, false, ◌≢◌, List, ℕ, suc, ◌+◌, ◌<◌, ◌≤◌, length, get_or, Result, Ok, Err, Option, Some, None}
+use Rattle.std.specs.Prelude.{◌≡◌, true, false, ◌≢◌, List, ℕ, suc, ◌+◌, ◌<◌, ◌≤◌}
+use Rattle.std.specs.Prelude.{length, get_or, Result, Ok, Err, Option, Some, None}
 use Rattle.pack.specs.Syntax.{Effect, Node, Theory}
 use Rattle.pack.specs.State.{State, meaning}
 use Rattle.pack.specs.Grammar.{longest_pack}
