@@ -2,6 +2,7 @@
 //
 // A stage reads a table below its scratch, writes upwards, and copies the merged rows down into a slot. Nothing below
 // the slot and nothing between it and the scratch changes, so a search keeps its stack in the slots.
+use chart::values::Regions;
 
 // A slot has room for the count of the largest table and its rows.
 pub const SLOT: usize = 961;
@@ -21,6 +22,13 @@ pub const LEVEL: usize = 47508;
 pub const CLASSES: usize = 47736;
 
 pub const FIRSTS: usize = 47964;
+
+// Where these three stand, for a partition.
+pub const PARTITION: Regions = Regions {
+    level: LEVEL,
+    classes: CLASSES,
+    firsts: FIRSTS,
+};
 
 // The rows, one of each class.
 pub const MERGED: usize = 48192;

@@ -10,11 +10,10 @@ ghost use Rattle.transition.specs.Inner.Round.{Silent, Caused, CausedSome, Rewri
 
 use crate::cause::write_told;
 use crate::change::Change;
-use crate::regions::{CLASSES, FIRSTS, LEVEL, MERGED};
+use crate::regions::{CLASSES, MERGED, PARTITION};
 use crate::stage::{put_down, stage};
 use chart::merge::write_merged;
 use chart::partition::partition;
-use chart::values::Regions;
 use pack::effects::{Wanted, some_effect};
 use pack::refusal::Stop;
 use pack::table::Table;
@@ -59,12 +58,7 @@ pub fn merge_slot(work: &mut [u8], t: Table, slot: usize) -> usize
     requires { SlotTable work.old t slot }
     ensures { Acted (state_of t work.old 0) t work.old work.new slot (Ok result) }
 {
-    let regions = Regions {
-        level: LEVEL,
-        classes: CLASSES,
-        firsts: FIRSTS,
-    };
-    let classes = partition(work, t, regions, 32);
+    let classes = partition(work, t, PARTITION, 32);
     if t.nodes <= classes {
         return t.nodes;
     }

@@ -6,11 +6,10 @@ ghost use Rattle.transition.specs.Inner.Change.{Scene, Scened, InScene};
 ghost use Rattle.transition.specs.Duties.Stage.{StageRoom, Staged, scratch_at};
 
 use crate::change::{Change, change_table};
-use crate::regions::{CLASSES, FIRSTS, LEVEL, MADE, MERGED};
+use crate::regions::{CLASSES, MADE, MERGED, PARTITION};
 use chart::bytes::copy_part;
 use chart::merge::write_merged;
 use chart::partition::partition;
-use chart::values::Regions;
 use pack::refusal::Stop;
 use pack::table::Table;
 
@@ -49,12 +48,7 @@ pub fn stage(
         nodes: rows,
         ..t
     };
-    let regions = Regions {
-        level: LEVEL,
-        classes: CLASSES,
-        firsts: FIRSTS,
-    };
-    let classes = partition(work, made, regions, 32);
+    let classes = partition(work, made, PARTITION, 32);
     if 32 < classes {
         return Err(Stop::States);
     }
