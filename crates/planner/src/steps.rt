@@ -3,7 +3,8 @@
 ghost use Rattle.std.specs.Prelude.{◌≡◌, true, false, ◌+◌, ◌*◌, ◌/◌, ◌<◌, ◌≤◌, length, get_or};
 ghost use Rattle.chart.specs.Call.{work_room};
 ghost use Rattle.planner.specs.Inner.Lists.{slot_table};
-ghost use Rattle.planner.specs.Inner.Memory.{Laid, id_byte, Names, steps_at, step_at, Before, Kept, Place, StepRead, StepPut};
+ghost use Rattle.planner.specs.Inner.Memory.{Laid, id_byte, Names, steps_at, step_at, Before, Kept};
+ghost use Rattle.planner.specs.Inner.Memory.{Place, StepRead, StepPut};
 ghost use Rattle.planner.specs.Inner.Memory.{Noted, Slot, Again, LeftNoted, StepOnce, Unasked, Roomy};
 ghost use Rattle.planner.specs.Inner.Explain.{Steppable, Advances};
 ghost use Rattle.transition.specs.Duties.Stage.{scratch_at};
