@@ -89,7 +89,7 @@ module _ (pack first second chain work : List ℕ) where
           unfolding compare_reply
           both_read =
               let (ns, g, z) = accepted_by charts got enough true (λ p. true) (λ x e. refl) verdict_of (λ ns. ns) said agrees (n ∷ m ∷ [])
-                  (told_both ∙ ap (λ (r : Result (Unit {0}) Refusal). told (λ (u : Unit {0}). n ∷ m ∷ []) (replied r)) e) in
+              (told_both ∙ ap (λ (r : Result (Unit {0}) Refusal). told (λ (u : Unit {0}). n ∷ m ∷ []) (replied r)) e) in
               subst (λ (ns : List ℕ). (x : Accepted pack places charts p ns enough true) × (the_reply ≡ verdict_of x.the_pack x.tables)) g z
 
           one : let x = both_read.0 in FirstRead x.the_pack.theory first (second ∷ []) x.tables

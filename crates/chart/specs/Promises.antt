@@ -39,7 +39,8 @@ pub record Asked (pack chart chain : List ℕ) (fluent : ℕ) (work work' : List
   pub scratch : work' ≡ work_after (query_reply pack chart chain fluent work) work
 
 -- Compare(pack, first, second, chain out, work)
-pub record Comparison (pack first second chain work chain' work' : List ℕ) (r : Result (Option found.Difference) Refusal) : Type 0 where
+pub record Comparison (pack first second chain work chain' work' : List ℕ)
+    (r : Result (Option found.Difference) Refusal) : Type 0 where
   pub answer : compare_said r ≡ told difference (compare_reply pack first second chain work)
   pub result : chain' ≡ result_after (told chain_of (compare_reply pack first second chain work)) chain
   pub scratch : work' ≡ work_after (compare_reply pack first second chain work) work

@@ -1,5 +1,5 @@
-// The checks that the public calls share, behind those of the pack and of the charts: 8, then 9. Each call makes them in
-// that order, and hands the first refusal on.
+// The checks that the public calls share, behind those of the pack and of the charts: 8, then 9. Each call makes them
+// in that order, and hands the first refusal on.
 ghost use Rattle.std.specs.Prelude.{◌≡◌, ◌&&◌, ltb, leb};
 ghost use Rattle.pack.specs.Reading.{gives, refuses, pick};
 ghost use Rattle.pack.specs.Duties.Said.{replied};

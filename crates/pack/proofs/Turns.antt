@@ -12,8 +12,8 @@ was_read g x r n a e was = e ∙ ap (λ (r : Result _ Flaw). mapped g (said (pla
 
 -- what is asked of a value holds where there is none
 pub no_value_placed : {A : Type 0} (r : Result A Flaw) (n : ℕ) (P : A × ℕ → Type 0) → IsErr r → IfOk (placed r n) P
-no_value_placed r n P h = go r (IfOk-from_err r (λ a. P (a , n)) h)
+no_value_placed r n P h = go r (IfOk-from_err r (λ a. P (a, n)) h)
   where
-    go : (r : Result _ Flaw) → IfOk r (λ a. P (a , n)) → IfOk (placed r n) P
+    go : (r : Result _ Flaw) → IfOk r (λ a. P (a, n)) → IfOk (placed r n) P
     go (Ok a) h = h
     go (Err e) h = tt

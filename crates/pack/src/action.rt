@@ -6,8 +6,8 @@ ghost use Rattle.pack.specs.Duties.Places.{places_room, Within};
 ghost use Rattle.pack.specs.Duties.Places.{ObservedRead, ActionRead, ActionsRead};
 
 use crate::condition::check_condition;
-use crate::effect::{check_consenters, check_effects};
 use crate::dimensions::Dimensions;
+use crate::effect::{check_consenters, check_effects};
 use crate::number::read_between;
 use crate::places::{ACTION, CONSENTERS, EFFECTS, OBSERVED};
 use crate::refusal::{Fault, Flaw};

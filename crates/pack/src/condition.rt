@@ -50,10 +50,15 @@ pub fn check_alternative<'a>(s: &[u8], at: usize, d: Dimensions<'a>) -> Result<u
     ensures { mapped forget (counted 0 9 (test_at (dims d.entry.characters d.entry.domains.now)) s.now at)
         ≡ shown result }
 {
-    check_counted(s, at, 9, |n| match plain_test(s, n, d.characters, d.domains) {
-        Some(after) => Ok(after),
-        None => check_test(s, n, d),
-    })
+    check_counted(
+        s,
+        at,
+        9,
+        |n| match plain_test(s, n, d.characters, d.domains) {
+            Some(after) => Ok(after),
+            None => check_test(s, n, d),
+        },
+    )
 }
 
 // A condition: a count of alternatives, and the alternatives.

@@ -24,7 +24,10 @@ pub fn read_head<'a>(r: &mut Reader<'a>) -> Result<Head, Flaw>
     let characters = r.number(1, 7)?;
     let fluents = r.number(1, 25)?;
     let domains = r.domains(fluents)?;
-    Ok(Head { characters, domains })
+    Ok(Head {
+        characters,
+        domains,
+    })
 }
 
 // How many actions and triggers there are.

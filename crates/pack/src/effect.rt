@@ -27,10 +27,15 @@ pub fn check_effects<'a>(s: &[u8], at: usize, d: Dimensions<'a>) -> Result<usize
     ensures { mapped forget (effects_at (dims d.entry.characters d.entry.domains.now) s.now at)
         ≡ shown result }
 {
-    check_counted(s, at, 17, |n| match plain_effect(s, n, d.characters, d.domains) {
-        Some(after) => Ok(after),
-        None => check_effect(s, n, d),
-    })
+    check_counted(
+        s,
+        at,
+        17,
+        |n| match plain_effect(s, n, d.characters, d.domains) {
+            Some(after) => Ok(after),
+            None => check_effect(s, n, d),
+        },
+    )
 }
 
 // A count of consenters, and the consenters, strictly rising.

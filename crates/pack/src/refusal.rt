@@ -2,9 +2,9 @@
 ghost use Rattle.std.specs.Prelude.{◌≡◌, ◌<◌};
 ghost use Rattle.pack.specs.Refusals.{number_of, refusal_number, place_of};
 
-// What can be at fault in the bytes of a pack or a chart: they end in a number, a number is in no shortest form, a count
-// or size is outside its limits, something isn't there, a belief is blank, consenters don't rise, bytes come after the
-// end.
+// What can be at fault in the bytes of a pack or a chart: they end in a number, a number is in no shortest form, a
+// count or size is outside its limits, something isn't there, a belief is blank, consenters don't rise, bytes come
+// after the end.
 #[derive(Clone, Copy, Debug, PartialEq, Eq)]
 pub enum Fault {
     Ends,

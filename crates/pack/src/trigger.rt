@@ -5,8 +5,8 @@ ghost use Rattle.pack.specs.Duties.Answer.{dims};
 ghost use Rattle.pack.specs.Duties.Places.{places_room, Within, TriggerRead, TriggersRead};
 
 use crate::condition::check_condition;
-use crate::effect::check_effects;
 use crate::dimensions::Dimensions;
+use crate::effect::check_effects;
 use crate::number::read_between;
 use crate::places::{TRIGGER, TRIGGERS};
 use crate::refusal::{Fault, Flaw};

@@ -2,7 +2,8 @@
 -- 01's demands and "From the buyer: what I will send back". Of each call there are two: what its reply means over
 -- chains, and, from the call's own promise, what it hands back and leaves in the buffers that it was lent. A name with
 -- ' is a buffer at exit.
-use Rattle.std.specs.Prelude.{ℕ, ◌<◌, ◌≤◌, ◌≡◌, Bool, true, false, ◌&&◌, ◌↔◌, ◌⊎◌, get_or, drop, Option, Some, None, Result, Ok, Err}
+use Rattle.std.specs.Prelude.{ℕ, ◌<◌, ◌≤◌, ◌≡◌, Bool, true, false, ◌&&◌, ◌↔◌, ◌⊎◌, get_or, drop}
+use Rattle.std.specs.Prelude.{Option, Some, None, Result, Ok, Err}
 use Rattle.std.proofs.Math.Path.{refl, ap}
 use Rattle.std.proofs.Common.{sym, ◌∙◌, subst}
 use Rattle.std.proofs.Math.Logic.{inl, inr, ⊎_elim}
@@ -414,7 +415,8 @@ module _ {pack : List ℕ} {p : Pack} (given : Given pack p) where
         go (ending actions before after) e = inr (actions, before, after, e)
 
     -- Demand 3, of what Search hands back and leaves in the list's buffer
-    module _ {list' work' : List ℕ} {r : Result planner.Ending Refusal} (promise : Searching pack T K E list work list' work' r) where
+    module _ {list' work' : List ℕ} {r : Result planner.Ending Refusal}
+        (promise : Searching pack T K E list work list' work' r) where
       -- 13 exactly where no list is an ending
       pub search_call_none : (r ≡ Err NoEnding)
           ↔ ((actions : List ℕ) → ¬ Ending theory T K E (state p.nodes) actions)

@@ -237,7 +237,7 @@ module _ (pack : List ℕ) (T K E : ℕ) (list work : List ℕ) where
   search_unread why read = unwritten why (pack_refused pack [] room wanted plan_of (refusal_number why) (place_of why) read.answer)
 
   module _ {places : List ℕ} {p : Contents} (got : PackRead pack places (Ok p)) (enough : Bool) (here : enough ≡ room) (there : Bool) (within : there ≡ (story_limit T && (foresight_limit K && nesting_limit E)))
-    (r : Result (Unit {0}) Refusal) (says : replied r ≡ lent enough there (gives tt)) where
+      (r : Result (Unit {0}) Refusal) (says : replied r ≡ lent enough there (gives tt)) where
     agrees : told (λ (u : Unit {0}). p.nodes) (replied r) ≡ told (λ ns. p.nodes) (checks p [] room there)
     agrees = sym (lent_told room there p.nodes r (says ∙ ap (λ (b : Bool). lent b there (gives tt)) here)) ∙ check_none p room there p.nodes
 

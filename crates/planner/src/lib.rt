@@ -20,8 +20,8 @@ pub mod steps;
 pub mod verdict;
 pub mod who;
 
-// An ending, as Search hands it back: how many actions its list has, and the author's utility ("worth") at the start and
-// at the list's end.
+// An ending, as Search hands it back: how many actions its list has, and the author's utility ("worth") at the start
+// and at the list's end.
 #[derive(Clone, Copy, Debug, PartialEq, Eq)]
 pub struct Ending {
     pub length: usize,

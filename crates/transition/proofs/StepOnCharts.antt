@@ -68,7 +68,7 @@ module _ {p : Theory} {T : List Node} {pack places : List ℕ} {actions triggers
       step_refused why same {now} cl long =
           let h : r ≢ 0 = λ z. stops why (sym same ∙ z) in
           let e : step_table p T action ≡ refused (stop_number why) =
-              is (refused r) (Steps.failed (omega (arith, x.there, x.theorized.found.actions)) (subst (λ (s : State). Refuses p s action r) same_state (z.refuses h))) ∙ ap refused same in
+          is (refused r) (Steps.failed (omega (arith, x.there, x.theorized.found.actions)) (subst (λ (s : State). Refuses p s action r) same_state (z.refuses h))) ∙ ap refused same in
           record {
             answer = sym (ap (λ (o : Outcome). told length (outcome_reply o)) e);
             result = sym (ap (λ (o : Outcome). result_after (outcome_reply o) out) e);

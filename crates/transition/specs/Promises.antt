@@ -8,7 +8,8 @@ use Rattle.pack.specs.Duties.Said.{replied}
 use Rattle.transition.specs.Replies.{step_reply}
 
 -- Step(pack, chart, action, chart out, work)
-pub record Stepped (pack chart : List ℕ) (action : ℕ) (out work out' work' : List ℕ) (r : Result ℕ Refusal) : Type 0 where
+pub record Stepped (pack chart : List ℕ) (action : ℕ) (out work out' work' : List ℕ)
+    (r : Result ℕ Refusal) : Type 0 where
   pub answer : replied r ≡ told length (step_reply pack chart action out work)
   pub result : out' ≡ result_after (step_reply pack chart action out work) out
   pub scratch : work' ≡ work_after (step_reply pack chart action out work) work

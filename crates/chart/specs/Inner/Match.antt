@@ -56,7 +56,8 @@ pub record RowsMatched (was now chain chain' : List ℕ) (r : Option found.Diffe
   pub high : Above was now 26624
 
 -- of two charts
-pub record ChartsMatched (first second chain chain' work work' : List ℕ) (r : Option found.Difference) (n m f c : ℕ) : Type 0 where
+pub record ChartsMatched (first second chain chain' work work' : List ℕ)
+    (r : Option found.Difference) (n m f c : ℕ) : Type 0 where
   pub said : (t u : List Node) → NodesRead first n f c t → NodesRead second m f c u
       → Said (compare_table c f t u) chain chain' r
   pub scratch : work' ≡ cleared work

@@ -95,7 +95,7 @@ pack_refused pack charts enough wanted rest k q e = go (pack_of pack) refl e
           ap (λ (y : Reply Pack).
               with y (λ p.
               with (charts_of p.theory charts) (λ tables. lent enough (wanted p.theory) (rest p tables)))) f
-          ∙ ap₂ refuses a b,
+              ∙ ap₂ refuses a b,
           low_checks k (omega (arith, pack-refusal pack j o f)),
         )
 

@@ -43,7 +43,8 @@ pub record TheoryFound (d : Dimensions) (s places : List ℕ) (t : Theory) (k l 
       → Gives (rules_at d) s (get_or places (320 + c) 0) (get_or t.utilities c [])
 
 -- the actions, the triggers and the utilities: how many actions and triggers there are, and the place after all
-pub record TheoryRead (d : Dimensions) (s : List ℕ) (at : ℕ) (places : List ℕ) (r : Result (Counts × ℕ) Flaw) : Type 0 where
+pub record TheoryRead (d : Dimensions) (s : List ℕ) (at : ℕ) (places : List ℕ)
+    (r : Result (Counts × ℕ) Flaw) : Type 0 where
   pub answer : mapped forget (theory_at d s at) ≡ mapped forget (said r)
   pub found : (t : Theory) (n : ℕ) → theory_at d s at ≡ done t n
       → IfOk r (λ c. TheoryFound d s places t c.0.actions c.0.triggers)

@@ -27,7 +27,8 @@ Marked p s first places slot k = (j : ℕ) → j < k → Ends (many p j) s first
 abbrev pub KeptBelow : ℕ → List ℕ → List ℕ → Type 0
 KeptBelow low was now = (k : ℕ) → k < low → get_or now k 0 ≡ get_or was k 0
 
-pub record ObservedRead (d : Dimensions) (s : List ℕ) (at base : ℕ) (was now : List ℕ) (r : Result ℕ Flaw) : Type 0 where
+pub record ObservedRead (d : Dimensions) (s : List ℕ) (at base : ℕ) (was now : List ℕ)
+    (r : Result ℕ Flaw) : Type 0 where
   pub answer : mapped forget (many (condition_at d) d.characters s at) ≡ shown r
   pub marked : IfOk r (λ n. Marked (condition_at d) s at now (λ c. base + c) d.characters)
   pub kept : KeptBelow base was now
@@ -54,7 +55,7 @@ pub record Actions (d : Dimensions) (s places : List ℕ) (first k : ℕ) : Type
 
 pub record ActionsRead (d : Dimensions) (s : List ℕ) (at : ℕ) (places : List ℕ) (r : Result (ℕ × ℕ) Flaw) : Type 0 where
   pub answer : mapped length (counted 0 33 (action_at d) s at) ≡ said r
-  pub found : IfOk r (λ (k , n). (first : ℕ) × (between 0 33 3 s at ≡ done k first) × Actions d s places first k)
+  pub found : IfOk r (λ (k, n). (first : ℕ) × (between 0 33 3 s at ≡ done k first) × Actions d s places first k)
 
 -- A trigger's parts: its condition stands at the first place, its effects at the second.
 abbrev pub TriggerParts : Dimensions → (s places : List ℕ) → ℕ → Type 0
@@ -70,9 +71,10 @@ pub record Triggers (d : Dimensions) (s places : List ℕ) (first k : ℕ) : Typ
   pub starts : Marked (trigger_at d) s first places (λ i. 288 + 2 * i) k
   pub parts : (i : ℕ) → i < k → TriggerParts d s places (288 + 2 * i)
 
-pub record TriggersRead (d : Dimensions) (s : List ℕ) (at : ℕ) (was now : List ℕ) (r : Result (ℕ × ℕ) Flaw) : Type 0 where
+pub record TriggersRead (d : Dimensions) (s : List ℕ) (at : ℕ) (was now : List ℕ)
+    (r : Result (ℕ × ℕ) Flaw) : Type 0 where
   pub answer : mapped length (counted 0 17 (trigger_at d) s at) ≡ said r
-  pub found : IfOk r (λ (k , n). (first : ℕ) × (between 0 17 3 s at ≡ done k first) × Triggers d s now first k)
+  pub found : IfOk r (λ (k, n). (first : ℕ) × (between 0 17 3 s at ≡ done k first) × Triggers d s now first k)
   pub kept : KeptBelow 288 was now
 
 pub record UtilitiesRead (d : Dimensions) (s : List ℕ) (at : ℕ) (was now : List ℕ) (r : Result ℕ Flaw) : Type 0 where

@@ -7,12 +7,12 @@ use Rattle.pack.specs.declared.refusal.Refusal.{Refusal}
 
 -- a value and the place after it, or a refusal
 abbrev pub said : {A : Type 0} → Result (A × ℕ) Flaw → Reading A
-said (Ok (a , n)) = done a n
+said (Ok (a, n)) = done a n
 said (Err flaw) = refused (number_of flaw.fault) flaw.at
 
 -- an answer, with the place where the reader then is
 abbrev pub placed : {A : Type 0} → Result A Flaw → ℕ → Result (A × ℕ) Flaw
-placed (Ok a) n = Ok (a , n)
+placed (Ok a) n = Ok (a, n)
 placed (Err flaw) n = Err flaw
 
 -- of a part that passed, the place where the reader then is

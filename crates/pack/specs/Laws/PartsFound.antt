@@ -207,7 +207,7 @@ module _ (d : Dimensions) (s was now : List ℕ) (first k : ℕ) where
 -- the three walks of a theory, one after the other
 pub theory_marked : (d : Dimensions) (s : List ℕ) (at : ℕ) (p1 p2 p3 : List ℕ) (ka na kt nt m : ℕ)
     → d.characters ≤ 6
-    → ActionsRead d s at p1 (Ok (ka , na)) → TriggersRead d s na p1 p2 (Ok (kt , nt))
+    → ActionsRead d s at p1 (Ok (ka, na)) → TriggersRead d s na p1 p2 (Ok (kt, nt))
     → UtilitiesRead d s nt p2 p3 (Ok m)
     → (t : Theory) (n : ℕ) → theory_at d s at ≡ done t n → TheoryFound d s p3 t ka kt
 theory_marked d s at p1 p2 p3 ka na kt nt m few a b c t n e =
@@ -282,7 +282,8 @@ body_found characters domains s at places k first m c b rows theory p n e =
     record {
       characters = ap (λ (x : Dimensions). x.characters) (sym same);
       domains = ap (λ (x : Dimensions). x.domains) (sym same);
-      fluents = ap (λ (x : Dimensions). length x.domains) (sym same) ∙ length-take-le domains.fluents domains.sizes (omega (arith, domains.few, domains.long));
+      fluents = ap (λ (x : Dimensions). length x.domains) (sym same)
+          ∙ length-take-le domains.fluents domains.sizes (omega (arith, domains.few, domains.long));
       nodes = ap (λ (x : Pack). length x.nodes) (sym u.right)
           ∙ many-length (node_at d k) k s first b0.value b0.place r0;
       some_nodes = (between_within 1 33 3 s at k first b).0;

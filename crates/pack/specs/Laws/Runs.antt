@@ -75,7 +75,8 @@ runs_end p next z g k i s at h = runs_none p next z g (k - i) s at (omega arith)
 
 -- the value of one more fluent
 pub item_step : (domains : List ℕ) (i : ℕ) (s : List ℕ) (at : ℕ) → i < length domains
-    → mapped forget (runs (λ fluent. item (get_or domains fluent 0)) (λ fluent v. fluent + 1) i (length domains - i) s at)
+    → mapped forget (runs (λ fluent. item (get_or domains fluent 0)) (λ fluent v. fluent + 1) i
+    (length domains - i) s at)
     ≡ bind (mapped forget (item (get_or domains i 0) s at))
     (λ u n. mapped forget (runs (λ fluent. item (get_or domains fluent 0)) (λ fluent v. fluent + 1) (i + 1)
     (length domains - (i + 1)) s n))

@@ -157,7 +157,8 @@ said_ending (Ok e) {c} f =
 said_ending (Err why) f = never_gives f
 
 -- Search, whose reply is x
-module _ (x : Reply Plan) (list : List ℕ) {list' : List ℕ} {r : Result planner.Ending Refusal} (answer : search_said r ≡ told summary x)
+module _ (x : Reply Plan) (list : List ℕ) {list' : List ℕ} {r : Result planner.Ending Refusal}
+    (answer : search_said r ≡ told summary x)
     (result : list' ≡ result_after (told (λ p. p.list) x) list) where
   pub none_exactly : (r ≡ Err NoEnding) ↔ (x ≡ refuses 13 0)
   none_exactly =
@@ -202,4 +203,5 @@ module _ {said : Reply (List ℕ)} {work report work' report' : List ℕ} {r : �
   )
 
   pub told-refusal : {n p : ℕ} → said ≡ refuses n p → (r ≡ n) × (report' ≡ put (p ∷ []) report)
-  told-refusal e = (call.number ∙ ap reports.number_of e, call.told ∙ ap (λ (y : Reply (List ℕ)). put (entries y) report) e)
+  told-refusal e =
+      (call.number ∙ ap reports.number_of e, call.told ∙ ap (λ (y : Reply (List ℕ)). put (entries y) report) e)

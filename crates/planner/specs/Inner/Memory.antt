@@ -1,7 +1,8 @@
 -- What is known of states, behind the slots: tables that are kept, each under a number that is its id, and
 -- what is known of steps and lists by these ids; once there was no room, cells that hold both. Every entry and every
 -- cell is true, whatever it is replaced by. Assumes nothing.
-use Rattle.std.specs.Prelude.{◌≡◌, ◌≢◌, Bool, true, false, Option, Some, None, IfSome, ◌⊎◌, List, ℕ, zero, suc, ◌+◌, ◌*◌, ◌-◌, ◌/◌, ◌%◌, ◌<◌, ◌≤◌, length, get_or}
+use Rattle.std.specs.Prelude.{Bool, true, false, Option, Some, None, IfSome, ◌⊎◌}
+use Rattle.std.specs.Prelude.{◌≡◌, ◌≢◌, List, ℕ, zero, suc, ◌+◌, ◌*◌, ◌-◌, ◌/◌, ◌%◌, ◌<◌, ◌≤◌, length, get_or}
 use Rattle.pack.specs.Syntax.{Theory}
 use Rattle.pack.specs.State.{State}
 use Rattle.pack.specs.Duties.Table as table
@@ -413,8 +414,8 @@ pub record Slot (h : Context) (work : List ℕ) (slot : ℕ) : Type 0 where
   pub is : slot ≡ h.stride * number
   pub room : work_room ≤ length work
 
--- the table of an id stands in it, as after a step that plays, and the flag r says so; from the memory on only the slot's id is written, so no
--- step is made
+-- the table of an id stands in it, as after a step that plays, and the flag r says so; from the memory on only the
+-- slot's id is written, so no step is made
 pub record Again (h : Context) (next slot : ℕ) (was now : List ℕ) (r : Bool) : Type 0 where
   pub refused : r ≡ false → next ≡ 0
   pub named : r ≡ true → slot_id h now (slot_table h now slot) ≡ next
@@ -438,8 +439,8 @@ pub record LeftNoted (h : Context) (t : Table) (root a slot : ℕ) (was now : Li
       × Starts h.characters s (table.table_of (slot_table h was slot) was))
       → Memory p foresight h (slot + h.stride) now
 
--- a step from a row of a table into a slot, where the flag r says that it plays: one that is known is repeated, and any is known afterwards where the tables
--- before and after it have ids
+-- a step from a row of a table into a slot, where the flag r says that it plays: one that is known is repeated, and any
+-- is known afterwards where the tables before and after it have ids
 pub record StepOnce (h : Context) (t : Table) (root a slot : ℕ) (was now : List ℕ) (r : Bool) : Type 0 where
   pub again : (next : ℕ) → StepKnown h was t root a next → Again h next slot was now r
   pub kept : r ≡ true → Roomy h now → Fits h (slot_table h now slot) → 0 < slot_id h now (slot_table h now slot)

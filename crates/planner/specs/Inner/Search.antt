@@ -34,8 +34,8 @@ pub record Chosen (Good : List ℕ → ℕ → Type 0) (n : ℕ) (list : List �
   pub earliest : (other : List ℕ) (v : ℕ) → length other ≡ n → Good other v → ¬ Before other list
 
 -- the earliest of the good lists of n actions is put down, and r is the utility at its end; or r is none, there is no
--- such list, and nothing is put down. Bytes of the work buffer before the free slots, and behind the memory, are as they were, and
--- of what is in the memory M holds
+-- such list, and nothing is put down. Bytes of the work buffer before the free slots, and behind the memory, are as
+-- they were, and of what is in the memory M holds
 pub record Best (M : List ℕ → Type 0) (Good : List ℕ → ℕ → Type 0) (n : ℕ) (was now : List ℕ) (done : ℕ) (slot : ℕ)
     (work work' : List ℕ) (r : Option ℕ) : Type 0 where
   pub none : r ≡ None → (now ≡ was) × ((list : List ℕ) (v : ℕ) → length list ≡ n → ¬ Good list v)

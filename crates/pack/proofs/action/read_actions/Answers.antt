@@ -38,18 +38,24 @@ returns-in_err-n c =
 
 pub loop-i-preserved : goal.loop-i-preserved
 loop-i-preserved c =
-    let now = c.read_action.new.places in
-    (marking_more _ _ _ (λ i. 9 * i) _ _ _ _ c.loop-i.i _ c.loop-i.invariant.0 c.loop-i-test.true now c.read_action.ensures.starts (λ j l. c.read_action.ensures.kept (9 * j) (omega arith)) (λ k l. c.read_action.ensures.kept k (omega arith)) _ (c.read_action.ensures.answer ∙ ap shown c.in_ok-n.was),
-     actions_more (dims c.args.d.characters c.args.d.domains.now) c.args.s.now c.loop-i.places now c.loop-i.i c.requires.0 c.read_action.ensures.kept c.loop-i.invariant.1 (if_ok_at c.read_action.result _ (λ n. ActionParts (dims c.args.d.characters c.args.d.domains.now) c.args.s.now now (9 * c.loop-i.i)) c.in_ok-n.was c.read_action.ensures.parts),
-     c.read_action.auto.places ∙ c.loop-i.invariant.2, c.loop-i.invariant.3)
+    let now = c.read_action.new.places in (
+      marking_more _ _ _ (λ i. 9 * i) _ _ _ _ c.loop-i.i _ c.loop-i.invariant.0 c.loop-i-test.true now c.read_action.ensures.starts (λ j l. c.read_action.ensures.kept (9 * j) (omega arith)) (λ k l. c.read_action.ensures.kept k (omega arith)) _ (c.read_action.ensures.answer ∙ ap shown c.in_ok-n.was),
+      actions_more (dims c.args.d.characters c.args.d.domains.now) c.args.s.now c.loop-i.places now c.loop-i.i c.requires.0 c.read_action.ensures.kept c.loop-i.invariant.1 (if_ok_at c.read_action.result _ (λ n. ActionParts (dims c.args.d.characters c.args.d.domains.now) c.args.s.now now (9 * c.loop-i.i)) c.in_ok-n.was c.read_action.ensures.parts),
+      c.read_action.auto.places ∙ c.loop-i.invariant.2,
+      c.loop-i.invariant.3,
+    )
 
 pub returns : goal.returns
 returns c =
     let whole = marking_whole _ _ _ _ _ _ _ _ _ _ c.loop-i.invariant.0 c.loop-i-test.false in
     record {
       answer = search (rules, counted-length, c.read_between.ensures, c.in_ok-count.was, whole);
-      found = (c.in_ok-count.first, c.read_between.ensures ∙ ap said c.in_ok-count.was, record {
-        starts = marking_all _ _ _ _ _ _ _ _ _ _ c.loop-i.invariant.0 c.loop-i-test.false;
-        parts = λ j l. c.loop-i.invariant.1 j (omega (arith, c.loop-i-test.false));
-      });
+      found = (
+        c.in_ok-count.first,
+        c.read_between.ensures ∙ ap said c.in_ok-count.was,
+        record {
+          starts = marking_all _ _ _ _ _ _ _ _ _ _ c.loop-i.invariant.0 c.loop-i-test.false;
+          parts = λ j l. c.loop-i.invariant.1 j (omega (arith, c.loop-i-test.false));
+        },
+      );
     }

@@ -13,5 +13,5 @@ pub returns : goal.returns
 returns c =
     let p = belief_at c.args.nodes in
     let beliefs = sym (many_told p c.args.d.characters c.args.s.now c.in_ok-beliefs.beliefs)
-        ∙ c.check_many.ensures (λ s n. mapped forget (p s n)) c.args.s.now (λ n r post. search rules) in
+    ∙ c.check_many.ensures (λ s n. mapped forget (p s n)) c.args.s.now (λ n r post. search rules) in
     search (rules, node-forget, c.check_values.ensures, c.in_ok-beliefs.was, beliefs)

@@ -16,6 +16,6 @@ returns-then-v-limit c = search (rules, tests, c.read_number.ensures, c.in_ok-v.
 pub returns-else-low-v : goal.returns-else-low-v
 unfolding between
 returns-else-low-v c = elim c.else-low-v.branch [
-  else-low-v-via-then-low-v+else-v-limit w ↦ search (rules, tests, c.read_number.ensures, c.in_ok-v.was, c.at.ensures, w.if-low-v.true, w.if-v-limit.false)
+  | else-low-v-via-then-low-v+else-v-limit w ↦ search (rules, tests, c.read_number.ensures, c.in_ok-v.was, c.at.ensures, w.if-low-v.true, w.if-v-limit.false)
   | else-low-v-via-else-low-v w ↦ search (rules, tests, c.read_number.ensures, c.in_ok-v.was, c.at.ensures, w.if-low-v.false)
-  ]
+]

@@ -17,8 +17,7 @@ pub returns : goal.returns
 returns c =
     let here : c.args.p.tables - c.args.p.block + c.args.p.block * c.args.id ≡ kept_at c.args.p c.args.id = ap (λ (x : ℕ). x - c.args.p.block + c.args.p.block * c.args.id) c.requires.0.laid.tabled in
     let count = ap (λ (q : ℕ). get_or c.args.work.now q 0) here in
-    let byte : (q : ℕ) → get_or c.args.work.now (c.args.p.tables - c.args.p.block + c.args.p.block * c.args.id + 1 + q) 0 ≡ get_or c.args.work.now (kept_at c.args.p c.args.id + 1 + q) 0 = λ q. ap (λ (x : ℕ). get_or c.args.work.now (x + 1 + q) 0) here in
-    (
+    let byte : (q : ℕ) → get_or c.args.work.now (c.args.p.tables - c.args.p.block + c.args.p.block * c.args.id + 1 + q) 0 ≡ get_or c.args.work.now (kept_at c.args.p c.args.id + 1 + q) 0 = λ q. ap (λ (x : ℕ). get_or c.args.work.now (x + 1 + q) 0) here in (
       λ e. kept_as c.args.p c.requires.0 c.args.id (omega (arith, c.if-id-eq0.false)) (omega (arith, c.if-p-from.false, ap (λ (k : ℕ). c.args.p.block * k) c.from.ensures)) (omega (arith, count, c.from-2.ensures, c.if-from-t.false))
           (λ q l. sym (byte q) ∙ sym (c.same_part.ensures.0 e q l)),
       λ e x. unset (sym e ∙ c.same_part.ensures.1 (λ q l. named_bytes c.args.p c.args.id c.requires.0 x.count x.same q l ∙ sym (byte q))),
