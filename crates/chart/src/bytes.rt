@@ -32,7 +32,7 @@ pub fn first_other(work: &[u8], a: usize, b: usize, f: usize) -> Option<usize>
     requires { (a + f ≤ length work.now) × (b + f ≤ length work.now) }
     ensures { Agrees (SameByte work.now a b) f result }
 {
-    // Rows are short: a loop over a few bytes is quicker than an iterator of two slices or their `==`.
+    // Rows are short, and a loop over a few bytes is quicker than `==` of the two slices.
     for q in 0..f {
         if work[a + q] != work[b + q] {
             return Some(q);

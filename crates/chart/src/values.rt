@@ -28,9 +28,8 @@ pub fn value_hash(work: &[u8], a: usize, f: usize) -> usize
     digest::<2>(work, a, f) % HASHES
 }
 
-// The class, of `count`, whose leading row has the values of row i. Only those of row i's hash are looked
-// at, of which `last` is the last one's number plus 1, and from `g.level` on stands such a number for the one before
-// each.
+// The class, of `count`, whose leading row has the values of row i. Only those of row i's hash are looked at, of which
+// `last` is the last one's number plus 1, and from `g.level` on stands such a number for the one before each.
 pub fn value_class(
     work: &[u8],
     t: Table,
