@@ -1,5 +1,5 @@
 -- Compare: what the checks leave, as matching two charts asks it, and what it gives. Assumes nothing.
-use Rattle.std.proofs.Common.{ℕ, ◌≤◌, ◌≡◌, refl, sym, ap, ap₂, ◌∙◌, subst, Bool, true, false, ◌&&◌, List, [], ◌∷◌, map}
+use Rattle.std.proofs.Common.{ℕ, ◌≤◌, ◌≡◌, refl, sym, ap, ap₂, ◌∙◌, subst, Bool, true, ◌&&◌, List, [], ◌∷◌, map}
 use Rattle.std.proofs.Common.{length, get_or, leb-true}
 use Rattle.pack.specs.Syntax.{Node, Pack}
 use Rattle.pack.specs.Reading.{Reply, gives, refuses, with, told}

@@ -16,7 +16,7 @@ use Rattle.chart.specs.Replies.{all_below, first_of, query_reply}
 use Rattle.chart.specs.Promises.{Asked}
 use Rattle.chart.specs.Duties.Look.{NodesRead, Lookable, Looked}
 use Rattle.chart.specs.Laws.Arguments.{and_true, below_valid}
-use Rattle.chart.specs.Laws.Checks.{counted, lent, checks, lent_told, pack_refused, Accepted, FirstRead, first_read, nodes_read, refused_by, accepted_by, left_alone, check_one}
+use Rattle.chart.specs.Laws.Checks.{counted, lent, lent_told, pack_refused, Accepted, FirstRead, first_read, nodes_read, refused_by, accepted_by, left_alone, check_one}
 
 module _ (pack chart chain : List ℕ) (fluent : ℕ) (work : List ℕ) where
   abbrev value_of : Pack → List (List Node) → Reply ℕ

@@ -13,7 +13,7 @@ use borrow.Author.Tests.{leb-true}
 use lib.Seq.{ext_get_or}
 use Rattle.pack.specs.Syntax.{Node, Theory, Pack}
 use Rattle.pack.specs.State.{State, meaning}
-use Rattle.pack.specs.Reading.{Reply, gives, refuses, with, told}
+use Rattle.pack.specs.Reading.{Reply, gives, refuses, told}
 use Rattle.pack.specs.Layout.{ChartFits}
 use Rattle.pack.specs.Refusals.{refusal_number, place_of}
 use Rattle.pack.specs.Duties.Said.{replied}

@@ -3,7 +3,7 @@ use Prim.Native.Nat.{ℕ}
 use mathlib.Core.Path.{◌≡◌, refl, sym, ap, ◌∙◌}
 use mathlib.Core.List.{List}
 use lib.ListN.{length}
-use Rattle.std.specs.Prelude.{Result, Ok, Err}
+use Rattle.std.specs.Prelude.{Ok, Err}
 use Rattle.pack.specs.Syntax.{Pack}
 use Rattle.pack.specs.Reading.{Reply, gives, refuses, with, told, whole}
 use Rattle.pack.specs.Grammar.{nodes_at, pack_of, chart_of, in_chart}

@@ -1,6 +1,6 @@
 -- The checks of a call, made one after the other, are `call`'s, whatever the number of charts: the first refusal, or
 -- the pack and the tables that were read. Assumes nothing.
-use Rattle.std.specs.Prelude.{ℕ, ◌<◌, ◌≤◌, ◌≡◌, Bool, ◌||◌, ltb, leb, Result, Ok, Err}
+use Rattle.std.specs.Prelude.{ℕ, ◌<◌, ◌≤◌, ◌≡◌, Bool, ◌||◌, ltb, leb, Result, Ok}
 use Rattle.std.proofs.Math.Path.{refl, ap, ap₂, subst}
 use Rattle.std.proofs.Common.{sym, ◌∙◌, arith, lt-ltb, le-leb, List, [], ◌∷◌, map}
 use Rattle.std.proofs.Math.Bool.{true, false}

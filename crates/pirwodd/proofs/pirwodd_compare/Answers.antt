@@ -1,5 +1,4 @@
 -- The call sees as much of the work buffer as the report allows; what it says is told. Assumes nothing.
-use Rattle.std.proofs.Common.{refl}
 use Rattle.pirwodd.proofs.Returned.{compare_returned}
 use Rattle.pirwodd.proofs.pirwodd_compare.Goals as goal
 

@@ -1,6 +1,5 @@
 -- The checks, and then the chart. Assumes nothing.
-use Rattle.std.proofs.Common.{rules, arith, sym, subst, ◌≡◌, Result, Ok, Err}
-use Rattle.pack.specs.Duties.Contents.{PackRead}
+use Rattle.std.proofs.Common.{rules, arith, sym, subst, ◌≡◌, Err}
 use Rattle.chart.specs.Promises.{Started}
 use Rattle.chart.proofs.StartCall.{begin_unread, begin_refused, begin_ready, begin_done}
 use Rattle.chart.proofs.start.start.Goals as goal
