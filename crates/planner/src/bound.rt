@@ -18,6 +18,7 @@ use pack::number::{Number, read_number};
 use pack::places::{ACTION, CHARACTER_UTILITIES};
 
 // Whether some rule, of those at a place, is above base.
+// `could_exceed` asks besides whether the rule could hold; one function of a closure for that would say it no shorter.
 pub fn can_exceed(pack: &[u8], at: usize, base: usize) -> bool
     requires { Readable rules_at pack.now at }
     ensures { Tells rules_at (exceeds base) pack.now at result }

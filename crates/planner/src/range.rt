@@ -18,6 +18,7 @@ use pack::places::{TRIGGER, TRIGGER_EFFECTS};
 use pack::test::{after_test, chain_of, fluent_of, kind_of, tested_value};
 
 // Whether some value from low to high meets a test of a kind: 0 is, 1 is not, 2 at least.
+// The kind is a byte, as `kind_of` of pack reads it.
 pub fn some_relates(kind: u8, low: u8, high: u8, value: u8) -> bool
     ensures { kind < 3 → result ≡ could_meet (kind_of kind) low high value }
 {
