@@ -25,7 +25,7 @@ pub fn can_exceed(pack: &[u8], at: usize, base: usize) -> bool
 {
     let mut n = at + 1;
     let count = usize::from(pack[at]);
-    for left in (0..count).rev() {
+    for i in 0..count {
         match read_number(pack, after_condition(pack, n)) {
             Number::Refused(_, _) => {
                 return false;

@@ -58,7 +58,7 @@ pub fn could_all(pack: &[u8], at: usize, lows: &[u8], highs: &[u8]) -> bool
 {
     let mut n = at + 1;
     let count = usize::from(pack[at]);
-    for left in (0..count).rev() {
+    for i in 0..count {
         if !could_pass(pack, n, lows, highs) {
             return false;
         }
@@ -75,11 +75,11 @@ pub fn could_hold(pack: &[u8], at: usize, lows: &[u8], highs: &[u8]) -> bool
 {
     let mut n = at + 1;
     let count = usize::from(pack[at]);
-    for left in (0..count).rev() {
+    for i in 0..count {
         if could_all(pack, n, lows, highs) {
             return true;
         }
-        if left == 0 {
+        if i + 1 == count {
             return false;
         }
         n = after_alternative(pack, n);
@@ -95,9 +95,9 @@ pub fn could_exceed(pack: &[u8], at: usize, lows: &[u8], highs: &[u8], base: usi
 {
     let mut n = at + 1;
     let count = usize::from(pack[at]);
-    for left in (0..count).rev() {
+    for i in 0..count {
         let could = could_hold(pack, n, lows, highs);
-        if !could && left == 0 {
+        if !could && i + 1 == count {
             return false;
         }
         match read_number(pack, after_condition(pack, n)) {
@@ -137,7 +137,7 @@ pub fn widen(pack: &[u8], at: usize, lows: &mut [u8], highs: &mut [u8])
 {
     let mut n = at + 1;
     let count = usize::from(pack[at]);
-    for left in (0..count).rev() {
+    for i in 0..count {
         widen_one(pack, n, lows, highs);
         n = after_effect(pack, n);
     }
