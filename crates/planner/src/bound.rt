@@ -18,13 +18,14 @@ use pack::number::read_number;
 use pack::places::{ACTION, CHARACTER_UTILITIES};
 
 // Whether some rule, of those at a place, is above base.
+// `could_exceed` asks besides whether the rule could hold; one function of a closure for that would say it no shorter.
 pub fn can_exceed(pack: &[u8], at: usize, base: usize) -> bool
     requires { Readable rules_at pack.now at }
     ensures { Tells rules_at (exceeds base) pack.now at result }
 {
     let mut n = at + 1;
     let count = usize::from(pack[at]);
-    for left in (0..count).rev() {
+    for i in 0..count {
         let Ok((value, next)) = read_number(pack, after_condition(pack, n)) else {
             return false;
         };

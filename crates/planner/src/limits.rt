@@ -32,6 +32,7 @@ pub struct Limits {
 // What stays the same through a call: a pack's counts, the foresight limit, how many bytes a slot of the work buffer
 // takes, where the memory begins behind the slots, how many entries it has for what is known of lists (and half as many
 // for steps), where its tables begin, and how many bytes each block takes that they are kept in.
+// The pack and its places go beside it: of a struct that lends them each contract would have to name the moment, twice.
 #[derive(Clone, Copy)]
 pub struct Context {
     pub actions: usize,

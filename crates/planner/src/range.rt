@@ -18,6 +18,7 @@ use pack::places::{TRIGGER, TRIGGER_EFFECTS};
 use pack::test::{after_test, chain_of, fluent_of, kind_of, tested_value};
 
 // Whether some value from low to high meets a test of a kind: 0 is, 1 is not, 2 at least.
+// The kind is a byte, as `kind_of` of pack reads it.
 pub fn some_relates(kind: u8, low: u8, high: u8, value: u8) -> bool
     ensures { kind < 3 → result ≡ could_meet (kind_of kind) low high value }
 {
@@ -57,7 +58,7 @@ pub fn could_all(pack: &[u8], at: usize, lows: &[u8], highs: &[u8]) -> bool
 {
     let mut n = at + 1;
     let count = usize::from(pack[at]);
-    for left in (0..count).rev() {
+    for i in 0..count {
         if !could_pass(pack, n, lows, highs) {
             return false;
         }
@@ -74,11 +75,11 @@ pub fn could_hold(pack: &[u8], at: usize, lows: &[u8], highs: &[u8]) -> bool
 {
     let mut n = at + 1;
     let count = usize::from(pack[at]);
-    for left in (0..count).rev() {
+    for i in 0..count {
         if could_all(pack, n, lows, highs) {
             return true;
         }
-        if left == 0 {
+        if i + 1 == count {
             return false;
         }
         n = after_alternative(pack, n);
@@ -94,9 +95,9 @@ pub fn could_exceed(pack: &[u8], at: usize, lows: &[u8], highs: &[u8], base: usi
 {
     let mut n = at + 1;
     let count = usize::from(pack[at]);
-    for left in (0..count).rev() {
+    for i in 0..count {
         let could = could_hold(pack, n, lows, highs);
-        if !could && left == 0 {
+        if !could && i + 1 == count {
             return false;
         }
         let Ok((value, next)) = read_number(pack, after_condition(pack, n)) else {
@@ -132,7 +133,7 @@ pub fn widen(pack: &[u8], at: usize, lows: &mut [u8], highs: &mut [u8])
 {
     let mut n = at + 1;
     let count = usize::from(pack[at]);
-    for left in (0..count).rev() {
+    for i in 0..count {
         widen_one(pack, n, lows, highs);
         n = after_effect(pack, n);
     }

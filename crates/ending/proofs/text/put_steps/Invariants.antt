@@ -1,5 +1,5 @@
 -- The lines of the steps passed are put. Assumes nothing.
-use Rattle.std.proofs.Common.{◌-◌, ◌*◌, ◌≤◌, ◌≡◌, length, take}
+use Rattle.std.proofs.Common.{◌*◌, ◌≤◌, ◌≡◌, length, take}
 use Rattle.ending.specs.Text.{steps}
 use Rattle.ending.specs.Put.{Put}
 use Rattle.ending.proofs.text.put_steps.Given as goal

@@ -1,4 +1,5 @@
 -- No rule so far is above base. Assumes nothing.
+use Prim.Native.Nat.{◌-◌}
 use mathlib.Core.Path.{sym, ap, ◌∙◌}
 use native.Mathlib.Omega.{arith}
 use Rattle.pack.specs.Duties.Said.{said}
@@ -10,15 +11,15 @@ use Rattle.planner.proofs.bound.can_exceed.Goals as goal
 
 pub returns-then-base-value : goal.returns-then-base-value
 returns-then-base-value c =
-    rules_told (run_stop (tiny_run rule_at _) _ _ c.loop-left.invariant (omega (arith, c.loop-left-test.true)) (λ k x rest g.
+    rules_told (run_stop (tiny_run rule_at _) _ _ c.loop-i.invariant (omega (arith, c.loop-i-test.true)) (λ k x rest g.
     let is = same_value (rule_number c.after_condition.ensures (c.read_number.ensures ∙ ap said c.in-Ok.is) k x g) in
     above_here _ x rest (omega (arith, is, c.if-base-value.true))))
 
-pub loop-left-preserved : goal.loop-left-preserved
-loop-left-preserved c =
-    run_on (tiny_run rule_at _) _ _ c.loop-left.invariant (omega (arith, c.loop-left-test.true)) _ (λ k x g. sym (same_place (rule_number c.after_condition.ensures (c.read_number.ensures ∙ ap said c.in-Ok.is) k x g))) (λ k x rest g.
+pub loop-i-preserved : goal.loop-i-preserved
+loop-i-preserved c =
+    run_on (tiny_run rule_at _) _ _ c.loop-i.invariant (omega (arith, c.loop-i-test.true)) _ (λ k x g. sym (same_place (rule_number c.after_condition.ensures (c.read_number.ensures ∙ ap said c.in-Ok.is) k x g))) (λ k x rest g.
     let is = same_value (rule_number c.after_condition.ensures (c.read_number.ensures ∙ ap said c.in-Ok.is) k x g) in
-    above_not _ x rest (omega (arith, is, c.if-base-value.false))) (omega (arith, c.loop-left-test.true))
+    above_not _ x rest (omega (arith, is, c.if-base-value.false))) (omega (arith, c.loop-i-test.true))
 
 pub overflow_add-n : goal.overflow_add-n
 overflow_add-n c = omega (arith, run_inside rule_at (rules_parts c.requires))
@@ -26,18 +27,18 @@ overflow_add-n c = omega (arith, run_inside rule_at (rules_parts c.requires))
 pub bounds-pack-at : goal.bounds-pack-at
 bounds-pack-at c = run_inside rule_at (rules_parts c.requires)
 
-pub loop-left-init : goal.loop-left-init
-loop-left-init c = run_start (tiny_run rule_at _) _ _ (omega arith) c.from-count.result (omega (arith, c.from-count.ensures))
+pub loop-i-init : goal.loop-i-init
+loop-i-init c = run_start (tiny_run rule_at _) _ _ (omega arith) (c.from-count.result - 0) (omega (arith, c.from-count.ensures))
 
 pub after_condition-requires : goal.after_condition-requires
 after_condition-requires c =
-    rule_readable (run_next rule_at (rules_parts c.requires) c.loop-left.invariant (omega (arith, c.loop-left-test.true)))
+    rule_readable (run_next rule_at (rules_parts c.requires) c.loop-i.invariant (omega (arith, c.loop-i-test.true)))
 
 -- the number is there
 pub returns-in_default : goal.returns-in_default
 returns-in_default c =
-    rules_told (run_stop (tiny_run rule_at _) _ _ c.loop-left.invariant (omega (arith, c.loop-left-test.true)) (λ k x rest g. never (rule_number c.after_condition.ensures (c.read_number.ensures ∙ ap said c.in_default.is) k x g)))
+    rules_told (run_stop (tiny_run rule_at _) _ _ c.loop-i.invariant (omega (arith, c.loop-i-test.true)) (λ k x rest g. never (rule_number c.after_condition.ensures (c.read_number.ensures ∙ ap said c.in_default.is) k x g)))
 
 pub returns : goal.returns
 returns c =
-    rules_told (run_none (tiny_run rule_at _) _ _ c.loop-left.invariant (omega (arith, c.loop-left-test.false)) (λ k. above_none _))
+    rules_told (run_none (tiny_run rule_at _) _ _ c.loop-i.invariant (omega (arith, c.loop-i-test.false)) (λ k. above_none _))
