@@ -4,7 +4,7 @@ use Rattle.std.proofs.Common.{length, get_or, leb-true}
 use Rattle.pack.specs.Syntax.{Node, Pack}
 use Rattle.pack.specs.Reading.{Reply, gives, refuses, with, told}
 use Rattle.pack.specs.Refusals.{refusal_number, place_of}
-use Rattle.pack.specs.Duties.Said.{replied}
+use Rattle.pack.specs.Refusals.{replied}
 use Rattle.pack.specs.Duties.Contents.{PackRead}
 use Rattle.pack.specs.declared.contents.Contents.{Contents}
 use Rattle.std.specs.Prelude.{Option, Result, Ok, Err}

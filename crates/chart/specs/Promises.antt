@@ -4,7 +4,7 @@
 use Rattle.std.specs.Prelude.{ℕ, ◌≡◌, List, length, Option, Some, None, Result, Ok, Err}
 use Rattle.pack.specs.Reading.{Reply, gives, refuses, told}
 use Rattle.pack.specs.Refusals.{refusal_number, place_of}
-use Rattle.pack.specs.Duties.Said.{replied}
+use Rattle.pack.specs.Refusals.{replied}
 use Rattle.pack.specs.declared.refusal.Refusal.{Refusal}
 use Rattle.chart.specs.declared.Difference as found
 use Rattle.chart.specs.Compare.{Verdict, same, differ}

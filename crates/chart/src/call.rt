@@ -2,7 +2,7 @@
 // in that order, and hands the first refusal on.
 ghost use Rattle.std.specs.Prelude.{◌≡◌, ◌&&◌, ltb, leb};
 ghost use Rattle.pack.specs.Reading.{gives, refuses, pick};
-ghost use Rattle.pack.specs.Duties.Said.{replied};
+ghost use Rattle.pack.specs.Refusals.{replied};
 ghost use Rattle.chart.specs.Replies.{all_below};
 
 use pack::refusal::Refusal;

@@ -1,5 +1,6 @@
 -- Why something is refused: each case's number and place, as document 01's table has them.
-use Rattle.std.specs.Prelude.{ℕ, ◌+◌}
+use Rattle.std.specs.Prelude.{ℕ, ◌+◌, Result, Ok, Err}
+use Rattle.pack.specs.Reading.{Reply, gives, refuses}
 use Rattle.pack.specs.declared.refusal.Fault.{Fault}
 use Rattle.pack.specs.declared.refusal.Fault.TheVariants.{Ends, Form, Limit, Absent, Blank, Order, After}
 use Rattle.pack.specs.declared.refusal.Stop.{Stop}
@@ -37,3 +38,8 @@ abbrev pub place_of : Refusal → ℕ
 place_of (why.Pack flaw) = flaw.at
 place_of (why.Chart flaw) = flaw.at
 place_of r = 0
+
+-- an answer, or the number and place of a refusal
+abbrev pub replied : {A : Type 0} → Result A Refusal → Reply A
+replied (Ok a) = gives a
+replied (Err why) = refuses (refusal_number why) (place_of why)

@@ -4,7 +4,8 @@ ghost use Rattle.std.specs.Prelude.{◌≡◌, length};
 ghost use Rattle.pack.specs.Reading.{mapped, many, told, whole};
 ghost use Rattle.pack.specs.Number.{belief_at};
 ghost use Rattle.pack.specs.Grammar.{node_at, nodes_at, in_chart};
-ghost use Rattle.pack.specs.Duties.Said.{said, shown, forget, replied};
+ghost use Rattle.pack.specs.Refusals.{replied};
+ghost use Rattle.pack.specs.Duties.Said.{said, shown, forget};
 ghost use Rattle.pack.specs.Duties.Answer.{dims, values_at};
 
 use crate::condition::check_item;

@@ -7,7 +7,7 @@ use native.Mathlib.Omega.{arith}
 use lib.ListN.{length, take, drop, set, replicate, length-append, length-replicate}
 use Rattle.pack.specs.Reading.{Reply, gives, refuses, pick, told}
 use Rattle.std.specs.Prelude.{Option, Some, None, Result, Ok, Err}
-use Rattle.pack.specs.Duties.Said.{replied}
+use Rattle.pack.specs.Refusals.{replied}
 use Rattle.pack.specs.declared.refusal.Refusal.{Refusal}
 use Rattle.chart.specs.declared.Difference as chart
 use Rattle.chart.specs.Call.{fits, work_room, by_checks, cleared, work_after}

@@ -20,7 +20,7 @@ use Rattle.pack.specs.Laws.PackExact.{pack_exactly, fits_limits, chart_exactly}
 use Rattle.pack.specs.Laws.Reading.{never_gives}
 use Rattle.pack.specs.declared.refusal.Refusal.{Refusal}
 use Rattle.pack.specs.declared.refusal.Refusal.TheVariants.{NoEnding}
-use Rattle.pack.specs.Duties.Said.{replied}
+use Rattle.pack.specs.Refusals.{replied}
 use Rattle.chart.specs.declared.Difference as chart
 use Rattle.chart.specs.Chart.{ChartOf}
 use Rattle.chart.specs.Compare.{Verdict, same, differ, Differ, Compared}

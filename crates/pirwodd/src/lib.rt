@@ -4,7 +4,7 @@
 
 ghost use Rattle.std.specs.Prelude.{◌≡◌, List, ℕ, [], ◌∷◌, set, leb};
 ghost use Rattle.pack.specs.Reading.{pick, told};
-ghost use Rattle.pack.specs.Duties.Said.{replied};
+ghost use Rattle.pack.specs.Refusals.{replied};
 ghost use Rattle.pirwodd.specs.Report.{report_room, put, number_of, entries};
 ghost use Rattle.pirwodd.specs.Exports.{one, verdict_numbers, StartReturned, QueryReturned, CompareReturned};
 ghost use Rattle.pirwodd.specs.Exports.{StepReturned, ExplainedReturned, SearchReturned};

@@ -14,7 +14,7 @@ use Rattle.pack.specs.Reading.{Reply, gives, refuses, with, told}
 use Rattle.pack.specs.Grammar.{pack_of}
 use Rattle.pack.specs.Duties.Copy.{TableCopied}
 use Rattle.pack.specs.Refusals.{refusal_number, place_of}
-use Rattle.pack.specs.Duties.Said.{replied}
+use Rattle.pack.specs.Refusals.{replied}
 use Rattle.pack.specs.Duties.Contents.{PackRead}
 use Rattle.pack.specs.Duties.Table.{Above}
 use Rattle.pack.specs.Laws.Exact.{Bytes}

@@ -16,7 +16,7 @@ use Rattle.pack.specs.State.{State, meaning}
 use Rattle.pack.specs.Reading.{Reply, gives, refuses, told}
 use Rattle.pack.specs.Layout.{ChartFits}
 use Rattle.pack.specs.Refusals.{refusal_number, place_of}
-use Rattle.pack.specs.Duties.Said.{replied}
+use Rattle.pack.specs.Refusals.{replied}
 use Rattle.pack.specs.Duties.Contents.{PackRead}
 use Rattle.pack.specs.Laws.Exact.{Bytes}
 use Rattle.pack.specs.Laws.PackExact.{pack_exactly}

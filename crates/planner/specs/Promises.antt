@@ -3,7 +3,7 @@
 use Rattle.std.specs.Prelude.{ℕ, ◌≡◌, Bool, List, length, Result, Ok, Err}
 use Rattle.pack.specs.Reading.{Reply, gives, refuses, told}
 use Rattle.pack.specs.Refusals.{refusal_number, place_of}
-use Rattle.pack.specs.Duties.Said.{replied}
+use Rattle.pack.specs.Refusals.{replied}
 use Rattle.pack.specs.declared.refusal.Refusal.{Refusal}
 use Rattle.chart.specs.Call.{result_after, work_after}
 use Rattle.planner.specs.declared.Ending as found

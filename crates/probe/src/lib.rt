@@ -3,7 +3,7 @@
 #![tactic(auto)]
 
 ghost use Rattle.std.specs.Prelude.{◌≤◌, length, ◌≡◌};
-ghost use Rattle.pack.specs.Duties.Said.{replied};
+ghost use Rattle.pack.specs.Refusals.{replied};
 ghost use Rattle.probe.specs.Report.{counts, chart_count, PackProbed, ChartProbed};
 
 use pack::contents::{Contents, read_contents, read_pack};

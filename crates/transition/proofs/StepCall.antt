@@ -12,7 +12,7 @@ use Rattle.pack.specs.Reading.{Reply, gives, refuses, with, told}
 use Rattle.pack.specs.Grammar.{pack_of}
 use Rattle.pack.specs.Layout.{ChartFits}
 use Rattle.pack.specs.Refusals.{refusal_number, place_of}
-use Rattle.pack.specs.Duties.Said.{replied}
+use Rattle.pack.specs.Refusals.{replied}
 use Rattle.pack.specs.Duties.Contents.{PackRead}
 use Rattle.pack.specs.Laws.Exact.{Bytes}
 use Rattle.pack.specs.declared.contents.Contents.{Contents}

@@ -4,7 +4,7 @@ use Rattle.std.specs.Prelude.{ℕ, ◌≡◌, List, length, Result}
 use Rattle.pack.specs.Reading.{told}
 use Rattle.pack.specs.declared.refusal.Refusal.{Refusal}
 use Rattle.chart.specs.Call.{result_after, work_after}
-use Rattle.pack.specs.Duties.Said.{replied}
+use Rattle.pack.specs.Refusals.{replied}
 use Rattle.transition.specs.Replies.{step_reply}
 
 -- Step(pack, chart, action, chart out, work)

@@ -9,7 +9,8 @@ use Rattle.pack.specs.Syntax.{Theory, Node, Pack}
 use Rattle.pack.specs.Reading.{done, many, Reply, gives, refuses, with, told, pick, whole}
 use Rattle.pack.specs.Number.{between}
 use Rattle.pack.specs.Grammar.{Dimensions, node_at, nodes_at, in_chart, pack_of, chart_of, dimensions}
-use Rattle.pack.specs.Duties.Said.{forget, replied}
+use Rattle.pack.specs.Duties.Said.{forget}
+use Rattle.pack.specs.Refusals.{replied}
 use Rattle.pack.specs.Duties.Answer.{dims, sizes_of}
 use Rattle.pack.specs.Duties.Contents.{PackRead, PackFound}
 use Rattle.pack.specs.declared.refusal.Refusal.{Refusal}

@@ -6,7 +6,8 @@ use Rattle.pack.specs.Syntax.{Action, Trigger, Theory, Pack}
 use Rattle.pack.specs.Reading.{done, Reader, bind, mapped, many, gives, told}
 use Rattle.pack.specs.Grammar.{Dimensions, node_at, nodes_at, pack_at, condition_at}
 use Rattle.pack.specs.Grammar.{effects_at, consenters_at, rules_at, theory_at, pack_of}
-use Rattle.pack.specs.Duties.Said.{said, forget, replied}
+use Rattle.pack.specs.Refusals.{replied}
+use Rattle.pack.specs.Duties.Said.{said, forget}
 use Rattle.pack.specs.Duties.Answer.{dims, sizes_of}
 use Rattle.pack.specs.declared.refusal.Flaw.{Flaw}
 use Rattle.pack.specs.declared.refusal.Refusal.{Refusal}

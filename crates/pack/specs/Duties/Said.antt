@@ -1,9 +1,8 @@
--- What the code's answers say, as readings and replies.
+-- What the code's answers say, as readings.
 use Rattle.std.specs.Prelude.{ℕ, Result, Ok, Err}
-use Rattle.pack.specs.Reading.{Reading, done, refused, Reply, gives, refuses}
-use Rattle.pack.specs.Refusals.{number_of, refusal_number, place_of}
+use Rattle.pack.specs.Reading.{Reading, done, refused}
+use Rattle.pack.specs.Refusals.{number_of}
 use Rattle.pack.specs.declared.refusal.Flaw.{Flaw}
-use Rattle.pack.specs.declared.refusal.Refusal.{Refusal}
 
 -- a value and the place after it, or a refusal
 abbrev pub said : {A : Type 0} → Result (A × ℕ) Flaw → Reading A
@@ -28,8 +27,3 @@ shown (Err flaw) = refused (number_of flaw.fault) flaw.at
 -- a check says nothing of what it read
 abbrev pub forget : {A : Type 0} → A → Unit {0}
 forget a = tt
-
--- an answer, or the number and place of a refusal
-abbrev pub replied : {A : Type 0} → Result A Refusal → Reply A
-replied (Ok a) = gives a
-replied (Err why) = refuses (refusal_number why) (place_of why)

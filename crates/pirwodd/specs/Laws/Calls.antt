@@ -7,7 +7,7 @@ use Rattle.std.proofs.Math.ListN.{length, drop}
 use Rattle.pack.specs.Reading.{Reply, gives, refuses, told, pick}
 use Rattle.pack.specs.Laws.Reading.{never_gives, same_gift, same_number}
 use Rattle.pack.specs.Refusals.{number_of, stop_number, refusal_number, place_of}
-use Rattle.pack.specs.Duties.Said.{replied}
+use Rattle.pack.specs.Refusals.{replied}
 use Rattle.pack.specs.declared.refusal.Fault.{Fault}
 use Rattle.pack.specs.declared.refusal.Fault.TheVariants as faults
 use Rattle.pack.specs.declared.refusal.Stop.{Stop}

@@ -1,6 +1,6 @@
 -- A refused pack is the answer; under an accepted one the chart is read with the dimensions that were found. Assumes nothing.
 use Rattle.std.proofs.Common.{rules, sym, subst, ◌≡◌, Err}
-use Rattle.pack.specs.Duties.Said.{replied}
+use Rattle.pack.specs.Refusals.{replied}
 use Rattle.probe.proofs.Replies.{refused, accepted, count_read, count_refused}
 use Rattle.probe.specs.Report.{chart_count}
 use Rattle.probe.proofs.count_nodes.Goals as goal

@@ -4,7 +4,7 @@ use Rattle.pack.specs.Syntax.{Node, Theory}
 use Rattle.pack.specs.Layout.{ChartFits}
 use Rattle.pack.specs.Reading as reading
 use Rattle.chart.specs.Call.{chart_room, work_room, result_after, cleared}
-use Rattle.pack.specs.Duties.Said.{replied}
+use Rattle.pack.specs.Refusals.{replied}
 use Rattle.chart.specs.Duties.Look.{NodesRead}
 use Rattle.pack.specs.declared.refusal.Refusal.{Refusal}
 use Rattle.transition.specs.Step.{Outcome, leaves}

@@ -1,6 +1,6 @@
 -- The checks, and then the verdict. Assumes nothing.
 use Rattle.std.proofs.Common.{rules, sym, ap, subst, ◌≡◌, ◌∙◌, Err}
-use Rattle.pack.specs.Duties.Said.{replied}
+use Rattle.pack.specs.Refusals.{replied}
 use Rattle.chart.specs.Promises.{Comparison}
 use Rattle.chart.specs.Laws.Checks.{counted}
 use Rattle.chart.proofs.CompareCall.{compare_unread, compare_first, compare_second, compare_lent, compare_ready, compare_done}

@@ -1,6 +1,6 @@
 -- The checks, and then the value. Assumes nothing.
 use Rattle.std.proofs.Common.{rules, sym, ap, subst, ◌≡◌, ◌∙◌, Err}
-use Rattle.pack.specs.Duties.Said.{replied}
+use Rattle.pack.specs.Refusals.{replied}
 use Rattle.chart.specs.Promises.{Asked}
 use Rattle.chart.specs.Laws.Checks.{counted}
 use Rattle.chart.proofs.QueryCall.{ask_unread, ask_chart, ask_lent, ask_look, ask_value}

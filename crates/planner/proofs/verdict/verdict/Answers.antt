@@ -1,6 +1,6 @@
 -- The checks, and then the verdict. Assumes nothing.
 use Rattle.std.proofs.Common.{rules, arith, sym, ap, refl, subst, ◌≡◌, ◌∙◌, Err}
-use Rattle.pack.specs.Duties.Said.{replied}
+use Rattle.pack.specs.Refusals.{replied}
 use Rattle.chart.specs.Laws.Checks.{counted}
 use Rattle.planner.specs.Promises.{Judgement}
 use Rattle.planner.proofs.ExplainedCall.{judge_unread, judge_chart, judge_lent, judge_able, judge_done, judge_sizes, judge_ranges}

@@ -1,6 +1,6 @@
 -- The checks, and then the step. Assumes nothing.
 use Rattle.std.proofs.Common.{rules, arith, sym, ap, subst, ◌≡◌, ◌∙◌, Err}
-use Rattle.pack.specs.Duties.Said.{replied}
+use Rattle.pack.specs.Refusals.{replied}
 use Rattle.chart.specs.Laws.Checks.{counted}
 use Rattle.transition.specs.Promises.{Stepped}
 use Rattle.transition.proofs.StepCall.{step_unread, step_chart, step_lent, step_able, step_done}
