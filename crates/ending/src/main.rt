@@ -27,6 +27,7 @@ fn read_full(input: &mut Stdin, buffer: &mut [u8]) -> usize
     ensures { result ≤ length buffer.new }
 {
     let mut done = 0;
+    // How much a read gives is known only then.
     while done < buffer.len() {
         let count = read_some(input, &mut buffer[done..]);
         if count == 0 {

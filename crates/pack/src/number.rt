@@ -6,13 +6,6 @@ ghost use Rattle.pack.specs.Duties.Said.{said};
 
 use crate::refusal::{Fault, Flaw};
 
-// A byte as a number as wide as places and counts.
-pub fn wide(x: u8) -> usize
-    ensures { x ≡ result }
-{
-    x as usize
-}
-
 // The number that starts at a position, and the place after it: groups of seven bits, lowest first, at most three
 // bytes, shortest form, at most 65,535.
 pub fn read_number(s: &[u8], at: usize) -> Result<(usize, usize), Flaw>

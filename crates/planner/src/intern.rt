@@ -172,6 +172,7 @@ pub fn find(work: &[u8], p: Context, t: Table, at: usize) -> Option<usize>
     ensures { Names result (FoundOn p work.now t at) }
 {
     let mut id = usize::from(work[at]);
+    // The ids stand on a chain, so that no range has them.
     while 0 < id {
         if has_id(work, p, t, id) {
             return Some(id);

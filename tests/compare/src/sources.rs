@@ -20,24 +20,33 @@ pub struct Off {
 }
 
 const STEPS: Edit = ("planner/steps.rs", "if step_is(work, at, id, root, action) {", "if false {");
-const EXPLAINED: Edit = ("planner/explain.rs", "if known == 4 {", "if known == 9 {");
-const UNEXPLAINED: Edit = ("planner/explain.rs", "if known == 5 {", "if known == 9 {");
-const A_LIST: Edit = ("planner/explain.rs", "if known == 1 {", "if known == 9 {");
-const NO_LIST: Edit = ("planner/explain.rs", "if known == 2 {", "if known == 9 {");
-const AUTHORS: Edit = ("planner/search.rs", "if recall(work, p, slot, key) == 3 {", "if false {");
+const EXPLAINED: Edit = (
+    "planner/explain.rs",
+    "if let Some(Known::Explained(verdict)) = recall(work, p, slot, key) {",
+    "if let Some(Known::Explained(verdict)) = recall(work, p, slot, key).filter(|_| false) {",
+);
+const REACHED: Edit = (
+    "planner/explain.rs",
+    "if let Some(Known::Reached(found)) = recall(work, p, slot, key) {",
+    "if let Some(Known::Reached(found)) = recall(work, p, slot, key).filter(|_| false) {",
+);
+const AUTHORS: Edit =
+    ("planner/search.rs", "if let Some(Known::NoEnding) = recall(work, p, slot, key) {", "if false {");
 const REPEATS: Edit = ("planner/search.rs", "if repeats(work, p, slot, ahead.done) {", "if false {");
-const NO_REASON: Edit = ("planner/explain.rs", "if pointless(pack, places, p, work, slot, d) {", "if false {");
+const NO_REASON: Edit =
+    ("planner/explain.rs", "if d.nesting.0 == 0 || pointless(pack, places, p, work, slot, d) {", "if d.nesting.0 == 0 {");
 const NO_ENDING: Edit =
     ("planner/search.rs", "if !can_exceed(pack, places[UTILITIES] as usize, g.base) {", "if false {");
-const CONDITIONS: Edit = ("planner/prune.rs", "if !may {", "if false {");
-const LOOK: Edit = ("planner/prune.rs", "if 0 < h.left {", "if true {");
+const CONDITIONS: Edit =
+    ("planner/prune.rs", "if !holds(pack, places[ACTION * x] as usize, work, t, 0) {", "if false {");
+const LOOK: Edit = ("planner/prune.rs", "0 < h.left || could_leave(pack, places, p, work, t, x, h)", "true");
 
 pub const NOTHING_OFF: Off = Off { name: "nothing", edits: &[] };
 
 pub const OFF: [Off; 9] = [
     Off { name: "memory of steps", edits: &[STEPS] },
-    Off { name: "memory of verdicts", edits: &[EXPLAINED, UNEXPLAINED] },
-    Off { name: "memory of characters' lists", edits: &[A_LIST, NO_LIST] },
+    Off { name: "memory of verdicts", edits: &[EXPLAINED] },
+    Off { name: "memory of characters' lists", edits: &[REACHED] },
     Off { name: "memory of the author's lists", edits: &[AUTHORS] },
     Off { name: "repeats on the author's path", edits: &[REPEATS] },
     Off { name: "bound on utilities", edits: &[NO_REASON, NO_ENDING] },
@@ -46,7 +55,7 @@ pub const OFF: [Off; 9] = [
     Off {
         name: "all of them",
         edits: &[
-            STEPS, EXPLAINED, UNEXPLAINED, A_LIST, NO_LIST, AUTHORS, REPEATS, NO_REASON, NO_ENDING, CONDITIONS, LOOK,
+            STEPS, EXPLAINED, REACHED, AUTHORS, REPEATS, NO_REASON, NO_ENDING, CONDITIONS, LOOK,
         ],
     },
 ];
@@ -88,7 +97,7 @@ fn main() {
 "#;
 
 const COUNTER: &str = "pub static STEPS: std::sync::atomic::AtomicU64 = std::sync::atomic::AtomicU64::new(0);\n\n";
-const COUNT: &str = "{\n    STEPS.fetch_add(1, std::sync::atomic::Ordering::Relaxed);\n    let may =";
+const COUNT: &str = "{\n    STEPS.fetch_add(1, std::sync::atomic::Ordering::Relaxed);\n    if !holds(";
 
 /// Builds the program in a folder with something turned off; its path.
 pub fn build(repository: &Path, folder: &Path, off: &Off) -> Result<PathBuf> {
@@ -97,7 +106,7 @@ pub fn build(repository: &Path, folder: &Path, off: &Off) -> Result<PathBuf> {
         translate(&repository.join("crates").join(name).join("src"), &folder.join(name))?;
     }
     change(&folder.join("transition/step.rs"), "pub fn step_slot(", &format!("{COUNTER}pub fn step_slot("))?;
-    change(&folder.join("transition/step.rs"), "{\n    let may =", COUNT)?;
+    change(&folder.join("transition/step.rs"), "{\n    if !holds(", COUNT)?;
     for (file, old, new) in off.edits {
         change(&folder.join(file), old, new)?;
     }
@@ -138,7 +147,7 @@ fn ends(ghost: &str) -> Option<bool> {
     let closed = |open, close| ghost.matches::<char>(open).count() == ghost.matches::<char>(close).count();
     if begins(&["ghost use "]) {
         Some(ghost.ends_with(';'))
-    } else if begins(&["requires ", "ensures "]) {
+    } else if begins(&["ghost ", "requires ", "ensures "]) {
         Some(closed('{', '}'))
     } else if begins(&["#![tactic(", "#[tactic(", "#[cycle("]) {
         Some(closed('[', ']'))
