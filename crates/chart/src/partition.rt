@@ -17,7 +17,7 @@ use crate::values::{Regions, value_level};
 use pack::table::Table;
 
 // Whether the beliefs of each of the c characters, from a on and from b on, are of one class. The classes stand from k
-// on.
+// on. A loop of its own beside `first_other`: a closure that takes a place to what is compared there is no shorter.
 pub fn same_classes(work: &[u8], a: usize, b: usize, c: usize, k: usize) -> bool
     requires rows { (a + c ≤ length work.now) × (b + c ≤ length work.now) }
     requires numbers { (d : ℕ) → d < c
