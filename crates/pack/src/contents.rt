@@ -2,7 +2,7 @@
 //
 // Places are marked so that no condition is looked for by reading the pack again. Start, Query and Compare need none
 // and read by `read_contents`, of which nothing can see the places, so that the compiled code has none.
-ghost use Rattle.std.specs.Prelude.{◌≤◌, length, ◌≡◌, take};
+ghost use Rattle.std.specs.Prelude.{◌≤◌, length, ◌≡◌, take, OnErr};
 ghost use Rattle.pack.specs.Duties.Answer.{HeadRead};
 ghost use Rattle.pack.specs.Duties.Answer.{dims};
 ghost use Rattle.pack.specs.Duties.Places.{places_room, Within};
@@ -19,11 +19,14 @@ use crate::refusal::{Fault, Flaw, Refusal};
 pub fn read_head<'a>(r: &mut Reader<'a>) -> Result<Head, Flaw>
     ensures reads { HeadRead r.old.src.now r.old.at (placed result r.new.at) }
     ensures same { r.new.src ≡ r.old.src }
+    ensures stays { OnErr result (r.new.at ≡ r.old.at) }
 {
-    r.number(1, 2)?;
-    let characters = r.number(1, 7)?;
-    let fluents = r.number(1, 25)?;
-    let domains = r.domains(fluents)?;
+    let mut ahead = *r;
+    ahead.number(1, 2)?;
+    let characters = ahead.number(1, 7)?;
+    let fluents = ahead.number(1, 25)?;
+    let domains = ahead.domains(fluents)?;
+    *r = ahead;
     Ok(Head {
         characters,
         domains,
@@ -47,10 +50,13 @@ pub fn read_theory<'a, 'b>(
     ensures reads { TheoryRead (dims d.entry.characters d.entry.domains.now) r.old.src.now r.old.at
         places.new (placed result r.new.at) }
     ensures same { r.new.src ≡ r.old.src }
+    ensures stays { OnErr result (r.new.at ≡ r.old.at) }
 {
-    let actions = r.actions(d, places)?;
-    let triggers = r.triggers(d, places)?;
-    r.utilities(d, places)?;
+    let mut ahead = *r;
+    let actions = ahead.actions(d, places)?;
+    let triggers = ahead.triggers(d, places)?;
+    ahead.utilities(d, places)?;
+    *r = ahead;
     Ok(Counts { actions, triggers })
 }
 

@@ -1,7 +1,7 @@
 // The pack reader: the bytes that were lent and a position in them. It hands out number after number and part after
 // part, and stands behind what it handed out; where that is refused it stays. Its functions are thin: each has one on
 // the slice and the position do the work.
-ghost use Rattle.std.specs.Prelude.{◌≤◌, length, ◌≡◌};
+ghost use Rattle.std.specs.Prelude.{◌≤◌, length, ◌≡◌, OnErr};
 ghost use Rattle.pack.specs.Reading.{many, mapped};
 ghost use Rattle.pack.specs.Number.{between};
 ghost use Rattle.pack.specs.Grammar.{node_at};
@@ -37,6 +37,7 @@ impl<'a> Reader<'a> {
     pub fn number(&mut self, low: usize, limit: usize) -> Result<usize, Flaw>
         ensures reads { between low limit 3 self.old.src.now self.old.at ≡ said (placed result self.new.at) }
         ensures same { self.new.src ≡ self.old.src }
+        ensures stays { OnErr result (self.new.at ≡ self.old.at) }
     {
         let (number, next) = read_between(self.src, self.at, low, limit, Fault::Limit)?;
         self.at = next;
@@ -48,6 +49,7 @@ impl<'a> Reader<'a> {
         requires { fluents ≤ 24 }
         ensures reads { DomainsRead self.old.src.now self.old.at fluents (placed result self.new.at) }
         ensures same { self.new.src ≡ self.old.src }
+        ensures stays { OnErr result (self.new.at ≡ self.old.at) }
     {
         let (domains, after) = read_domains(self.src, self.at, fluents)?;
         self.at = after;
@@ -59,6 +61,7 @@ impl<'a> Reader<'a> {
         ensures reads { mapped forget (many (node_at (dims d.entry.characters d.entry.domains.now) nodes) nodes
             self.old.src.now self.old.at) ≡ said (placed result self.new.at) }
         ensures same { self.new.src ≡ self.old.src }
+        ensures stays { OnErr result (self.new.at ≡ self.old.at) }
     {
         self.at = check_rows(self.src, self.at, d, nodes)?;
         Ok(())
@@ -70,6 +73,7 @@ impl<'a> Reader<'a> {
         ensures reads { ActionsRead (dims d.entry.characters d.entry.domains.now) self.old.src.now self.old.at
             places.new (placed result self.new.at) }
         ensures same { self.new.src ≡ self.old.src }
+        ensures stays { OnErr result (self.new.at ≡ self.old.at) }
     {
         let (actions, after) = read_actions(self.src, self.at, d, places)?;
         self.at = after;
@@ -82,6 +86,7 @@ impl<'a> Reader<'a> {
         ensures reads { TriggersRead (dims d.entry.characters d.entry.domains.now) self.old.src.now self.old.at
             places.old places.new (placed result self.new.at) }
         ensures same { self.new.src ≡ self.old.src }
+        ensures stays { OnErr result (self.new.at ≡ self.old.at) }
     {
         let (triggers, after) = read_triggers(self.src, self.at, d, places)?;
         self.at = after;
@@ -94,6 +99,7 @@ impl<'a> Reader<'a> {
         ensures reads { UtilitiesRead (dims d.entry.characters d.entry.domains.now) self.old.src.now self.old.at
             places.old places.new (passed_to result self.new.at) }
         ensures same { self.new.src ≡ self.old.src }
+        ensures stays { OnErr result (self.new.at ≡ self.old.at) }
     {
         self.at = read_utilities(self.src, self.at, d, places)?;
         Ok(())
