@@ -35,7 +35,7 @@ use Rattle.chart.specs.Laws.LookedUp.{cleared_all}
 use Rattle.chart.specs.Laws.Checks.{counted, lent, lent_told, pack_refused, Accepted, FirstRead, first_read, nodes_read, refused_by, accepted_by, left_alone, check_one}
 use Rattle.transition.specs.Laws.Loaded.{read_tabled}
 use Rattle.transition.specs.Laws.Loaded.{short-pack}
-use Rattle.planner.specs.declared.foreseen.Foreseen.{Foreseen}
+use Rattle.planner.specs.declared.limits.Foresight.{Foresight}
 use Rattle.planner.specs.declared.limits.Context.{Context}
 use Rattle.planner.specs.Ending.{Explained}
 use Rattle.planner.specs.Answers.{explained_table}
@@ -177,8 +177,8 @@ module _ (pack chart : List ℕ) (c a K e : ℕ) (work : List ℕ) where
             let (who, what, low, high, nested) = judge_ranges in
             (omega (arith, small.characters, x.found.characters), omega (arith, mul-le-mul_left (1 + K) nested, mul-le-mul_right 3 high))
 
-        -- laid out by a foresight limit that is known to be one
-        module _ (f : Foreseen) (seen : f.actions ≡ K) where
+        -- laid out by the foresight limit
+        module _ (f : Foresight) (seen : f.0 ≡ K) where
           abbrev pub context : Context
           context = laid_out p f (1 + (1 + K) * e)
 
@@ -199,14 +199,14 @@ module _ (pack chart : List ℕ) (c a K e : ℕ) (work : List ℕ) where
                 room = leb-true work_room (length work) x.enough_there;
               }
 
-          pub judge_able : (h : Context) → h ≡ context → Judgeable pack places h chart n c a h.foresight.actions e work
-          judge_able h made = subst (λ (h : Context). Judgeable pack places h chart n c a h.foresight.actions e work) (sym made) (subst (λ (k : ℕ). Judgeable pack places context chart n c a k e work) (sym seen) (theory, (first.table, ready)))
+          pub judge_able : (h : Context) → h ≡ context → Judgeable pack places h chart n c a h.foresight.0 e work
+          judge_able h made = subst (λ (h : Context). Judgeable pack places h chart n c a h.foresight.0 e work) (sym made) (subst (λ (k : ℕ). Judgeable pack places context chart n c a k e work) (sym seen) (theory, (first.table, ready)))
 
-          pub judge_done : (h : Context) → h ≡ context → (now : List ℕ) (v : Bool) → VerdictOf pack places h chart n c a h.foresight.actions e work now v → Judgement pack chart c a K e work now (Ok v)
+          pub judge_done : (h : Context) → h ≡ context → (now : List ℕ) (v : Bool) → VerdictOf pack places h chart n c a h.foresight.0 e work now v → Judgement pack chart c a K e work now (Ok v)
           unfolding work_after
           judge_done h made now v put =
               let (ns, g, (x, replies)) = accepted_now in
-              let z = subst (λ (k : ℕ). VerdictOf pack places context chart n c a k e work now v) seen (subst (λ (h : Context). VerdictOf pack places h chart n c a h.foresight.actions e work now v) made put) theory first.table ready in
+              let z = subst (λ (k : ℕ). VerdictOf pack places context chart n c a k e work now v) seen (subst (λ (h : Context). VerdictOf pack places h chart n c a h.foresight.0 e work now v) made put) theory first.table ready in
               let table = fits_table theory.characters theory.domains first.table (chart_fits (record { bytewise = pack-bytes; accepted = x.accepted }) (record { bytewise = chart-bytes; accepted = first.read })) in
               let same : meaning p.characters first.table 0 ≡ meaning theory.characters first.table 0 = ap (λ (k : ℕ). meaning k first.table 0) (sym x.found.characters) in
               let iff = explained_table_iff theory first.table table K e c a in

@@ -18,7 +18,7 @@ use Rattle.chart.specs.Laws.Unique.{unique}
 use Rattle.pack.specs.declared.contents.Contents.{Contents}
 use Rattle.pack.specs.declared.table.Table.{Table}
 use Rattle.planner.specs.declared.limits.Context.{Context}
-use Rattle.planner.specs.declared.foreseen.Foreseen.{Foreseen}
+use Rattle.planner.specs.declared.limits.Foresight.{Foresight}
 use Rattle.planner.specs.declared.entry.Key.{Key}
 use Rattle.planner.specs.Inner.Layout.{entries, room_behind, laid_out}
 use Rattle.planner.specs.Inner.Lists.{slot_table}
@@ -29,7 +29,7 @@ use Rattle.planner.proofs.Slots.{entries_fit, room_left}
 use Rattle.planner.proofs.TrueMemory.{set_not, table_size, key_same, row_apart, step_here, step_there}
 
 -- as a call lays the work buffer out, every table fits
-pub tables_fit : (c : Contents) (k : Foreseen) (slots : ℕ) {work : List ℕ} {t : Table} → (c.characters ≤ 6) × (slots ≤ 30) → Before (laid_out c k slots) work t → Fits (laid_out c k slots) t
+pub tables_fit : (c : Contents) (k : Foresight) (slots : ℕ) {work : List ℕ} {t : Table} → (c.characters ≤ 6) × (slots ≤ 30) → Before (laid_out c k slots) work t → Fits (laid_out c k slots) t
 tables_fit c k slots {work} {t} (characters, few) b =
     let fluents = c.domains.few in
     let block = (laid_out c k slots).block in

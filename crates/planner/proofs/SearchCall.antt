@@ -39,7 +39,7 @@ use Rattle.transition.specs.Laws.Loaded.{short-pack}
 use Rattle.pack.specs.declared.refusal.Refusal.TheVariants.{NoEnding}
 use Rattle.planner.specs.declared.Ending as answers
 use Rattle.planner.specs.declared.limits.Context.{Context}
-use Rattle.planner.specs.declared.foreseen.Foreseen.{Foreseen}
+use Rattle.planner.specs.declared.limits.Foresight.{Foresight}
 use Rattle.planner.specs.declared.search.Ended.{Ended}
 use Rattle.std.specs.Prelude.{Option, Some, None}
 use Rattle.planner.proofs.EarliestList.{no_some, some_is}
@@ -279,8 +279,8 @@ module _ (pack : List ℕ) (T K E : ℕ) (list work : List ℕ) where
           let (told, least, most, nested) = search_ranges in
           (omega (arith, small.characters, y.found.characters), omega (arith, told, mul-le-mul_left (1 + K) nested, mul-le-mul_right 3 most))
 
-      -- laid out by a foresight limit that is known to be one
-      module _ (f : Foreseen) (seen : f.actions ≡ K) where
+      -- laid out by the foresight limit
+      module _ (f : Foresight) (seen : f.0 ≡ K) where
         abbrev pub context : Context
         context = laid_out p f (1 + T + (1 + K) * E)
 
@@ -306,14 +306,14 @@ module _ (pack : List ℕ) (T K E : ℕ) (list work : List ℕ) where
               room = leb-true work_room (length work) has_work_room;
             }
 
-        pub search_able : (h : Context) → h ≡ context → Seekable pack places h p.first p.nodes T h.foresight.actions E list work
-        search_able h made = subst (λ (h : Context). Seekable pack places h p.first p.nodes T h.foresight.actions E list work) (sym made) (subst (λ (k : ℕ). Seekable pack places context p.first p.nodes T k E list work) (sym seen) (theory, (the_nodes, ready)))
+        pub search_able : (h : Context) → h ≡ context → Seekable pack places h p.first p.nodes T h.foresight.0 E list work
+        search_able h made = subst (λ (h : Context). Seekable pack places h p.first p.nodes T h.foresight.0 E list work) (sym made) (subst (λ (k : ℕ). Seekable pack places context p.first p.nodes T k E list work) (sym seen) (theory, (the_nodes, ready)))
 
-        pub search_done : (h : Context) → h ≡ context → (list' work' : List ℕ) (v : Result answers.Ending Refusal) → SearchPutFrom pack places h p.first p.nodes T h.foresight.actions E list list' work work' v → Searching pack T K E list work list' work' v
+        pub search_done : (h : Context) → h ≡ context → (list' work' : List ℕ) (v : Result answers.Ending Refusal) → SearchPutFrom pack places h p.first p.nodes T h.foresight.0 E list list' work work' v → Searching pack T K E list work list' work' v
         unfolding work_after result_after
         search_done h made list' work' v put =
             let (ns, g, (y, replies)) = accepted_now in
-            let z = subst (λ (k : ℕ). SearchPutFrom pack places context p.first p.nodes T k E list list' work work' v) seen (subst (λ (h : Context). SearchPutFrom pack places h p.first p.nodes T h.foresight.actions E list list' work work' v) made put) theory the_nodes ready in
+            let z = subst (λ (k : ℕ). SearchPutFrom pack places context p.first p.nodes T k E list list' work work' v) seen (subst (λ (h : Context). SearchPutFrom pack places h p.first p.nodes T h.foresight.0 E list list' work work' v) made put) theory the_nodes ready in
             let same : meaning p.characters the_nodes 0 ≡ meaning theory.characters the_nodes 0 = ap (λ (k : ℕ). meaning k the_nodes 0) (sym y.found.characters) in
             let so : search_table theory T K E the_nodes ≡ z.answer = (search_table_iff theory the_nodes (fits_table theory.characters theory.domains the_nodes fit) T K E z.answer).0 (subst (λ (s : State). Searched theory T K E s z.answer) same z.is_so) in
             let gave : the_reply ≡ answer_reply z.answer = replies ∙ ap answer_reply so in

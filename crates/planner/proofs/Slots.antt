@@ -13,7 +13,7 @@ use Rattle.pack.specs.Reading.{pick}
 use Rattle.pack.specs.declared.contents.Contents.{Contents}
 use Rattle.transition.specs.Duties.Stage.{slot_room}
 use Rattle.planner.specs.declared.limits.Context.{Context}
-use Rattle.planner.specs.declared.foreseen.Foreseen.{Foreseen}
+use Rattle.planner.specs.declared.limits.Foresight.{Foresight}
 use Rattle.planner.specs.Inner.Layout.{entries, room_behind, laid_out}
 use Rattle.planner.specs.Inner.Memory.{Sized, Laid}
 use Rattle.planner.specs.Inner.Explain.{Free}
@@ -36,7 +36,7 @@ fit false false room l g = omega (arith, g refl)
 pub entries_fit : (actions room : ℕ) → 11474 ≤ room → 436 + 9 * entries actions room + 255 * 25 ≤ room
 entries_fit actions room l = fit (ltb actions 12) (ltb room 24000) room l (λ e. ltb-false room 24000 e)
 
-module _ (c : Contents) (k : Foreseen) (slots : ℕ) where
+module _ (c : Contents) (k : Foresight) (slots : ℕ) where
   abbrev size : ℕ
   size = slot_room (c.domains.fluents + c.characters)
 

@@ -7,7 +7,7 @@
 ghost use Rattle.std.specs.Prelude.{◌≡◌, true, false, suc, ◌+◌, ◌*◌, ◌<◌, ◌≤◌, get_or};
 ghost use Rattle.planner.specs.Ending.{Explained};
 ghost use Rattle.planner.specs.Inner.Lists.{slot_table, Other, Above, AboveBy, AboveBySome, Agreed};
-ghost use Rattle.planner.specs.Inner.Explain.{Prepared, Free, Answers, AnswersOf};
+ghost use Rattle.planner.specs.Inner.Explain.{Prepared, Foreseeing, Free, Answers, AnswersOf};
 ghost use Rattle.planner.specs.Inner.Lists.{ExplainedBy};
 
 use crate::belief::place_belief;
@@ -44,9 +44,9 @@ pub fn explained(
 ) -> bool
     requires { Prepared pack.now places.now p work.old (slot_table p work.old slot) (slot + p.stride)
         × (d.who < p.characters) × (d.action < p.actions)
-        × Free p slot (1 + (1 + p.foresight.actions) * d.nesting.0) }
+        × Free p slot (1 + (1 + p.foresight.0) * d.nesting.0) × Foreseeing p }
     ensures { Answers pack.now places.now p slot work.old
-        work.new result (λ th s. Explained th p.foresight.actions d.nesting.0 d.who d.action s) }
+        work.new result (λ th s. Explained th p.foresight.0 d.nesting.0 d.who d.action s) }
 {
     if d.nesting.0 == 0 || pointless(pack, places, p, work, slot, d) {
         return false;
@@ -68,10 +68,10 @@ pub fn judged(
 ) -> bool
     requires { Prepared pack.now places.now p work.old (slot_table p work.old slot) (slot + p.stride)
         × (d.who < p.characters) × (d.action < p.actions)
-        × Free p slot ((1 + p.foresight.actions) * d.nesting.0) × (0 < d.nesting.0)
-        × (q < get_or work.old slot 0) }
+        × Free p slot ((1 + p.foresight.0) * d.nesting.0) × (0 < d.nesting.0)
+        × (q < get_or work.old slot 0) × Foreseeing p }
     ensures { AnswersOf q pack.now places.now p slot work.old
-        work.new result (λ th b. ExplainedBy th p.foresight.actions d.nesting.0 d.who d.action b) }
+        work.new result (λ th b. ExplainedBy th p.foresight.0 d.nesting.0 d.who d.action b) }
 {
     let key = deed_key(d, q);
     if let Some(Known::Explained(verdict)) = recall(work, p, slot, key) {
@@ -96,10 +96,10 @@ pub fn explains(
 ) -> bool
     requires { Prepared pack.now places.now p work.old (slot_table p work.old slot) (slot + p.stride)
         × (d.who < p.characters) × (d.action < p.actions)
-        × Free p slot ((1 + p.foresight.actions) * d.nesting.0) × (0 < d.nesting.0)
-        × (q < get_or work.old slot 0) }
+        × Free p slot ((1 + p.foresight.0) * d.nesting.0) × (0 < d.nesting.0)
+        × (q < get_or work.old slot 0) × Foreseeing p }
     ensures { AnswersOf q pack.now places.now p slot work.old
-        work.new result (λ th b. ExplainedBy th p.foresight.actions d.nesting.0 d.who d.action b) }
+        work.new result (λ th b. ExplainedBy th p.foresight.0 d.nesting.0 d.who d.action b) }
 {
     if !known_step(pack, places, p, d.action, work, slot, q) {
         return false;
@@ -117,7 +117,7 @@ pub fn explains(
     let quest = Quest {
         who: d.who,
         goal: Goal { nesting, base },
-        left: p.foresight.actions - 1,
+        left: p.foresight.0 - 1,
     };
     extends(pack, places, p, work, next, quest)
 }
@@ -134,10 +134,10 @@ pub fn extends(
 ) -> bool
     requires { Prepared pack.now places.now p work.old (slot_table p work.old slot) (slot + p.stride)
         × (quest.who < p.characters)
-        × Free p slot (1 + quest.left + (1 + p.foresight.actions) * quest.goal.nesting.0) }
+        × Free p slot (1 + quest.left + (1 + p.foresight.0) * quest.goal.nesting.0) × Foreseeing p }
     ensures { Answers pack.now places.now p slot work.old
         work.new result
-        (λ th s. Above th p.foresight.actions quest.goal.nesting.0 quest.who quest.goal.base
+        (λ th s. Above th p.foresight.0 quest.goal.nesting.0 quest.who quest.goal.base
         (suc quest.left) s) }
 {
     let goal = quest.goal;
@@ -190,10 +190,10 @@ pub fn extends_by(
 ) -> bool
     requires { Prepared pack.now places.now p work.old (slot_table p work.old slot) (slot + p.stride)
         × (quest.who < p.characters)
-        × Free p slot (2 + quest.left + (1 + p.foresight.actions) * quest.goal.nesting.0) }
+        × Free p slot (2 + quest.left + (1 + p.foresight.0) * quest.goal.nesting.0) × Foreseeing p }
     ensures { Answers pack.now places.now p slot work.old
         work.new result
-        (λ th s. AboveBySome th p.foresight.actions quest.goal.nesting.0 quest.who quest.goal.base
+        (λ th s. AboveBySome th p.foresight.0 quest.goal.nesting.0 quest.who quest.goal.base
         (suc quest.left) s) }
 {
     let hope = Hope {
@@ -226,10 +226,10 @@ pub fn via(
 ) -> bool
     requires { Prepared pack.now places.now p work.old (slot_table p work.old slot) (slot + p.stride)
         × (quest.who < p.characters) × (x < p.actions)
-        × Free p slot (2 + quest.left + (1 + p.foresight.actions) * quest.goal.nesting.0) }
+        × Free p slot (2 + quest.left + (1 + p.foresight.0) * quest.goal.nesting.0) × Foreseeing p }
     ensures { Answers pack.now places.now p slot work.old
         work.new result
-        (λ th s. AboveBy th p.foresight.actions quest.goal.nesting.0 quest.who quest.goal.base
+        (λ th s. AboveBy th p.foresight.0 quest.goal.nesting.0 quest.who quest.goal.base
         (suc quest.left) x s) }
 {
     let deed = Deed {
@@ -256,9 +256,9 @@ pub fn allowed(
 ) -> bool
     requires { Prepared pack.now places.now p work.old (slot_table p work.old slot) (slot + p.stride)
         × (d.action < p.actions)
-        × Free p slot (1 + (1 + p.foresight.actions) * d.nesting.0) }
+        × Free p slot (1 + (1 + p.foresight.0) * d.nesting.0) × Foreseeing p }
     ensures { Answers pack.now places.now p slot work.old
-        work.new result (λ th s. Agreed th p.foresight.actions d.nesting.0 d.who d.action s) }
+        work.new result (λ th s. Agreed th p.foresight.0 d.nesting.0 d.who d.action s) }
 {
     let at = places[ACTION * d.action + CONSENTERS] as usize;
     let count = consenters(pack, at);
@@ -284,10 +284,10 @@ pub fn fine(
 ) -> bool
     requires { Prepared pack.now places.now p work.old (slot_table p work.old slot) (slot + p.stride)
         × (c < p.characters) × (d.action < p.actions)
-        × Free p slot (1 + (1 + p.foresight.actions) * d.nesting.0) }
+        × Free p slot (1 + (1 + p.foresight.0) * d.nesting.0) × Foreseeing p }
     ensures { Answers pack.now places.now p slot work.old
         work.new result
-        (λ th s. Other d.who c → Explained th p.foresight.actions d.nesting.0 c d.action s) }
+        (λ th s. Other d.who c → Explained th p.foresight.0 d.nesting.0 c d.action s) }
 {
     c == d.who || explained(pack, places, p, work, slot, Deed { who: c, ..d })
 }

@@ -7,7 +7,6 @@ pub mod bound;
 pub mod cell;
 pub mod entry;
 pub mod explain;
-pub mod foreseen;
 pub mod intern;
 pub mod known;
 pub mod limits;

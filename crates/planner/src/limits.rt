@@ -4,7 +4,6 @@ ghost use Rattle.planner.specs.Inner.Memory.{Sized};
 ghost use Rattle.planner.specs.Inner.Layout.{entries, laid_out};
 ghost use Rattle.planner.specs.Replies.{story_limit, foresight_limit, nesting_limit};
 
-use crate::foreseen::Foreseen;
 use crate::regions::{BLOCKS, STEPS};
 use chart::call::both_at_most;
 use pack::contents::Contents;
@@ -39,7 +38,7 @@ pub struct Context {
     pub triggers: usize,
     pub fluents: usize,
     pub characters: usize,
-    pub foresight: Foreseen,
+    pub foresight: Foresight,
     pub stride: usize,
     pub memory: usize,
     pub lists: usize,
@@ -80,7 +79,7 @@ pub fn remainder(h: usize, count: usize) -> usize
 
 // The context of a call that wants so many slots: each has room for a count and for 32 rows of the pack's width. The
 // memory takes all behind them, up to the scratch of a step.
-pub fn laid_out(c: Contents, k: Foreseen, slots: usize) -> Context
+pub fn laid_out(c: Contents, k: Foresight, slots: usize) -> Context
     requires { (c.characters ≤ 6) × (slots ≤ 30) }
     ensures { result ≡ laid_out c k slots }
 {

@@ -8,7 +8,7 @@ ghost use Rattle.std.specs.Prelude.{◌≡◌, true, false, ◌&&◌, List, ℕ,
 ghost use Rattle.pack.specs.Syntax.{Node};
 ghost use Rattle.planner.specs.Inner.Lists.{slot_table, Ends, EndsBy};
 ghost use Rattle.planner.specs.Inner.Memory.{Before};
-ghost use Rattle.planner.specs.Inner.Explain.{Staged, Free};
+ghost use Rattle.planner.specs.Inner.Explain.{Staged, Foreseeing, Free};
 ghost use Rattle.planner.specs.Inner.Levels.{Reckoned, OutOfReach};
 ghost use Rattle.planner.specs.Inner.Search.{Underway, Finds, EndsHere, Outset, Repeated, OnPath, Laying};
 ghost use Rattle.planner.specs.Inner.Search.{Layable, LaidStart, ShortestFrom, Seekable, SearchPutFrom};
@@ -18,7 +18,6 @@ use crate::Ending;
 use crate::bound::can_exceed;
 use crate::entry::{Deed, Goal, goal_key, recall, remember_worth};
 use crate::explain::allowed;
-use crate::foreseen::Foreseen;
 use crate::intern::{extent, table_in};
 use crate::known::Known;
 use crate::limits::{Context, Foresight, Limits, Nesting, SEASON, Story, laid_out, searchable};
@@ -71,11 +70,11 @@ pub fn completes(
 ) -> Option<usize>
     requires { Underway ahead.goal.nesting.0 ahead.goal.base pack.now places.now p work.old
         ahead.done ahead.left
-        × Free p (ahead.done * p.stride) (1 + ahead.left + (1 + p.foresight.actions) * ahead.goal.nesting.0)
-        × (ahead.done + ahead.left ≤ length list.old) }
+        × Free p (ahead.done * p.stride) (1 + ahead.left + (1 + p.foresight.0) * ahead.goal.nesting.0)
+        × (ahead.done + ahead.left ≤ length list.old) × Foreseeing p }
     ensures { Finds ahead.goal.nesting.0 ahead.goal.base pack.now places.now p
         ahead.done ahead.left list.old list.new work.old work.new result
-        (λ th. Ends th p.foresight.actions ahead.goal.nesting.0 ahead.goal.base) }
+        (λ th. Ends th p.foresight.0 ahead.goal.nesting.0 ahead.goal.base) }
 {
     let slot = ahead.done * p.stride;
     let goal = ahead.goal;
@@ -138,11 +137,11 @@ pub fn completes_after(
 ) -> Option<usize>
     requires { Underway ahead.goal.nesting.0 ahead.goal.base pack.now places.now p work.old
         ahead.done (suc ahead.left)
-        × Free p (ahead.done * p.stride) (2 + ahead.left + (1 + p.foresight.actions) * ahead.goal.nesting.0)
-        × (ahead.done + suc ahead.left ≤ length list.old) }
+        × Free p (ahead.done * p.stride) (2 + ahead.left + (1 + p.foresight.0) * ahead.goal.nesting.0)
+        × (ahead.done + suc ahead.left ≤ length list.old) × Foreseeing p }
     ensures { Finds ahead.goal.nesting.0 ahead.goal.base pack.now places.now p
         ahead.done (suc ahead.left) list.old list.new work.old
-        work.new result (λ th. Ends th p.foresight.actions ahead.goal.nesting.0 ahead.goal.base) }
+        work.new result (λ th. Ends th p.foresight.0 ahead.goal.nesting.0 ahead.goal.base) }
 {
     let slot = ahead.done * p.stride;
     let hope = Hope {
@@ -194,11 +193,11 @@ pub fn completes_by(
 ) -> Option<usize>
     requires { Underway ahead.goal.nesting.0 ahead.goal.base pack.now places.now p work.old
         ahead.done (suc ahead.left) × (x < p.actions)
-        × Free p (ahead.done * p.stride) (2 + ahead.left + (1 + p.foresight.actions) * ahead.goal.nesting.0)
-        × (ahead.done + suc ahead.left ≤ length list.old) }
+        × Free p (ahead.done * p.stride) (2 + ahead.left + (1 + p.foresight.0) * ahead.goal.nesting.0)
+        × (ahead.done + suc ahead.left ≤ length list.old) × Foreseeing p }
     ensures { Finds ahead.goal.nesting.0 ahead.goal.base pack.now places.now p
         ahead.done (suc ahead.left) list.old list.new work.old
-        work.new result (λ th. EndsBy th p.foresight.actions ahead.goal.nesting.0 ahead.goal.base x) }
+        work.new result (λ th. EndsBy th p.foresight.0 ahead.goal.nesting.0 ahead.goal.base x) }
 {
     let done = ahead.done;
     let slot = done * p.stride;
@@ -261,7 +260,7 @@ pub fn deepen(
     most: usize,
 ) -> Option<Ended>
     requires { Outset g.base pack.now places.now p work.old × (most ≤ 8) × (8 ≤ length list.old)
-        × Free p 0 (1 + most + (1 + p.foresight.actions) * g.nesting.0) }
+        × Free p 0 (1 + most + (1 + p.foresight.0) * g.nesting.0) × Foreseeing p }
     ensures { ShortestFrom most g.nesting.0 g.base pack.now places.now p
         list.old list.new work.old work.new result }
 {
@@ -317,9 +316,9 @@ pub fn search_nodes(
     work: &mut [u8],
 ) -> Result<Ending, Refusal>
     requires { Seekable pack.now places.now p nodes.first nodes.count limits.story.0
-        p.foresight.actions limits.nesting.0 list.old work.old }
+        p.foresight.0 limits.nesting.0 list.old work.old }
     ensures { SearchPutFrom pack.now places.now p nodes.first nodes.count
-        limits.story.0 p.foresight.actions limits.nesting.0 list.old list.new
+        limits.story.0 p.foresight.0 limits.nesting.0 list.old list.new
         work.old work.new result }
 {
     lay_start(pack, nodes, p, work);
@@ -356,8 +355,7 @@ pub fn search(
     let p = read_pack(pack, &mut places)?;
     let enough = both_at_most(LIST_ROOM, list.len(), WORK_ROOM, work.len());
     check_lent(enough, searchable(t, k, e))?;
-    let foreseen = Foreseen { actions: k.0 };
-    let context = laid_out(p, foreseen, 1 + t.0 + (1 + k.0) * e.0);
+    let context = laid_out(p, k, 1 + t.0 + (1 + k.0) * e.0);
     let start = Nodes {
         first: p.first,
         count: p.nodes,

@@ -6,7 +6,6 @@ ghost use Rattle.planner.specs.Inner.Explain.{Judgeable, VerdictOf};
 
 use crate::entry::Deed;
 use crate::explain::explained;
-use crate::foreseen::Foreseen;
 use crate::limits::{Context, Foresight, Nesting, explainable, laid_out};
 use chart::bytes::clear;
 use chart::call::{WORK_ROOM, check_lent};
@@ -41,10 +40,10 @@ pub fn verdict_in(
     d: Deed,
     work: &mut [u8],
 ) -> bool
-    requires { Judgeable pack.now places.now p chart.now nodes d.who d.action p.foresight.actions
+    requires { Judgeable pack.now places.now p chart.now nodes d.who d.action p.foresight.0
         d.nesting.0 work.old }
     ensures { VerdictOf pack.now places.now p chart.now nodes d.who
-        d.action p.foresight.actions d.nesting.0 work.old work.new result }
+        d.action p.foresight.0 d.nesting.0 work.old work.new result }
 {
     copy_table(chart, 1, nodes, work, 0, p.fluents, p.characters);
     clear(work, p.memory, p.tables - p.memory);
@@ -71,8 +70,7 @@ pub fn verdict(
     let nodes = check_chart(chart, p.dimensions())?;
     let there = in_range(character, p.characters, action, p.actions, k, e);
     check_lent(WORK_ROOM <= work.len(), there)?;
-    let foreseen = Foreseen { actions: k.0 };
-    let context = laid_out(p, foreseen, 1 + (1 + k.0) * e.0);
+    let context = laid_out(p, k, 1 + (1 + k.0) * e.0);
     let deed = Deed {
         who: character,
         nesting: e,

@@ -34,7 +34,12 @@ Staged pack places h work t slot = (p : Theory) × ((T : List Node) × Stage p T
 -- and a memory in which all is true
 abbrev pub Prepared : (pack places : List ℕ) (h : Context) (work : List ℕ) (t : Table) (slot : ℕ) → Type 0
 Prepared pack places h work t slot =
-    (p : Theory) × ((T : List Node) × (Stage p T pack places h work t slot × Memory p h.foresight.actions h slot work))
+    (p : Theory) × ((T : List Node) × (Stage p T pack places h work t slot × Memory p h.foresight.0 h slot work))
+
+-- the context's foresight limit is one, 1 to 6
+pub record Foreseeing (h : Context) : Type 0 where
+  pub some : 0 < h.foresight.0
+  pub few : h.foresight.0 ≤ 6
 
 -- n slots from `slot` on lie before the memory
 abbrev pub Free : (h : Context) (slot n : ℕ) → Type 0
@@ -56,8 +61,8 @@ abbrev pub AnswersOf : (row : ℕ) (pack places : List ℕ) (h : Context) (slot 
     → Type 0
 AnswersOf row pack places h slot work work' r P =
     (th : Theory) (T : List Node) → Stage th T pack places h work (slot_table h work slot) (slot + h.stride)
-    → Memory th h.foresight.actions h (slot + h.stride) work
-    → Told (Memory th h.foresight.actions h (slot + h.stride)) (slot + h.stride) work work' r
+    → Memory th h.foresight.0 h (slot + h.stride) work
+    → Told (Memory th h.foresight.0 h (slot + h.stride)) (slot + h.stride) work work' r
     (P th (meaning h.characters T row))
 
 -- about the state in it
@@ -85,8 +90,8 @@ pub record Advanced (p : Theory) (foresight : ℕ) (h : Context) (z : State) (a 
 abbrev pub Advances : (pack places : List ℕ) (h : Context) (a slot root : ℕ) (work work' : List ℕ) (r : Bool) → Type 0
 Advances pack places h a slot root work work' r =
     (th : Theory) (T : List Node) → Stage th T pack places h work (slot_table h work slot) (slot + h.stride)
-    → Memory th h.foresight.actions h (slot + h.stride) work
-    → Advanced th h.foresight.actions h (meaning h.characters T root) a (slot_table h work slot) work work'
+    → Memory th h.foresight.0 h (slot + h.stride) work
+    → Advanced th h.foresight.0 h (meaning h.characters T root) a (slot_table h work slot) work work'
     (slot + h.stride) r
 
 -- a state in a slot, whatever the pack is
@@ -112,16 +117,16 @@ abbrev pub LaysBelief : (h : Context) (slot row : ℕ) (work work' : List ℕ) �
 LaysBelief h slot row work work' =
     (pack places : List ℕ) (th : Theory) (T : List Node)
     → Stage th T pack places h work (slot_table h work slot) (slot + h.stride)
-    → Memory th h.foresight.actions h (slot + h.stride) work
-    → BeliefAt th h.foresight.actions h pack places (meaning h.characters T row) work work' slot (slot + h.stride) 0
+    → Memory th h.foresight.0 h (slot + h.stride) work
+    → BeliefAt th h.foresight.0 h pack places (meaning h.characters T row) work work' slot (slot + h.stride) 0
 
 -- what c believes in the state in a slot stands there
 abbrev pub PlacesBelief : (h : Context) (slot c : ℕ) (work work' : List ℕ) (at row : ℕ) → Type 0
 PlacesBelief h slot c work work' at row =
     (pack places : List ℕ) (th : Theory) (T : List Node)
     → Stage th T pack places h work (slot_table h work slot) (slot + h.stride)
-    → Memory th h.foresight.actions h (slot + h.stride) work
-    → BeliefAt th h.foresight.actions h pack places (belief (meaning h.characters T 0) c) work work' slot at row
+    → Memory th h.foresight.0 h (slot + h.stride) work
+    → BeliefAt th h.foresight.0 h pack places (belief (meaning h.characters T 0) c) work work' slot at row
 
 -- an accepted pack and chart, numbers of something there, and a slot for each state of an explanation
 pub record Judging (th : Theory) (T : List Node) (pack places : List ℕ) (h : Context) (chart : List ℕ)

@@ -5,7 +5,7 @@ use Rattle.pack.specs.Reading.{pick}
 use Rattle.pack.specs.declared.contents.Contents.{Contents}
 use Rattle.transition.specs.Duties.Stage.{slot_room, scratch_at}
 use Rattle.planner.specs.declared.limits.Context.{Context}
-use Rattle.planner.specs.declared.foreseen.Foreseen.{Foreseen}
+use Rattle.planner.specs.declared.limits.Foresight.{Foresight}
 
 -- how many entries the memory has for what is known of lists: few for packs of few actions, of which little is known,
 -- and many where there is room
@@ -17,7 +17,7 @@ abbrev pub room_behind : Contents → (slots : ℕ) → ℕ
 room_behind c slots = scratch_at - slots * slot_room (c.domains.fluents + c.characters)
 
 -- so many slots for tables of a pack's width; of what is left, behind the memory's entries, 255 blocks for tables
-abbrev pub laid_out : Contents → Foreseen → (slots : ℕ) → Context
+abbrev pub laid_out : Contents → Foresight → (slots : ℕ) → Context
 laid_out c k slots =
     record {
       actions = c.actions;

@@ -69,8 +69,8 @@ abbrev pub Underway : (nesting base : ℕ) (pack places : List ℕ) (h : Context
 Underway e base pack places h work n left =
     (p : Theory) × ((T : List Node)
     × (Stage p T pack places h work (slot_table h work (n * h.stride)) (n * h.stride + h.stride)
-    × Memory p h.foresight.actions h (n * h.stride + h.stride) work
-    × Trail p h.foresight.actions e base h work n left (meaning h.characters T 0)))
+    × Memory p h.foresight.0 h (n * h.stride + h.stride) work
+    × Trail p h.foresight.0 e base h work n left (meaning h.characters T 0)))
 
 -- asked of the last state of the path, behind n others, where what is known is true: r is the utility at the end of the
 -- earliest good list of `left` actions, which is put down
@@ -80,9 +80,9 @@ abbrev pub Finds : (nesting base : ℕ) (pack places : List ℕ) (h : Context) (
 Finds e base pack places h n left was now work work' r Good =
     (th : Theory) (T : List Node)
     → Stage th T pack places h work (slot_table h work (n * h.stride)) (n * h.stride + h.stride)
-    → Memory th h.foresight.actions h (n * h.stride + h.stride) work
-    → Trail th h.foresight.actions e base h work n left (meaning h.characters T 0)
-    → Best (Memory th h.foresight.actions h (n * h.stride + h.stride)) (Good th (meaning h.characters T 0)) left
+    → Memory th h.foresight.0 h (n * h.stride + h.stride) work
+    → Trail th h.foresight.0 e base h work n left (meaning h.characters T 0)
+    → Best (Memory th h.foresight.0 h (n * h.stride + h.stride)) (Good th (meaning h.characters T 0)) left
     was now n (n * h.stride + h.stride) work work' r
 
 -- the author's utility in the state in a slot where it is above base
@@ -98,7 +98,7 @@ abbrev pub Outset : (base : ℕ) (pack places : List ℕ) (h : Context) (work : 
 Outset base pack places h work =
     (p : Theory) × ((T : List Node)
     × (Stage p T pack places h work (slot_table h work 0) (0 + h.stride)
-    × Memory p h.foresight.actions h (0 + h.stride) work
+    × Memory p h.foresight.0 h (0 + h.stride) work
     × Written h.characters T × (author_utility p (meaning h.characters T 0) ≤ base)))
 
 -- the state in a slot is one of those before it
@@ -125,9 +125,9 @@ abbrev pub ShortestFrom : (story nesting base : ℕ) (pack places : List ℕ) (h
     → Type 0
 ShortestFrom T e base pack places h was now work work' r =
     (th : Theory) (table : List Node) → Stage th table pack places h work (slot_table h work 0) (0 + h.stride)
-    → Memory th h.foresight.actions h (0 + h.stride) work → Written h.characters table
+    → Memory th h.foresight.0 h (0 + h.stride) work → Written h.characters table
     → author_utility th (meaning h.characters table 0) ≤ base
-    → Shortest h (Ends th h.foresight.actions e base (meaning h.characters table 0)) T was now work work' r
+    → Shortest h (Ends th h.foresight.0 e base (meaning h.characters table 0)) T was now work work' r
 
 -- the nodes that are read from a place on, and room for them in the first slot
 pub record Laying (T : List Node) (pack : List ℕ) (first nodes : ℕ) (h : Context) (work : List ℕ) : Type 0 where

@@ -13,7 +13,7 @@ pub returns-then-has_overflowed : goal.returns-then-has_overflowed
 returns-then-has_overflowed c =
     λ pack places th T x m.
     let row = stage_believed x 0 c.args.c x.tabled.some c.requires.1 (ap (λ (q : ℕ). get_or c.args.work.now q 0) (omega arith) ∙ sym c.from-row.ensures) in
-    subst (λ (b : State). BeliefAt th c.args.p.foresight.actions c.args.p pack places b c.args.work.now c.lay_belief.new.work c.args.slot (c.args.slot + c.args.p.stride) 0) (sym row.0) (c.lay_belief.ensures pack places th T x m)
+    subst (λ (b : State). BeliefAt th c.args.p.foresight.0 c.args.p pack places b c.args.work.now c.lay_belief.new.work c.args.slot (c.args.slot + c.args.p.stride) 0) (sym row.0) (c.lay_belief.ensures pack places th T x m)
 
 pub lay_belief-requires : goal.lay_belief-requires
 lay_belief-requires c =

@@ -31,7 +31,7 @@ allowed-returns-then-not-fine t c =
     let li : c.loop-i.i < length (consenters_of y _ c.requires.1) = omega (arith, count, c.loop-i-test.true) in
     let d = consent_each y _ c.requires.1 li c.consenter-c.ensures in
     told_no (λ q l. told.low q l ∙ low q l) (λ q l. told.high q l ∙ high q l) told.memory
-    (λ agreed. told.complete c.if-not-fine.true (content_of th c.args.p.foresight.actions c.args.d.nesting.0 c.args.d.who c.args.d.action (meaning c.args.p.characters T 0) agreed li d.0))
+    (λ agreed. told.complete c.if-not-fine.true (content_of th c.args.p.foresight.0 c.args.d.nesting.0 c.args.d.who c.args.d.action (meaning c.args.p.characters T 0) agreed li d.0))
 
 pub allowed-loop-i-preserved : goal.allowed-loop-i-preserved
 allowed-loop-i-preserved t c =
@@ -46,19 +46,19 @@ allowed-loop-i-preserved t c =
           let count = consent_count y _ c.requires.1 c.consenters-count.ensures in
           let li : c.loop-i.i < length (consenters_of y _ c.requires.1) = omega (arith, count, c.loop-i-test.true) in
           let d = consent_each y _ c.requires.1 li c.consenter-c.ensures in
-          (told.memory, content_more th c.args.p.foresight.actions c.args.d.nesting.0 c.args.d.who c.args.d.action (meaning c.args.p.characters T 0) (rest th T y mem).1 d.0 (told.sound c.if-not-fine.false)),
+          (told.memory, content_more th c.args.p.foresight.0 c.args.d.nesting.0 c.args.d.who c.args.d.action (meaning c.args.p.characters T 0) (rest th T y mem).1 d.0 (told.sound c.if-not-fine.false)),
     )
 
 pub allowed-returns : goal.allowed-returns
 allowed-returns t c =
     let (long, low, high, rest) = c.loop-i.invariant in
-    λ th T y mem. let count = consent_count y _ c.requires.1 c.consenters-count.ensures in told_yes low high (rest th T y mem).0 (agreed_all th c.args.p.foresight.actions c.args.d.nesting.0 c.args.d.who c.args.d.action (meaning c.args.p.characters T 0) {n = c.loop-i.i} (omega (arith, count, c.loop-i-test.false)) (rest th T y mem).1)
+    λ th T y mem. let count = consent_count y _ c.requires.1 c.consenters-count.ensures in told_yes low high (rest th T y mem).0 (agreed_all th c.args.p.foresight.0 c.args.d.nesting.0 c.args.d.who c.args.d.action (meaning c.args.p.characters T 0) {n = c.loop-i.i} (omega (arith, count, c.loop-i-test.false)) (rest th T y mem).1)
 
 pub explained-returns-then-d-eq0 : goal.explained-returns-then-d-eq0
 explained-returns-then-d-eq0 t c =
     λ th T y mem.
     let s = meaning c.args.p.characters T 0 in
-    let K = c.args.p.foresight.actions in
+    let K = c.args.p.foresight.0 in
     told_none _ mem (elim c.then-d-eq0.branch [
       | explained-then-d-eq0-via-then-d-eq0 w ↦ λ z. explained_zero th K c.args.d.who c.args.d.action s (subst (λ (e : ℕ). Explained th K e c.args.d.who c.args.d.action s) w.if-d-eq0.true z)
       | explained-then-d-eq0-via-else-d-eq0+then-pointless w ↦ w.pointless.ensures w.if-pointless.true th T y K c.args.d.nesting.0
@@ -69,21 +69,21 @@ explained-returns t c =
     λ th T y mem.
     let b = c.place_belief-b.ensures c.args.pack.now c.args.places.now th T y mem in
     let told = c.judged.ensures th b.rows b.stage b.memory in
-    let by : State → Type 0 = ExplainedBy th c.args.p.foresight.actions c.args.d.nesting.0 c.args.d.who c.args.d.action in
+    let by : State → Type 0 = ExplainedBy th c.args.p.foresight.0 c.args.d.nesting.0 c.args.d.who c.args.d.action in
     told_by (omega (arith, b.from)) (memory_fewer c.args.p (omega (arith, b.from))) b.low b.high told
-    (λ z. of_belief th c.args.p.foresight.actions c.args.d.nesting.0 c.args.d.who c.args.d.action (meaning c.args.p.characters T 0) (subst by b.means z))
-    (λ z. subst by (sym b.means) (by_belief th c.args.p.foresight.actions c.args.d.nesting.0 c.args.d.who c.args.d.action (meaning c.args.p.characters T 0) z))
+    (λ z. of_belief th c.args.p.foresight.0 c.args.d.nesting.0 c.args.d.who c.args.d.action (meaning c.args.p.characters T 0) (subst by b.means z))
+    (λ z. subst by (sym b.means) (by_belief th c.args.p.foresight.0 c.args.d.nesting.0 c.args.d.who c.args.d.action (meaning c.args.p.characters T 0) z))
 
 pub explains-returns-then-not-known_step : goal.explains-returns-then-not-known_step
 explains-returns-then-not-known_step t c =
     λ th T y mem.
     let played = c.known_step.ensures.0 th T y mem in
-    told_no played.low played.high played.memory (explained_plays th c.args.p.foresight.actions c.args.d.nesting.0 c.args.d.who c.args.d.action (meaning c.args.p.characters T c.args.q) (played.none c.if-not-known_step.true))
+    told_no played.low played.high played.memory (explained_plays th c.args.p.foresight.0 c.args.d.nesting.0 c.args.d.who c.args.d.action (meaning c.args.p.characters T c.args.q) (played.none c.if-not-known_step.true))
 
 -- the table in the slot after the step
 explains_stays : (t : ℕ) (c : explains-After-known_step t) {th : Theory} {T : List Node} →
     let a = c.args in
-    Stage th T a.pack.now a.places.now a.p a.work.now (slot_table a.p a.work.now a.slot) (a.slot + a.p.stride) → Memory th a.p.foresight.actions a.p (a.slot + a.p.stride) a.work.now
+    Stage th T a.pack.now a.places.now a.p a.work.now (slot_table a.p a.work.now a.slot) (a.slot + a.p.stride) → Memory th a.p.foresight.0 a.p (a.slot + a.p.stride) a.work.now
     → Stage th T a.pack.now a.places.now a.p c.known_step.new.work (slot_table a.p c.known_step.new.work a.slot) (a.slot + a.p.stride) × (a.q < get_or c.known_step.new.work a.slot 0)
 explains_stays t c {th} {T} y mem =
     let a = c.args in
@@ -99,38 +99,38 @@ explains-utility-base-requires t c =
 
 pub explains-returns : goal.explains-returns
 explains-returns t c =
-    let f = held_step c.args.p c.args.slot c.args.p.foresight.some c.requires.4 c.requires.3 in
+    let f = held_step c.args.p c.args.slot c.requires.6.some c.requires.4 c.requires.3 in
     let zero : c.known_step.result ≡ true = c.if-not-known_step.false in
     let up : suc (c.args.d.nesting.0 - 1) ≡ c.args.d.nesting.0 = omega (arith, c.requires.4) in
-    let all : suc (c.args.p.foresight.actions - 1) ≡ c.args.p.foresight.actions = omega (arith, c.args.p.foresight.some) in
+    let all : suc (c.args.p.foresight.0 - 1) ≡ c.args.p.foresight.0 = omega (arith, c.requires.6.some) in
     λ th T y mem.
     let b = meaning c.args.p.characters T c.args.q in
-    let by : ℕ → Type 0 = λ e. ExplainedBy th c.args.p.foresight.actions e c.args.d.who c.args.d.action b in
+    let by : ℕ → Type 0 = λ e. ExplainedBy th c.args.p.foresight.0 e c.args.d.who c.args.d.action b in
     let played = c.known_step.ensures.0 th T y mem in
     let base = stage_utility (explains_stays t (goal.at.explains-returns t c).After-known_step y mem).0 c.args.d.who c.args.q c.requires.1 (utility_in c.args.pack.now (get_or c.args.places.now (321 + c.args.d.who) 0) c.known_step.new.work c.args.q c.utility-base.result c.table_in-before.ensures c.utility-base.ensures) in
     let plays = next_plays y _ played f c.known_step.auto.work zero in
     let told = c.extends.ensures th (next_table y _ played f c.known_step.auto.work zero) (next_stage y _ played f c.known_step.auto.work zero) (played.further zero) in
     told_by (omega arith) (memory_fewer c.args.p (omega arith)) played.low played.high told
-    (λ z. subst by up (explained_from th c.args.p.foresight.actions (c.args.d.nesting.0 - 1) c.args.d.who c.args.d.action b _ _ base plays (c.args.p.foresight.actions - 1) all z))
-    (λ z. explained_to th c.args.p.foresight.actions (c.args.d.nesting.0 - 1) c.args.d.who c.args.d.action b _ _ base plays (c.args.p.foresight.actions - 1) all (subst by (sym up) z))
+    (λ z. subst by up (explained_from th c.args.p.foresight.0 (c.args.d.nesting.0 - 1) c.args.d.who c.args.d.action b _ _ base plays (c.args.p.foresight.0 - 1) all z))
+    (λ z. explained_to th c.args.p.foresight.0 (c.args.d.nesting.0 - 1) c.args.d.who c.args.d.action b _ _ base plays (c.args.p.foresight.0 - 1) all (subst by (sym up) z))
 
 pub extends-returns-then-goal-worth : goal.extends-returns-then-goal-worth
 extends-returns-then-goal-worth t c =
-    λ th T y mem. told_yes (λ q l. refl) (λ q l. refl) mem (reach_here th c.args.p.foresight.actions c.args.quest.goal.nesting.0 c.args.quest.who c.args.quest.goal.base c.args.quest.left (meaning c.args.p.characters T 0) (omega (arith, stage_utility y c.args.quest.who 0 c.requires.1 (utility_in c.args.pack.now (get_or c.args.places.now (321 + c.args.quest.who) 0) c.args.work.now 0 c.utility-worth.result c.table_in-t.ensures c.utility-worth.ensures), c.if-goal-worth.true)))
+    λ th T y mem. told_yes (λ q l. refl) (λ q l. refl) mem (reach_here th c.args.p.foresight.0 c.args.quest.goal.nesting.0 c.args.quest.who c.args.quest.goal.base c.args.quest.left (meaning c.args.p.characters T 0) (omega (arith, stage_utility y c.args.quest.who 0 c.requires.1 (utility_in c.args.pack.now (get_or c.args.places.now (321 + c.args.quest.who) 0) c.args.work.now 0 c.utility-worth.result c.table_in-t.ensures c.utility-worth.ensures), c.if-goal-worth.true)))
 
 pub extends-returns-then-quest-eq0 : goal.extends-returns-then-quest-eq0
 extends-returns-then-quest-eq0 t c =
     let none : 1 ≡ suc c.args.quest.left = omega (arith, c.if-quest-eq0.true) in
-    λ th T y mem. told_none _ mem (λ z. reach_no_more th c.args.p.foresight.actions c.args.quest.goal.nesting.0 c.args.quest.who c.args.quest.goal.base (meaning c.args.p.characters T 0) (λ b. omega (arith, stage_utility y c.args.quest.who 0 c.requires.1 (utility_in c.args.pack.now (get_or c.args.places.now (321 + c.args.quest.who) 0) c.args.work.now 0 c.utility-worth.result c.table_in-t.ensures c.utility-worth.ensures), c.if-goal-worth.false)) (subst (λ (n : ℕ). inner.Above th c.args.p.foresight.actions c.args.quest.goal.nesting.0 c.args.quest.who c.args.quest.goal.base n (meaning c.args.p.characters T 0)) (sym none) z))
+    λ th T y mem. told_none _ mem (λ z. reach_no_more th c.args.p.foresight.0 c.args.quest.goal.nesting.0 c.args.quest.who c.args.quest.goal.base (meaning c.args.p.characters T 0) (λ b. omega (arith, stage_utility y c.args.quest.who 0 c.requires.1 (utility_in c.args.pack.now (get_or c.args.places.now (321 + c.args.quest.who) 0) c.args.work.now 0 c.utility-worth.result c.table_in-t.ensures c.utility-worth.ensures), c.if-goal-worth.false)) (subst (λ (n : ℕ). inner.Above th c.args.p.foresight.0 c.args.quest.goal.nesting.0 c.args.quest.who c.args.quest.goal.base n (meaning c.args.p.characters T 0)) (sym none) z))
 
 pub extends-returns-then-not-within_reach : goal.extends-returns-then-not-within_reach
 extends-returns-then-not-within_reach t c =
-    λ th T y mem. told_none _ mem (above_beyond th c.args.p.foresight.actions c.args.quest.goal.nesting.0 c.args.quest.who c.args.quest.goal.base c.args.quest.left (meaning c.args.p.characters T 0) (c.within_reach.ensures c.if-not-within_reach.true th T y))
+    λ th T y mem. told_none _ mem (above_beyond th c.args.p.foresight.0 c.args.quest.goal.nesting.0 c.args.quest.who c.args.quest.goal.base c.args.quest.left (meaning c.args.p.characters T 0) (c.within_reach.ensures c.if-not-within_reach.true th T y))
 
 pub extends-returns-in-Some-Reached : goal.extends-returns-in-Some-Reached
 extends-returns-in-Some-Reached t c =
     λ th T y mem.
-    let (m, fact) = c.recall.ensures.2.told th c.args.p.foresight.actions (c.args.slot + c.args.p.stride) (omega (arith, c.requires.2)) y.slotted mem in
+    let (m, fact) = c.recall.ensures.2.told th c.args.p.foresight.0 (c.args.slot + c.args.p.stride) (omega (arith, c.requires.2)) y.slotted mem in
     told_reached (known y c.goal_key-key.ensures fact) (λ q l. c.recall.ensures.2.only.low q (omega (arith, l, c.requires.2))) c.recall.ensures.2.only.high m (marked_as c.in-Some-Reached.is c.in-Some-Reached.field-0-is c.recall.ensures.1)
 
 pub extends-returns : goal.extends-returns
@@ -138,16 +138,16 @@ extends-returns t c =
     let some : 0 < c.args.quest.left = omega (arith, c.if-quest-eq0.false) in
     λ th T y mem.
     let s = meaning c.args.p.characters T in
-    let told = c.extends_by-found.ensures th T (slot_same c.args.slot y (λ q l. c.recall.ensures.2.only.low q (omega (arith, l, c.requires.2))) c.recall.auto.work) (c.recall.ensures.2.told th c.args.p.foresight.actions (c.args.slot + c.args.p.stride) (omega (arith, c.requires.2)) y.slotted mem).0 in
+    let told = c.extends_by-found.ensures th T (slot_same c.args.slot y (λ q l. c.recall.ensures.2.only.low q (omega (arith, l, c.requires.2))) c.recall.auto.work) (c.recall.ensures.2.told th c.args.p.foresight.0 (c.args.slot + c.args.p.stride) (omega (arith, c.requires.2)) y.slotted mem).0 in
     let here : c.args.quest.goal.base < utility_to th c.args.quest.who (s 0) → ⊥ = (λ b. omega (arith, stage_utility y c.args.quest.who 0 c.requires.1 (utility_in c.args.pack.now (get_or c.args.places.now (321 + c.args.quest.who) 0) c.args.work.now 0 c.utility-worth.result c.table_in-t.ensures c.utility-worth.ensures), c.if-goal-worth.false, b)) in
-    let whole = extended th c.args.p.foresight.actions c.args.quest.goal.nesting.0 c.args.quest.who c.args.quest.goal.base c.args.quest.left s some here told in
+    let whole = extended th c.args.p.foresight.0 c.args.quest.goal.nesting.0 c.args.quest.who c.args.quest.goal.base c.args.quest.left s some here told in
     let z' = slot_same c.args.slot (slot_same {now = c.recall.new.work} c.args.slot y (λ q l. c.recall.ensures.2.only.low q (omega (arith, l, c.requires.2))) c.recall.auto.work) told.low c.extends_by-found.auto.work in
     record {
       sound = whole.sound;
       complete = whole.complete;
       low = λ q l. c.remember_worth.ensures.0.only.low q (omega (arith, l, c.requires.2)) ∙ told.low q l ∙ c.recall.ensures.2.only.low q (omega (arith, l, c.requires.2));
       high = λ q l. c.remember_worth.ensures.0.only.high q l ∙ told.high q l ∙ c.recall.ensures.2.only.high q l;
-      memory = c.remember_worth.ensures.0.memory th c.args.p.foresight.actions (c.args.slot + c.args.p.stride) (omega (arith, c.requires.2)) z'.slotted told.memory (note z' c.goal_key-key.ensures (noted th c.args.p.foresight.actions c.args.quest.goal.nesting.0 c.args.quest.who c.args.quest.goal.base c.args.quest.left s some here told));
+      memory = c.remember_worth.ensures.0.memory th c.args.p.foresight.0 (c.args.slot + c.args.p.stride) (omega (arith, c.requires.2)) z'.slotted told.memory (note z' c.goal_key-key.ensures (noted th c.args.p.foresight.0 c.args.quest.goal.nesting.0 c.args.quest.who c.args.quest.goal.base c.args.quest.left s some here told));
     }
 
 pub extends_by-returns-then-via : goal.extends_by-returns-then-via
@@ -167,7 +167,7 @@ extends_by-loop-x-preserved-then-not-promising t c =
           let z = slot_same c.args.slot y low long in
           let is = still_in c.args.p c.args.slot c.args.work.now c.loop-x.work c.table_in-t.ensures (low c.args.slot (omega (arith, y.laid.some))) in (
             (rest th T y mem).0,
-            below_more (λ x. AboveBy th c.args.p.foresight.actions c.args.quest.goal.nesting.0 c.args.quest.who c.args.quest.goal.base (suc c.args.quest.left) x (meaning c.args.p.characters T 0) → ⊥) c.loop-x.x (rest th T y mem).1 (by_hopeless th c.args.p.foresight.actions c.args.quest.goal.nesting.0 c.args.quest.who c.args.quest.goal.base c.args.quest.left c.loop-x.x (meaning c.args.p.characters T 0) (tried_not c.args.slot (c.args.quest.who + 1) z (omega (arith, c.requires.2)) is c.loop-x-test.true (c.promising.ensures c.if-not-promising.true))),
+            below_more (λ x. AboveBy th c.args.p.foresight.0 c.args.quest.goal.nesting.0 c.args.quest.who c.args.quest.goal.base (suc c.args.quest.left) x (meaning c.args.p.characters T 0) → ⊥) c.loop-x.x (rest th T y mem).1 (by_hopeless th c.args.p.foresight.0 c.args.quest.goal.nesting.0 c.args.quest.who c.args.quest.goal.base c.args.quest.left c.loop-x.x (meaning c.args.p.characters T 0) (tried_not c.args.slot (c.args.quest.who + 1) z (omega (arith, c.requires.2)) is c.loop-x-test.true (c.promising.ensures c.if-not-promising.true))),
           ),
     )
 
@@ -182,7 +182,7 @@ extends_by-loop-x-preserved t c =
       λ th T y mem.
           let told = c.via.ensures th T (slot_same c.args.slot y low long) (rest th T y mem).0 in (
             told.memory,
-            below_more (λ x. AboveBy th c.args.p.foresight.actions c.args.quest.goal.nesting.0 c.args.quest.who c.args.quest.goal.base (suc c.args.quest.left) x (meaning c.args.p.characters T 0) → ⊥) c.loop-x.x (rest th T y mem).1 (told.complete c.if-via.false),
+            below_more (λ x. AboveBy th c.args.p.foresight.0 c.args.quest.goal.nesting.0 c.args.quest.who c.args.quest.goal.base (suc c.args.quest.left) x (meaning c.args.p.characters T 0) → ⊥) c.loop-x.x (rest th T y mem).1 (told.complete c.if-via.false),
           ),
     )
 
@@ -202,22 +202,22 @@ fine-returns-else-c-d t c =
 pub judged-returns-in-Some-Explained : goal.judged-returns-in-Some-Explained
 judged-returns-in-Some-Explained t c =
     λ th T y mem.
-    let (m, fact) = c.recall.ensures.2.told th c.args.p.foresight.actions (c.args.slot + c.args.p.stride) (within c.args.p c.args.slot c.args.p.foresight.some c.requires.4 c.requires.3) y.slotted mem in
-    let most = within c.args.p c.args.slot c.args.p.foresight.some c.requires.4 c.requires.3 in
+    let (m, fact) = c.recall.ensures.2.told th c.args.p.foresight.0 (c.args.slot + c.args.p.stride) (within c.args.p c.args.slot c.requires.6.some c.requires.4 c.requires.3) y.slotted mem in
+    let most = within c.args.p c.args.slot c.requires.6.some c.requires.4 c.requires.3 in
     told_verdict (known y c.deed_key-key.ensures fact) (λ q l. c.recall.ensures.2.only.low q (omega (arith, l, most))) c.recall.ensures.2.only.high m (marked_as c.in-Some-Explained.is c.in-Some-Explained.field-0-is c.recall.ensures.1)
 
 pub judged-returns : goal.judged-returns
 judged-returns t c =
     λ th T y mem.
-    let told = c.explains-verdict.ensures th T (slot_same {now = c.recall.new.work} c.args.slot y (λ q l. c.recall.ensures.2.only.low q (omega (arith, l, within c.args.p c.args.slot c.args.p.foresight.some c.requires.4 c.requires.3))) c.recall.auto.work) (c.recall.ensures.2.told th c.args.p.foresight.actions (c.args.slot + c.args.p.stride) (within c.args.p c.args.slot c.args.p.foresight.some c.requires.4 c.requires.3) y.slotted mem).0 in
-    let z = slot_same c.args.slot (slot_same {now = c.recall.new.work} c.args.slot y (λ q l. c.recall.ensures.2.only.low q (omega (arith, l, within c.args.p c.args.slot c.args.p.foresight.some c.requires.4 c.requires.3))) c.recall.auto.work) told.low c.explains-verdict.auto.work in
-    let most = within c.args.p c.args.slot c.args.p.foresight.some c.requires.4 c.requires.3 in
+    let told = c.explains-verdict.ensures th T (slot_same {now = c.recall.new.work} c.args.slot y (λ q l. c.recall.ensures.2.only.low q (omega (arith, l, within c.args.p c.args.slot c.requires.6.some c.requires.4 c.requires.3))) c.recall.auto.work) (c.recall.ensures.2.told th c.args.p.foresight.0 (c.args.slot + c.args.p.stride) (within c.args.p c.args.slot c.requires.6.some c.requires.4 c.requires.3) y.slotted mem).0 in
+    let z = slot_same c.args.slot (slot_same {now = c.recall.new.work} c.args.slot y (λ q l. c.recall.ensures.2.only.low q (omega (arith, l, within c.args.p c.args.slot c.requires.6.some c.requires.4 c.requires.3))) c.recall.auto.work) told.low c.explains-verdict.auto.work in
+    let most = within c.args.p c.args.slot c.requires.6.some c.requires.4 c.requires.3 in
     record {
       sound = told.sound;
       complete = told.complete;
       low = λ q l. c.remember_worth.ensures.0.only.low q (omega (arith, l, most)) ∙ told.low q l ∙ c.recall.ensures.2.only.low q (omega (arith, l, most));
       high = λ q l. c.remember_worth.ensures.0.only.high q l ∙ told.high q l ∙ c.recall.ensures.2.only.high q l;
-      memory = c.remember_worth.ensures.0.memory th c.args.p.foresight.actions (c.args.slot + c.args.p.stride) most z.slotted told.memory (note z c.deed_key-key.ensures (verdict th c.args.p.foresight.actions (deed_key c.args.d c.args.q) (meaning c.args.p.characters T) told.sound told.complete));
+      memory = c.remember_worth.ensures.0.memory th c.args.p.foresight.0 (c.args.slot + c.args.p.stride) most z.slotted told.memory (note z c.deed_key-key.ensures (verdict th c.args.p.foresight.0 (deed_key c.args.d c.args.q) (meaning c.args.p.characters T) told.sound told.complete));
     }
 
 pub via-returns-then-not-allowed : goal.via-returns-then-not-allowed
@@ -243,8 +243,8 @@ via-returns-then-known_step t c =
     let played = c.known_step.ensures.0 th T z' told.memory in
     let plays = next_plays z' 0 played f c.known_step.auto.work zero in
     told_by (omega arith) (memory_fewer c.args.p (omega arith)) (λ q l. played.low q l ∙ told.low q l) (λ q l. played.high q l ∙ told.high q l) (c.extends.ensures th (next_table z' 0 played f c.known_step.auto.work zero) (next_stage z' 0 played f c.known_step.auto.work zero) (played.further zero))
-    (λ g. by_from th c.args.p.foresight.actions c.args.quest.goal.nesting.0 c.args.quest.who c.args.quest.goal.base (suc c.args.quest.left) c.args.x (meaning c.args.p.characters T 0) _ plays (told.sound c.if-not-allowed.false) g)
-    (λ g. by_to th c.args.p.foresight.actions c.args.quest.goal.nesting.0 c.args.quest.who c.args.quest.goal.base (suc c.args.quest.left) c.args.x (meaning c.args.p.characters T 0) _ plays g)
+    (λ g. by_from th c.args.p.foresight.0 c.args.quest.goal.nesting.0 c.args.quest.who c.args.quest.goal.base (suc c.args.quest.left) c.args.x (meaning c.args.p.characters T 0) _ plays (told.sound c.if-not-allowed.false) g)
+    (λ g. by_to th c.args.p.foresight.0 c.args.quest.goal.nesting.0 c.args.quest.who c.args.quest.goal.base (suc c.args.quest.left) c.args.x (meaning c.args.p.characters T 0) _ plays g)
 
 pub allowed-consenters-count-requires : goal.allowed-consenters-count-requires
 allowed-consenters-count-requires t c =
@@ -262,21 +262,21 @@ allowed-fine-requires t c =
     let (long, low, high, rest) = c.loop-i.invariant in
     let count = consent_count y _ c.requires.1 c.consenters-count.ensures in
     let d = consent_each y _ c.requires.1 {i = c.loop-i.i} (omega (arith, count, c.loop-i-test.true)) c.consenter-c.ensures in
-    (omega (arith, c.decreases), ((th, (T, (slot_same c.args.slot y low long, (rest th T y mem).0))), d.1, c.requires.1, c.requires.2))
+    (omega (arith, c.decreases), ((th, (T, (slot_same c.args.slot y low long, (rest th T y mem).0))), d.1, c.requires.1, c.requires.2, c.requires.3))
 
 pub explained-judged-requires : goal.explained-judged-requires
 explained-judged-requires t c =
     let (th, (T, (y, mem))) = c.requires.0 in
     let b = c.place_belief-b.ensures c.args.pack.now c.args.places.now th T y mem in
-    (omega (arith, c.decreases), ((th, (b.rows, (b.stage, b.memory))), c.requires.1, c.requires.2, free_held c.args.p c.args.slot _ b.to c.requires.3, omega (arith, c.if-d-eq0.false), b.inside))
+    (omega (arith, c.decreases), ((th, (b.rows, (b.stage, b.memory))), c.requires.1, c.requires.2, free_held c.args.p c.args.slot _ b.to c.requires.3, omega (arith, c.if-d-eq0.false), b.inside, c.requires.4))
 
 pub explains-extends-requires : goal.explains-extends-requires
 explains-extends-requires t c =
     let (th, (T, (y, mem))) = c.requires.0 in
-    let f = held_step c.args.p c.args.slot c.args.p.foresight.some c.requires.4 c.requires.3 in
+    let f = held_step c.args.p c.args.slot c.requires.6.some c.requires.4 c.requires.3 in
     let played = c.known_step.ensures.0 th T y mem in
     let zero : c.known_step.result ≡ true = c.if-not-known_step.false in
-    (omega (arith, c.decreases, c.args.p.foresight.few, c.requires.4), ((th, (next_table y _ played f c.known_step.auto.work zero, (next_stage y _ played f c.known_step.auto.work zero, played.further zero))), c.requires.1, held_rest c.args.p c.args.slot c.args.p.foresight.some c.requires.4 c.requires.3))
+    (omega (arith, c.decreases, c.requires.6.few, c.requires.4), ((th, (next_table y _ played f c.known_step.auto.work zero, (next_stage y _ played f c.known_step.auto.work zero, played.further zero))), c.requires.1, held_rest c.args.p c.args.slot c.requires.6.some c.requires.4 c.requires.3, c.requires.6))
 
 pub extends-utility-worth-requires : goal.extends-utility-worth-requires
 extends-utility-worth-requires t c =
@@ -286,19 +286,19 @@ extends-utility-worth-requires t c =
 pub extends-within_reach-requires : goal.extends-within_reach-requires
 extends-within_reach-requires t c =
     let (th, (T, (y, mem))) = c.requires.0 in
-    let wanted = 1 + c.args.quest.left + (1 + c.args.p.foresight.actions) * c.args.quest.goal.nesting.0 in
+    let wanted = 1 + c.args.quest.left + (1 + c.args.p.foresight.0) * c.args.quest.goal.nesting.0 in
     let few = free_few c.args.p c.args.slot wanted y.laid c.requires.2 in
     (((th, (T, y)), free_fewer c.args.p c.args.slot wanted 1 (omega arith) c.requires.2, omega (arith, c.requires.1)), omega (arith, few))
 
 pub extends-extends_by-found-requires : goal.extends-extends_by-found-requires
 extends-extends_by-found-requires t c =
     let (th, (T, (y, mem))) = c.requires.0 in
-    (omega (arith, c.decreases, c.if-quest-eq0.false), ((th, (T, (slot_same c.args.slot y (λ q l. c.recall.ensures.2.only.low q (omega (arith, l, c.requires.2))) c.recall.auto.work, (c.recall.ensures.2.told th c.args.p.foresight.actions (c.args.slot + c.args.p.stride) (omega (arith, c.requires.2)) y.slotted mem).0))), c.requires.1, free_fewer c.args.p c.args.slot (1 + c.args.quest.left + (1 + c.args.p.foresight.actions) * c.args.quest.goal.nesting.0) (2 + (c.args.quest.left - 1) + (1 + c.args.p.foresight.actions) * c.args.quest.goal.nesting.0) (omega (arith, c.if-quest-eq0.false)) c.requires.2))
+    (omega (arith, c.decreases, c.if-quest-eq0.false), ((th, (T, (slot_same c.args.slot y (λ q l. c.recall.ensures.2.only.low q (omega (arith, l, c.requires.2))) c.recall.auto.work, (c.recall.ensures.2.told th c.args.p.foresight.0 (c.args.slot + c.args.p.stride) (omega (arith, c.requires.2)) y.slotted mem).0))), c.requires.1, free_fewer c.args.p c.args.slot (1 + c.args.quest.left + (1 + c.args.p.foresight.0) * c.args.quest.goal.nesting.0) (2 + (c.args.quest.left - 1) + (1 + c.args.p.foresight.0) * c.args.quest.goal.nesting.0) (omega (arith, c.if-quest-eq0.false)) c.requires.2, c.requires.3))
 
 pub extends-remember_worth-requires : goal.extends-remember_worth-requires
 extends-remember_worth-requires t c =
     let (th, (T, (y, mem))) = c.requires.0 in
-    let told = c.extends_by-found.ensures th T (slot_same c.args.slot y (λ q l. c.recall.ensures.2.only.low q (omega (arith, l, c.requires.2))) c.recall.auto.work) (c.recall.ensures.2.told th c.args.p.foresight.actions (c.args.slot + c.args.p.stride) (omega (arith, c.requires.2)) y.slotted mem).0 in
+    let told = c.extends_by-found.ensures th T (slot_same c.args.slot y (λ q l. c.recall.ensures.2.only.low q (omega (arith, l, c.requires.2))) c.recall.auto.work) (c.recall.ensures.2.told th c.args.p.foresight.0 (c.args.slot + c.args.p.stride) (omega (arith, c.requires.2)) y.slotted mem).0 in
     (stage_before (slot_same c.args.slot (slot_same {now = c.recall.new.work} c.args.slot y (λ q l. c.recall.ensures.2.only.low q (omega (arith, l, c.requires.2))) c.recall.auto.work) told.low c.extends_by-found.auto.work) (omega (arith, c.requires.2)), c.steps_made-since.ensures)
 
 pub extends_by-promising-requires : goal.extends_by-promising-requires
@@ -311,19 +311,19 @@ pub extends_by-via-requires : goal.extends_by-via-requires
 extends_by-via-requires t c =
     let (th, (T, (y, mem))) = c.requires.0 in
     let (long, low, high, rest) = c.loop-x.invariant in
-    (omega (arith, c.decreases), ((th, (T, (slot_same c.args.slot y low long, (rest th T y mem).0))), c.requires.1, c.loop-x-test.true, omega (arith, c.requires.2)))
+    (omega (arith, c.decreases), ((th, (T, (slot_same c.args.slot y low long, (rest th T y mem).0))), c.requires.1, c.loop-x-test.true, omega (arith, c.requires.2), c.requires.3))
 
 pub judged-explains-verdict-requires : goal.judged-explains-verdict-requires
 judged-explains-verdict-requires t c =
     let (th, (T, (y, mem))) = c.requires.0 in
-    (omega (arith, c.decreases), ((th, (T, (slot_same {now = c.recall.new.work} c.args.slot y (λ q l. c.recall.ensures.2.only.low q (omega (arith, l, within c.args.p c.args.slot c.args.p.foresight.some c.requires.4 c.requires.3))) c.recall.auto.work, (c.recall.ensures.2.told th c.args.p.foresight.actions (c.args.slot + c.args.p.stride) (within c.args.p c.args.slot c.args.p.foresight.some c.requires.4 c.requires.3) y.slotted mem).0))), c.requires.1, c.requires.2, c.requires.3, c.requires.4, omega (arith, c.requires.5, c.recall.ensures.2.only.low c.args.slot (omega (arith, within c.args.p c.args.slot c.args.p.foresight.some c.requires.4 c.requires.3, y.laid.some)))))
+    (omega (arith, c.decreases), ((th, (T, (slot_same {now = c.recall.new.work} c.args.slot y (λ q l. c.recall.ensures.2.only.low q (omega (arith, l, within c.args.p c.args.slot c.requires.6.some c.requires.4 c.requires.3))) c.recall.auto.work, (c.recall.ensures.2.told th c.args.p.foresight.0 (c.args.slot + c.args.p.stride) (within c.args.p c.args.slot c.requires.6.some c.requires.4 c.requires.3) y.slotted mem).0))), c.requires.1, c.requires.2, c.requires.3, c.requires.4, omega (arith, c.requires.5, c.recall.ensures.2.only.low c.args.slot (omega (arith, within c.args.p c.args.slot c.requires.6.some c.requires.4 c.requires.3, y.laid.some))), c.requires.6))
 
 pub judged-remember_worth-requires : goal.judged-remember_worth-requires
 judged-remember_worth-requires t c =
     let (th, (T, (y, mem))) = c.requires.0 in
-    let told = c.explains-verdict.ensures th T (slot_same {now = c.recall.new.work} c.args.slot y (λ q l. c.recall.ensures.2.only.low q (omega (arith, l, within c.args.p c.args.slot c.args.p.foresight.some c.requires.4 c.requires.3))) c.recall.auto.work) (c.recall.ensures.2.told th c.args.p.foresight.actions (c.args.slot + c.args.p.stride) (within c.args.p c.args.slot c.args.p.foresight.some c.requires.4 c.requires.3) y.slotted mem).0 in
-    let z = slot_same c.args.slot (slot_same {now = c.recall.new.work} c.args.slot y (λ q l. c.recall.ensures.2.only.low q (omega (arith, l, within c.args.p c.args.slot c.args.p.foresight.some c.requires.4 c.requires.3))) c.recall.auto.work) told.low c.explains-verdict.auto.work in
-    (stage_before z (within c.args.p c.args.slot c.args.p.foresight.some c.requires.4 c.requires.3), c.steps_made-since.ensures)
+    let told = c.explains-verdict.ensures th T (slot_same {now = c.recall.new.work} c.args.slot y (λ q l. c.recall.ensures.2.only.low q (omega (arith, l, within c.args.p c.args.slot c.requires.6.some c.requires.4 c.requires.3))) c.recall.auto.work) (c.recall.ensures.2.told th c.args.p.foresight.0 (c.args.slot + c.args.p.stride) (within c.args.p c.args.slot c.requires.6.some c.requires.4 c.requires.3) y.slotted mem).0 in
+    let z = slot_same c.args.slot (slot_same {now = c.recall.new.work} c.args.slot y (λ q l. c.recall.ensures.2.only.low q (omega (arith, l, within c.args.p c.args.slot c.requires.6.some c.requires.4 c.requires.3))) c.recall.auto.work) told.low c.explains-verdict.auto.work in
+    (stage_before z (within c.args.p c.args.slot c.requires.6.some c.requires.4 c.requires.3), c.steps_made-since.ensures)
 
 pub via-known_step-requires : goal.via-known_step-requires
 via-known_step-requires t c =
@@ -340,18 +340,18 @@ via-extends-requires t c =
     let f : Free c.args.p (c.args.slot + c.args.p.stride) 1 = omega (arith, c.requires.3) in
     let played = c.known_step.ensures.0 th T z' told.memory in
     let zero : c.known_step.result ≡ true = c.if-known_step.true in
-    (omega (arith, c.decreases), ((th, (next_table z' 0 played f c.known_step.auto.work zero, (next_stage z' 0 played f c.known_step.auto.work zero, played.further zero))), c.requires.1, omega (arith, c.requires.3)))
+    (omega (arith, c.decreases), ((th, (next_table z' 0 played f c.known_step.auto.work zero, (next_stage z' 0 played f c.known_step.auto.work zero, played.further zero))), c.requires.1, omega (arith, c.requires.3), c.requires.4))
 
 pub explained-place_belief-b-requires : goal.explained-place_belief-b-requires
 explained-place_belief-b-requires t c =
-    ((c.args.pack.now, (c.args.places.now, c.requires.0)), c.requires.1, free_two c.args.p c.args.slot c.args.p.foresight.some (omega (arith, c.if-d-eq0.false)) c.requires.3)
+    ((c.args.pack.now, (c.args.places.now, c.requires.0)), c.requires.1, free_two c.args.p c.args.slot c.requires.4.some (omega (arith, c.if-d-eq0.false)) c.requires.3)
 
 pub explains-known_step-requires : goal.explains-known_step-requires
 explains-known_step-requires t c =
     let (th, (T, (y, mem))) = c.requires.0 in
-    (((th, (T, (y, mem))), c.requires.2, c.requires.5, held_step c.args.p c.args.slot c.args.p.foresight.some c.requires.4 c.requires.3))
+    (((th, (T, (y, mem))), c.requires.2, c.requires.5, held_step c.args.p c.args.slot c.requires.6.some c.requires.4 c.requires.3))
 
 pub judged-recall-requires : goal.judged-recall-requires
 judged-recall-requires t c =
     let (th, (T, (y, mem))) = c.requires.0 in
-    stage_before y (within c.args.p c.args.slot c.args.p.foresight.some c.requires.4 c.requires.3)
+    stage_before y (within c.args.p c.args.slot c.requires.6.some c.requires.4 c.requires.3)

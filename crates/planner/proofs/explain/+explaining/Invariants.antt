@@ -19,7 +19,7 @@ decreases-allowed l = 1000 * l.d.nesting.0 + 4
 abbrev pub invariant-allowed-loop-i : goal.invariant-allowed-loop-i
 invariant-allowed-loop-i l =
     (length l.work ≡ length l.initial.work) × Below l.initial.work l.work (l.slot + l.p.stride) × Above l.initial.work l.work work_room
-    × ((th : Theory) (T : List Node) → Stage th T l.pack l.places l.p l.initial.work (slot_table l.p l.initial.work l.slot) (l.slot + l.p.stride) → Memory th l.p.foresight.actions l.p (l.slot + l.p.stride) l.initial.work → Memory th l.p.foresight.actions l.p (l.slot + l.p.stride) l.work × ((j : ℕ) → j < l.i → Content th l.p.foresight.actions l.d.nesting.0 l.d.who l.d.action (meaning l.p.characters T 0) j))
+    × ((th : Theory) (T : List Node) → Stage th T l.pack l.places l.p l.initial.work (slot_table l.p l.initial.work l.slot) (l.slot + l.p.stride) → Memory th l.p.foresight.0 l.p (l.slot + l.p.stride) l.initial.work → Memory th l.p.foresight.0 l.p (l.slot + l.p.stride) l.work × ((j : ℕ) → j < l.i → Content th l.p.foresight.0 l.d.nesting.0 l.d.who l.d.action (meaning l.p.characters T 0) j))
 
 abbrev pub decreases-explained : goal.decreases-explained
 decreases-explained l = 1000 * l.d.nesting.0 + 2
@@ -38,7 +38,7 @@ decreases-extends_by l =
 abbrev pub invariant-extends_by-loop-x : goal.invariant-extends_by-loop-x
 invariant-extends_by-loop-x l =
     (length l.work ≡ length l.initial.work) × Below l.initial.work l.work (l.slot + l.p.stride) × Above l.initial.work l.work work_room
-    × ((th : Theory) (T : List Node) → Stage th T l.pack l.places l.p l.initial.work (slot_table l.p l.initial.work l.slot) (l.slot + l.p.stride) → Memory th l.p.foresight.actions l.p (l.slot + l.p.stride) l.initial.work → Memory th l.p.foresight.actions l.p (l.slot + l.p.stride) l.work × ((y : ℕ) → y < l.x → AboveBy th l.p.foresight.actions l.quest.goal.nesting.0 l.quest.who l.quest.goal.base (suc l.quest.left) y (meaning l.p.characters T 0) → ⊥))
+    × ((th : Theory) (T : List Node) → Stage th T l.pack l.places l.p l.initial.work (slot_table l.p l.initial.work l.slot) (l.slot + l.p.stride) → Memory th l.p.foresight.0 l.p (l.slot + l.p.stride) l.initial.work → Memory th l.p.foresight.0 l.p (l.slot + l.p.stride) l.work × ((y : ℕ) → y < l.x → AboveBy th l.p.foresight.0 l.quest.goal.nesting.0 l.quest.who l.quest.goal.base (suc l.quest.left) y (meaning l.p.characters T 0) → ⊥))
 
 abbrev pub decreases-fine : goal.decreases-fine
 decreases-fine l = 1000 * l.d.nesting.0 + 3

@@ -22,7 +22,7 @@ decreases-completes_after l = 3 * l.ahead.left + 2
 abbrev pub invariant-completes_after-loop-x : goal.invariant-completes_after-loop-x
 invariant-completes_after-loop-x l =
     (length l.work ≡ length l.initial.work) × (l.list ≡ l.initial.list) × Below l.initial.work l.work (l.ahead.done * l.p.stride + l.p.stride) × Above l.initial.work l.work work_room
-    × ((th : Theory) (T : List Node) → Stage th T l.pack l.places l.p l.initial.work (slot_table l.p l.initial.work (l.ahead.done * l.p.stride)) (l.ahead.done * l.p.stride + l.p.stride) → Memory th l.p.foresight.actions l.p (l.ahead.done * l.p.stride + l.p.stride) l.initial.work → Trail th l.p.foresight.actions l.ahead.goal.nesting.0 l.ahead.goal.base l.p l.initial.work l.ahead.done (suc l.ahead.left) (meaning l.p.characters T 0) → Memory th l.p.foresight.actions l.p (l.ahead.done * l.p.stride + l.p.stride) l.work × ((y : ℕ) → y < l.x → (list : List ℕ) (v : ℕ) → length list ≡ suc l.ahead.left → ¬ EndsBy th l.p.foresight.actions l.ahead.goal.nesting.0 l.ahead.goal.base y (meaning l.p.characters T 0) list v))
+    × ((th : Theory) (T : List Node) → Stage th T l.pack l.places l.p l.initial.work (slot_table l.p l.initial.work (l.ahead.done * l.p.stride)) (l.ahead.done * l.p.stride + l.p.stride) → Memory th l.p.foresight.0 l.p (l.ahead.done * l.p.stride + l.p.stride) l.initial.work → Trail th l.p.foresight.0 l.ahead.goal.nesting.0 l.ahead.goal.base l.p l.initial.work l.ahead.done (suc l.ahead.left) (meaning l.p.characters T 0) → Memory th l.p.foresight.0 l.p (l.ahead.done * l.p.stride + l.p.stride) l.work × ((y : ℕ) → y < l.x → (list : List ℕ) (v : ℕ) → length list ≡ suc l.ahead.left → ¬ EndsBy th l.p.foresight.0 l.ahead.goal.nesting.0 l.ahead.goal.base y (meaning l.p.characters T 0) list v))
 
 abbrev pub decreases-completes_by : goal.decreases-completes_by
 decreases-completes_by l = 3 * l.ahead.left + 1

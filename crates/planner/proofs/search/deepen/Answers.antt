@@ -22,15 +22,15 @@ returns-then-not-can_exceed c =
     λ th T y mem wr le.
     let low = sym (author-exceeds y c.args.g.base c.can_exceed.ensures) ∙ c.if-not-can_exceed.true in
     let more : c.args.most < c.args.most + 1 = omega arith in
-    shortest_none (λ q l. refl) (λ q l. refl) more refl (λ l v some few. no_end th c.args.p.foresight.actions c.args.g.nesting.0 c.args.g.base (meaning c.args.p.characters T 0) l v low)
+    shortest_none (λ q l. refl) (λ q l. refl) more refl (λ l v some few. no_end th c.args.p.foresight.0 c.args.g.nesting.0 c.args.g.base (meaning c.args.p.characters T 0) l v low)
 
 pub returns-in-Some : goal.returns-in-Some
 returns-in-Some c =
     let (some, long, same, low, high, rest) = c.loop-n.invariant in
     λ th T y mem wr le.
     let here = at_outset (slot_same 0 y low long) (rest th T y mem wr le).0 in
-    subst (λ (was : List ℕ). Shortest c.args.p (Ends th c.args.p.foresight.actions c.args.g.nesting.0 c.args.g.base (meaning c.args.p.characters T 0)) c.args.most was c.completes.new.list c.args.work.now c.completes.new.work (Some (record { count = c.loop-n.n; after = c.in-Some.after }))) same
-    (shortest_found low high some (omega (arith, c.loop-n-test.true)) (rest th T y mem wr le).1 c.in-Some.is (best_outset (c.completes.ensures th T here.0 here.1 (trail_outset c.args.p.foresight.actions c.args.g.nesting.0 c.args.g.base y low long wr le (rest th T y mem wr le).1))))
+    subst (λ (was : List ℕ). Shortest c.args.p (Ends th c.args.p.foresight.0 c.args.g.nesting.0 c.args.g.base (meaning c.args.p.characters T 0)) c.args.most was c.completes.new.list c.args.work.now c.completes.new.work (Some (record { count = c.loop-n.n; after = c.in-Some.after }))) same
+    (shortest_found low high some (omega (arith, c.loop-n-test.true)) (rest th T y mem wr le).1 c.in-Some.is (best_outset (c.completes.ensures th T here.0 here.1 (trail_outset c.args.p.foresight.0 c.args.g.nesting.0 c.args.g.base y low long wr le (rest th T y mem wr le).1))))
 
 pub loop-n-preserved : goal.loop-n-preserved
 loop-n-preserved c =
@@ -38,13 +38,13 @@ loop-n-preserved c =
     let (th, (T, (y, mem, wr, le))) = c.requires.0 in
     let zero : c.completes.result ≡ None = c.in_default.is in
     let here = at_outset (slot_same 0 y low long) (rest th T y mem wr le).0 in
-    let b = best_outset (c.completes.ensures th T here.0 here.1 (trail_outset c.args.p.foresight.actions c.args.g.nesting.0 c.args.g.base y low long wr le (rest th T y mem wr le).1)) in (
+    let b = best_outset (c.completes.ensures th T here.0 here.1 (trail_outset c.args.p.foresight.0 c.args.g.nesting.0 c.args.g.base y low long wr le (rest th T y mem wr le).1)) in (
       omega arith,
       c.completes.auto.work ∙ long,
       (b.none zero).0 ∙ same,
       λ q l. b.low q l ∙ low q l,
       λ q l. b.high q l ∙ high q l,
-      λ th T y mem wr le. let here = at_outset (slot_same 0 y low long) (rest th T y mem wr le).0 in let b = best_outset (c.completes.ensures th T here.0 here.1 (trail_outset c.args.p.foresight.actions c.args.g.nesting.0 c.args.g.base y low long wr le (rest th T y mem wr le).1)) in (b.memory, shorter (rest th T y mem wr le).1 (b.none zero).1),
+      λ th T y mem wr le. let here = at_outset (slot_same 0 y low long) (rest th T y mem wr le).0 in let b = best_outset (c.completes.ensures th T here.0 here.1 (trail_outset c.args.p.foresight.0 c.args.g.nesting.0 c.args.g.base y low long wr le (rest th T y mem wr le).1)) in (b.memory, shorter (rest th T y mem wr le).1 (b.none zero).1),
     )
 
 pub returns-in_default : goal.returns-in_default
@@ -52,7 +52,7 @@ returns-in_default c =
     let (some, long, same, low, high, rest) = c.loop-n.invariant in
     λ th T y mem wr le.
     let here = at_outset (slot_same 0 y low long) (rest th T y mem wr le).0 in
-    let b = best_outset (c.completes.ensures th T here.0 here.1 (trail_outset c.args.p.foresight.actions c.args.g.nesting.0 c.args.g.base y low long wr le (rest th T y mem wr le).1)) in
+    let b = best_outset (c.completes.ensures th T here.0 here.1 (trail_outset c.args.p.foresight.0 c.args.g.nesting.0 c.args.g.base y low long wr le (rest th T y mem wr le).1)) in
     let last : c.args.most < c.loop-n.n + 1 = omega arith in
     shortest_none (λ q l. b.low q l ∙ low q l) (λ q l. b.high q l ∙ high q l) last ((b.none c.in_default.is).0 ∙ same) (shorter (rest th T y mem wr le).1 (b.none c.in_default.is).1)
 
@@ -65,7 +65,7 @@ loop-n-init c =
       refl,
       λ q l. refl,
       λ q l. refl,
-      λ th T y mem wr le. (mem, λ l v long k. ends_beyond th c.args.p.foresight.actions c.args.g.nesting.0 c.args.g.base (length l) (meaning c.args.p.characters T 0) (beyond (length l) long k th T y) l v refl),
+      λ th T y mem wr le. (mem, λ l v long k. ends_beyond th c.args.p.foresight.0 c.args.g.nesting.0 c.args.g.base (length l) (meaning c.args.p.characters T 0) (beyond (length l) long k th T y) l v refl),
     )
 
 pub completes-requires : goal.completes-requires
@@ -73,8 +73,8 @@ completes-requires c =
     let (th, (T, (y, mem, wr, le))) = c.requires.0 in
     let (some, long, same, low, high, rest) = c.loop-n.invariant in
     let here = at_outset (slot_same 0 y low long) (rest th T y mem wr le).0 in
-    let count = 1 + c.loop-n.n + (1 + c.args.p.foresight.actions) * c.args.g.nesting.0 in
-    ((th, (T, (here.0, here.1, trail_outset c.args.p.foresight.actions c.args.g.nesting.0 c.args.g.base y low long wr le (rest th T y mem wr le).1))), free_outset c.args.p count (free_fewer c.args.p 0 (1 + c.args.most + (1 + c.args.p.foresight.actions) * c.args.g.nesting.0) count (omega (arith, c.loop-n-test.true)) c.requires.3), omega (arith, c.loop-n-test.true, c.requires.1, c.requires.2, ap length same))
+    let count = 1 + c.loop-n.n + (1 + c.args.p.foresight.0) * c.args.g.nesting.0 in
+    ((th, (T, (here.0, here.1, trail_outset c.args.p.foresight.0 c.args.g.nesting.0 c.args.g.base y low long wr le (rest th T y mem wr le).1))), free_outset c.args.p count (free_fewer c.args.p 0 (1 + c.args.most + (1 + c.args.p.foresight.0) * c.args.g.nesting.0) count (omega (arith, c.loop-n-test.true)) c.requires.3), omega (arith, c.loop-n-test.true, c.requires.1, c.requires.2, ap length same), c.requires.4)
 
 pub returns-else-not-can_exceed : goal.returns-else-not-can_exceed
 returns-else-not-can_exceed c =

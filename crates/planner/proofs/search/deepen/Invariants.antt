@@ -17,4 +17,4 @@ use Rattle.planner.proofs.search.deepen.Given as goal
 abbrev pub invariant-loop-n : goal.invariant-loop-n
 invariant-loop-n l =
     (0 < l.n) × (length l.work ≡ length l.initial.work) × (l.list ≡ l.initial.list) × Below l.initial.work l.work (0 + l.p.stride) × Above l.initial.work l.work work_room
-    × ((th : Theory) (T : List Node) → Stage th T l.pack l.places l.p l.initial.work (slot_table l.p l.initial.work 0) (0 + l.p.stride) → Memory th l.p.foresight.actions l.p (0 + l.p.stride) l.initial.work → Written l.p.characters T → author_utility th (meaning l.p.characters T 0) ≤ l.g.base → Memory th l.p.foresight.actions l.p (0 + l.p.stride) l.work × ((list : List ℕ) (v : ℕ) → 0 < length list → length list < l.n → ¬ Ends th l.p.foresight.actions l.g.nesting.0 l.g.base (meaning l.p.characters T 0) list v))
+    × ((th : Theory) (T : List Node) → Stage th T l.pack l.places l.p l.initial.work (slot_table l.p l.initial.work 0) (0 + l.p.stride) → Memory th l.p.foresight.0 l.p (0 + l.p.stride) l.initial.work → Written l.p.characters T → author_utility th (meaning l.p.characters T 0) ≤ l.g.base → Memory th l.p.foresight.0 l.p (0 + l.p.stride) l.work × ((list : List ℕ) (v : ℕ) → 0 < length list → length list < l.n → ¬ Ends th l.p.foresight.0 l.g.nesting.0 l.g.base (meaning l.p.characters T 0) list v))

@@ -18,7 +18,7 @@ use Rattle.planner.proofs.search.search_nodes.Goals.{After-utility-base}
 
 -- the number of the rule that holds is the author's utility at the start
 worth : (c : After-utility-base) {th : Theory} {T : List Node} →
-    (x : Seeking th T c.args.pack.now c.args.places.now c.args.p c.args.nodes.first c.args.nodes.count c.args.limits.story.0 c.args.p.foresight.actions c.args.limits.nesting.0 c.args.list.now c.args.work.now)
+    (x : Seeking th T c.args.pack.now c.args.places.now c.args.p c.args.nodes.first c.args.nodes.count c.args.limits.story.0 c.args.p.foresight.0 c.args.limits.nesting.0 c.args.list.now c.args.work.now)
     → c.utility-base.result ≡ author_utility th (meaning c.args.p.characters (seek_table x (c.lay_start.ensures T (seek_laying x)) c.lay_start.auto.work) 0)
 worth c {th} {T} x =
     author-utility (seek_slot x (c.lay_start.ensures T (seek_laying x)) c.lay_start.auto.work) 0 (utility_in c.args.pack.now (get_or c.args.places.now 320 0) c.lay_start.new.work 0 c.utility-base.result c.table_in-t.ensures c.utility-base.ensures)
@@ -51,7 +51,7 @@ pub deepen-found-requires : goal.deepen-found-requires
 deepen-found-requires c =
     let (th, (T, x)) = c.requires in
     let y = c.lay_start.ensures T (seek_laying x) in
-    ((th, (seek_table x y c.lay_start.auto.work, (seek_slot x y c.lay_start.auto.work, seek_memory x y c.lay_start.auto.work, y.starts.0, seek_base x y c.lay_start.auto.work (worth (goal.at.deepen-found-requires c).After-utility-base x)))), x.storied, x.has_list_room, x.slots)
+    ((th, (seek_table x y c.lay_start.auto.work, (seek_slot x y c.lay_start.auto.work, seek_memory x y c.lay_start.auto.work, y.starts.0, seek_base x y c.lay_start.auto.work (worth (goal.at.deepen-found-requires c).After-utility-base x)))), x.storied, x.has_list_room, x.slots, record { some = x.foreseen.0; few = x.foreseen.1 })
 
 pub clear-requires : goal.clear-requires
 clear-requires c =
@@ -66,7 +66,7 @@ returns-in_err-best c =
     let none = c.in_err-best.ensures.ok_part in
     let told : c.ok_or.result ≡ Err NoEnding = c.ok_or.ensures.value ∙ ap (λ (o : Option Ended). ok_or o NoEnding) none in
     let handed : c.from_residual.result ≡ Err NoEnding = search (rules, told, c.in_err-best.was) in
-    subst (SearchPut th c.args.limits.story.0 c.args.p.foresight.actions c.args.limits.nesting.0 (meaning c.args.p.characters T 0) c.args.list.now c.deepen-found.new.list c.args.work.now c.clear.new.work) (sym handed)
+    subst (SearchPut th c.args.limits.story.0 c.args.p.foresight.0 c.args.limits.nesting.0 (meaning c.args.p.characters T 0) c.args.list.now c.deepen-found.new.list c.args.work.now c.clear.new.work) (sym handed)
     (seek_none x y c.lay_start.auto.work (seek_from x y c.lay_start.auto.work is) (seek_same x y c.lay_start.auto.work (c.deepen-found.ensures th (seek_table x y c.lay_start.auto.work) (seek_slot x y c.lay_start.auto.work) (seek_memory x y c.lay_start.auto.work) y.starts.0 (seek_base x y c.lay_start.auto.work is))) c.clear.ensures (omega (arith, c.clear.auto, c.deepen-found.auto.work, c.lay_start.auto)) c.deepen-found.auto.list none)
 
 pub returns : goal.returns

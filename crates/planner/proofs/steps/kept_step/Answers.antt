@@ -106,8 +106,8 @@ returns-then-plays c =
       λ th T x m.
           let y = table_stage c.table_in-t.ensures x in
           let y' = stage_same y (λ q l. c.id_of.ensures.1.interning.only.low q (omega (arith, l, free))) c.id_of.auto.work in
-          subst (λ (t : Table). Advanced th c.args.p.foresight.actions c.args.p (meaning t.characters T c.args.root) c.args.action t c.args.work.now c.note_left.new.work (c.args.slot + c.args.p.stride) c.is_ok-plays.result) c.table_in-t.ensures
-          (step_left y free c.args.root c.id_of.ensures.1.interning.only (c.id_of.ensures.1.interning.told th c.args.p.foresight.actions (c.args.slot + c.args.p.stride) (omega (arith, free)) x.slotted m).0 (c.step_slot.ensures th T _ (stage_setting y' free) there (subst (λ (t : Table). c.args.root < t.nodes) (sym c.table_in-t.ensures) row)) (c.step_slot.auto.work ∙ c.id_of.auto.work) (plays_zero _ (sym c.is_ok-plays.ensures.value ∙ c.if-plays.true)) c.if-plays.true c.note_left.ensures),
+          subst (λ (t : Table). Advanced th c.args.p.foresight.0 c.args.p (meaning t.characters T c.args.root) c.args.action t c.args.work.now c.note_left.new.work (c.args.slot + c.args.p.stride) c.is_ok-plays.result) c.table_in-t.ensures
+          (step_left y free c.args.root c.id_of.ensures.1.interning.only (c.id_of.ensures.1.interning.told th c.args.p.foresight.0 (c.args.slot + c.args.p.stride) (omega (arith, free)) x.slotted m).0 (c.step_slot.ensures th T _ (stage_setting y' free) there (subst (λ (t : Table). c.args.root < t.nodes) (sym c.table_in-t.ensures) row)) (c.step_slot.auto.work ∙ c.id_of.auto.work) (plays_zero _ (sym c.is_ok-plays.ensures.value ∙ c.if-plays.true)) c.if-plays.true c.note_left.ensures),
       once_left c.args.p c.id_of.ensures.1 refl unread c.if-plays.true (subst (λ (t : Table). LeftNoted c.args.p t c.args.root c.args.action (c.args.slot + c.args.p.stride) c.step_slot.new.work c.note_left.new.work) c.table_in-t.ensures c.note_left.ensures),
     )
 
@@ -121,7 +121,7 @@ returns-else-plays c =
       λ th T x m.
           let y = table_stage c.table_in-t.ensures x in
           let y' = stage_same y (λ q l. c.id_of.ensures.1.interning.only.low q (omega (arith, l, free))) c.id_of.auto.work in
-          subst (λ (t : Table). Advanced th c.args.p.foresight.actions c.args.p (meaning t.characters T c.args.root) c.args.action t c.args.work.now c.note.new.work (c.args.slot + c.args.p.stride) c.is_ok-plays.result) c.table_in-t.ensures
-          (step_refused y free c.args.root c.id_of.ensures.1.interning.only (c.id_of.ensures.1.interning.told th c.args.p.foresight.actions (c.args.slot + c.args.p.stride) (omega (arith, free)) x.slotted m).0 (c.step_slot.ensures th T _ (stage_setting y' free) there (subst (λ (t : Table). c.args.root < t.nodes) (sym c.table_in-t.ensures) row)) (c.step_slot.auto.work ∙ c.id_of.auto.work) (stopped_some _ (sym c.is_ok-plays.ensures.value ∙ c.if-plays.false)) c.if-plays.false c.note.ensures),
+          subst (λ (t : Table). Advanced th c.args.p.foresight.0 c.args.p (meaning t.characters T c.args.root) c.args.action t c.args.work.now c.note.new.work (c.args.slot + c.args.p.stride) c.is_ok-plays.result) c.table_in-t.ensures
+          (step_refused y free c.args.root c.id_of.ensures.1.interning.only (c.id_of.ensures.1.interning.told th c.args.p.foresight.0 (c.args.slot + c.args.p.stride) (omega (arith, free)) x.slotted m).0 (c.step_slot.ensures th T _ (stage_setting y' free) there (subst (λ (t : Table). c.args.root < t.nodes) (sym c.table_in-t.ensures) row)) (c.step_slot.auto.work ∙ c.id_of.auto.work) (stopped_some _ (sym c.is_ok-plays.ensures.value ∙ c.if-plays.false)) c.if-plays.false c.note.ensures),
       once_refused c.args.p c.id_of.ensures.1 refl unread c.if-plays.false (subst (λ (t : Table). Noted c.args.p t c.args.root c.args.action 0 c.step_slot.new.work c.note.new.work) c.table_in-t.ensures c.note.ensures),
     )

@@ -64,5 +64,5 @@ returns c =
     let row' = subst (λ (t : Table). c.args.root < t.nodes) (sym c.table_in-t.ensures) row in
     let z = c.step_slot.ensures th T _ (stage_setting y' free) there row' in
     let after = stage_slot (stage_same y' z.only.low c.step_slot.auto.work) free in
-    subst (λ (t : Table). Advanced th c.args.p.foresight.actions c.args.p (meaning t.characters T c.args.root) c.args.action t c.args.work.now (set c.step_slot.new.work (id_at c.args.p (c.args.slot + c.args.p.stride + 1)) 0) (c.args.slot + c.args.p.stride) c.is_ok-plays.result) c.table_in-t.ensures
+    subst (λ (t : Table). Advanced th c.args.p.foresight.0 c.args.p (meaning t.characters T c.args.root) c.args.action t c.args.work.now (set c.step_slot.new.work (id_at c.args.p (c.args.slot + c.args.p.stride + 1)) 0) (c.args.slot + c.args.p.stride) c.is_ok-plays.result) c.table_in-t.ensures
     (step_plain y free c.args.root (unasked_only c.args.p x.laid c.count_step.ensures) (memory_unasked c.args.p c.count_step.ensures (omega (arith, free)) m) z (c.step_slot.auto.work ∙ c.count_step.auto.work) (λ e. plays_zero _ (sym c.is_ok-plays.ensures.value ∙ e)) (λ e. stopped_some _ (sym c.is_ok-plays.ensures.value ∙ e)) after)

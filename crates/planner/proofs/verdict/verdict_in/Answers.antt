@@ -22,4 +22,4 @@ pub explained-verdict-requires : goal.explained-verdict-requires
 explained-verdict-requires c =
     let (th, (T, x)) = c.requires in
     let z = subst (Cleared c.copy_table.new.buffer c.clear.new.work c.args.p.memory) (fixed x.laid) c.clear.ensures in
-    ((th, (T, (judge_ready x c.copy_table.ensures z c.clear.auto.work, judge_memory x c.copy_table.ensures z c.clear.auto.work))), x.who, x.what, x.slots)
+    ((th, (T, (judge_ready x c.copy_table.ensures z c.clear.auto.work, judge_memory x c.copy_table.ensures z c.clear.auto.work))), x.who, x.what, x.slots, record { some = x.foreseen.0; few = x.foreseen.1 })
