@@ -75,7 +75,7 @@ use Rattle.pirwodd.specs.Laws.Calls.{
   ending_of,
   same_exactly,
   differ_exactly,
-  none_exactly,
+  no_ending_exactly,
   ending_exactly,
   seen_all,
   told_answer,
@@ -421,7 +421,7 @@ module _ {pack : List ℕ} {p : Pack} (given : Given pack p) where
       pub search_call_none : (r ≡ Err NoEnding)
           ↔ ((actions : List ℕ) → ¬ Ending theory T K E (state p.nodes) actions)
       search_call_none =
-          let x = none_exactly (search_reply pack T K E list work) list promise.answer promise.result in
+          let x = no_ending_exactly (search_reply pack T K E list work) list promise.answer promise.result in
           (λ e. no_ending.0 (x.0 e), λ h. x.1 (no_ending.1 h))
 
       -- a list of n actions at the buffer's front that is the shortest ending, then the earliest, and the author's
@@ -443,7 +443,7 @@ module _ {pack : List ℕ} {p : Pack} (given : Given pack p) where
       unfolding result_after
       search_call_total = ⊎_elim
           (λ (e : search_reply pack T K E list work ≡ refuses 13 0).
-          inl ((none_exactly (search_reply pack T K E list work) list promise.answer promise.result).1 e))
+          inl ((no_ending_exactly (search_reply pack T K E list work) list promise.answer promise.result).1 e))
           (λ (g : (actions : List ℕ) × (before : ℕ) × (after : ℕ) × (search_reply pack T K E list work ≡ gives (record {
             list = actions;
             before = before;

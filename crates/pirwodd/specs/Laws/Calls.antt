@@ -138,6 +138,10 @@ only_thirteen (whys.Stopped stop) e = absurd (few stop e)
     few stops.States e = omega arith
 only_thirteen NoEnding e = refl
 
+said_refused : (r : Result planner.Ending Refusal) {n p : ℕ} → search_said r ≡ refuses n p → Because r n p
+said_refused (Ok e) f = never_gives (sym f)
+said_refused (Err why) f = (why, refl, same_number f, same_place f)
+
 none_said : (r : Result planner.Ending Refusal) → search_said r ≡ refuses 13 0 → r ≡ Err NoEnding
 none_said (Ok e) f = never_gives (sym f)
 none_said (Err why) f = ap Err (only_thirteen why (same_number f))
@@ -160,8 +164,15 @@ said_ending (Err why) f = never_gives f
 module _ (x : Reply Plan) (list : List ℕ) {list' : List ℕ} {r : Result planner.Ending Refusal}
     (answer : search_said r ≡ told summary x)
     (result : list' ≡ result_after (told (λ p. p.list) x) list) where
-  pub none_exactly : (r ≡ Err NoEnding) ↔ (x ≡ refuses 13 0)
-  none_exactly =
+  pub none_exactly : (n p : ℕ) → Because r n p ↔ (x ≡ refuses n p)
+  none_exactly n p = (
+    λ (why, e, number, place). stayed summary x (sym answer ∙ ap search_said e ∙ ap₂ refuses number place),
+    λ e. said_refused r (answer ∙ ap (told summary) e),
+  )
+
+  -- and of the refusals "no ending" is 13
+  pub no_ending_exactly : (r ≡ Err NoEnding) ↔ (x ≡ refuses 13 0)
+  no_ending_exactly =
       (λ e. stayed summary x (sym answer ∙ ap search_said e), λ e. none_said r (answer ∙ ap (told summary) e))
 
   pub ending_exactly : (n before after : ℕ)
