@@ -42,6 +42,7 @@ pub fn value_class(
     ensures { Found (of_values (SameValues work.now) t) (first_of work.now g) count i result }
 {
     let mut next = last;
+    // The classes stand on a chain, so that no range has them.
     while let Some(p) = next.checked_sub(1) {
         let j = usize::from(work[g.firsts + p]);
         if same_part(work, t.rows + j * t.width, t.rows + i * t.width, t.fluents) {

@@ -17,3 +17,4 @@ pub mod Judged
 pub mod OneByte
 pub mod WrittenValues
 pub mod Wanted
+pub mod Reasons

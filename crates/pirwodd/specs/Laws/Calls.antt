@@ -6,14 +6,10 @@ use mathlib.Core.List.{List, [], ◌∷◌, ◌++◌}
 use Rattle.std.proofs.Math.ListN.{length, drop}
 use Rattle.pack.specs.Reading.{Reply, gives, refuses, told, pick}
 use Rattle.pack.specs.Laws.Reading.{never_gives, same_gift, same_number}
-use Rattle.pack.specs.Refusals.{number_of, stop_number, refusal_number, place_of}
+use Rattle.pack.specs.Laws.Reasons.{one_reason}
+use Rattle.pack.specs.Refusals.{refusal_number, place_of}
 use Rattle.pack.specs.Refusals.{replied}
-use Rattle.pack.specs.declared.refusal.Fault.{Fault}
-use Rattle.pack.specs.declared.refusal.Fault.TheVariants as faults
-use Rattle.pack.specs.declared.refusal.Stop.{Stop}
-use Rattle.pack.specs.declared.refusal.Stop.TheVariants as stops
 use Rattle.pack.specs.declared.refusal.Refusal.{Refusal}
-use Rattle.pack.specs.declared.refusal.Refusal.TheVariants as whys
 use Rattle.pack.specs.declared.refusal.Refusal.TheVariants.{NoEnding}
 use Rattle.chart.specs.declared.Difference as chart
 use Rattle.chart.specs.Compare.{Verdict, same, differ}
@@ -115,36 +111,9 @@ module _ (x : Reply Verdict) (chain : List ℕ) {chain' : List ℕ} {r : Result 
             g ∙ ap (λ (f : ℕ). gives (differ ch f)) fluent,
           )
 
--- 13 is the number of "no ending" alone
-only_thirteen : (why : Refusal) → refusal_number why ≡ 13 → why ≡ NoEnding
-only_thirteen (whys.Pack flaw) e = absurd (few flaw.fault e)
-  where
-    few : (f : Fault) → number_of f ≡ 13 → ⊥
-    few faults.Ends e = omega arith
-    few faults.Form e = omega arith
-    few faults.Limit e = omega arith
-    few faults.Absent e = omega arith
-    few faults.Blank e = omega arith
-    few faults.Order e = omega arith
-    few faults.After e = omega arith
-only_thirteen (whys.Chart flaw) e = absurd (omega arith)
-only_thirteen whys.Short e = absurd (omega arith)
-only_thirteen whys.Range e = absurd (omega arith)
-only_thirteen (whys.Stopped stop) e = absurd (few stop e)
-  where
-    few : (s : Stop) → stop_number s ≡ 13 → ⊥
-    few stops.Condition e = omega arith
-    few stops.Rounds e = omega arith
-    few stops.States e = omega arith
-only_thirteen NoEnding e = refl
-
 said_refused : (r : Result planner.Ending Refusal) {n p : ℕ} → search_said r ≡ refuses n p → Because r n p
 said_refused (Ok e) f = never_gives (sym f)
 said_refused (Err why) f = (why, refl, same_number f, same_place f)
-
-none_said : (r : Result planner.Ending Refusal) → search_said r ≡ refuses 13 0 → r ≡ Err NoEnding
-none_said (Ok e) f = never_gives (sym f)
-none_said (Err why) f = ap Err (only_thirteen why (same_number f))
 
 -- the ending of a length and both utilities
 abbrev pub ending_of : (length before after : ℕ) → planner.Ending
@@ -172,8 +141,10 @@ module _ (x : Reply Plan) (list : List ℕ) {list' : List ℕ} {r : Result plann
 
   -- and of the refusals "no ending" is 13
   pub no_ending_exactly : (r ≡ Err NoEnding) ↔ (x ≡ refuses 13 0)
-  no_ending_exactly =
-      (λ e. stayed summary x (sym answer ∙ ap search_said e), λ e. none_said r (answer ∙ ap (told summary) e))
+  no_ending_exactly = (
+    λ e. (none_exactly 13 0).0 (NoEnding, e, refl, refl),
+    λ e. let (why, is, number, place) = (none_exactly 13 0).1 e in is ∙ ap Err (one_reason why NoEnding number place),
+  )
 
   pub ending_exactly : (n before after : ℕ)
       → (r ≡ Ok (ending_of n before after))
