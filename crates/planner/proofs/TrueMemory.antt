@@ -24,9 +24,6 @@ use Rattle.planner.specs.declared.limits.Context.{Context}
 use Rattle.planner.specs.declared.entry.Key.{Key}
 use Rattle.planner.specs.Inner.Lists.{slot_table}
 use Rattle.std.specs.Prelude.{Option, Some, None}
-use Rattle.planner.specs.Inner.Known.{Marks}
-use Rattle.planner.specs.declared.known.Known.{Known}
-use Rattle.planner.specs.declared.known.Known.TheVariants as known
 use Rattle.planner.specs.Inner.Memory.{Names, Laid, id_at, taken_at, heads_at, head_at, steps_at, facts_at, links_at, tables_at, kept_at, kept_table, Behind, OnChain, Kept, Alike, HasId, StepFact, Fact, key_at, SlotEntry, StepEntry, FactEntry, Memory, slot_id, entry_at, step_at, Place, Before, InSlot, Fits, Only, Unasked, FoundOn, Linked, Placed, Stored, Interning, Identified, Storable, Spent, Roomy, CellFact, Cells, cell_at, cell_size, KeyPut, FactRead, FactKnown, Recalls, Notes, Recalled, Remembered, StepRead, StepKnown, StepPut, Noted, Slot, Again, LeftNoted}
 use Rattle.planner.proofs.Chains.{Wider, Grown, kept_from, table_moved, inside_count, inside_table, inside_grown, inside_hash, alike_grown, chain_back, chain_none, grown_same, grown_by, chained_none, alike_hash, id_listed, id_once, found_id, found_exact, linked_wider, linked_grown, behind_here}
 
@@ -51,17 +48,6 @@ pub again_kept : {h : Context} {work : List ℕ} {id : Option ℕ} {n : ℕ} →
 again_kept {h} {work} is x =
     let (some, (small, kept)) = subst (λ (id : Option ℕ). Names id (λ id. (id < 256) × (0 < id → Kept h work id))) is x in
     (small, kept some)
-
--- 0 marks nothing
-pub unmarked : Marks 0 None
-unmarked (known.Reached true) e = omega (arith, e)
-unmarked (known.Reached false) e = omega (arith, e)
-unmarked known.NoEnding e = omega (arith, e)
-unmarked (known.Explained true) e = omega (arith, e)
-unmarked (known.Explained false) e = omega (arith, e)
-
-pub marks_none : {o : Option Known} → o ≡ None → Marks 0 o
-marks_none e = subst (Marks 0) (sym e) unmarked
 
 -- keys of the same numbers
 pub key_same : {w w' n n' l l' b b' : ℕ} → w ≡ w' → n ≡ n' → l ≡ l' → b ≡ b' → ◌≡◌ {A = Key} (record { who = w; nesting = n; number = l; base = b }) (record { who = w'; nesting = n'; number = l'; base = b' })

@@ -9,13 +9,11 @@ ghost use Rattle.std.specs.Prelude.{◌≡◌, true, false, ◌⊎◌, ℕ, ◌+
 ghost use Rattle.chart.specs.Call.{work_room};
 ghost use Rattle.transition.specs.Duties.Stage.{scratch_at};
 ghost use Rattle.planner.specs.Inner.Lists.{slot_table};
-ghost use Rattle.planner.specs.Inner.Known.{mark_of, Marks};
 ghost use Rattle.planner.specs.Inner.Memory.{Laid, Before, Spent, cell_size, Bucket, CellIn, bucket_at};
 ghost use Rattle.planner.specs.Inner.Memory.{rank_at, Holds, FoundIn, CellPut, CellKept, Remembered};
 
 use crate::entry::{Key, keyed, put_key, storable};
 use crate::intern::{digest, extent};
-use crate::known::{Known, known_of};
 use crate::limits::Context;
 use crate::regions::{ROWS, STEPS, WAYS};
 use chart::bytes::{copy_part, same_part};
@@ -57,20 +55,20 @@ pub fn cell_has(work: &[u8], p: Context, slot: usize, at: usize, k: Key) -> bool
     same_part(work, slot, at + 7, n)
 }
 
-// What is known of the table in a slot by a key, where a cell of its bucket holds it.
-pub fn recall_cell(work: &[u8], p: Context, slot: usize, k: Key) -> Option<Known>
+// The mark of what is known of the table in a slot by a key, where a cell of its bucket holds it; else 0.
+pub fn recall_cell(work: &[u8], p: Context, slot: usize, k: Key) -> u8
     requires { Before p work.now (slot_table p work.now slot) }
-    ensures { (mark : ℕ) × Marks mark result × FoundIn p work.now slot k mark }
+    ensures { FoundIn p work.now slot k result }
 {
     let first = bucket_at(work, p, slot, k);
     let size = cell_size(p);
     for i in 0..WAYS {
         let at = first + i * size;
         if cell_has(work, p, slot, at, k) {
-            return known_of(work[at]);
+            return work[at];
         }
     }
-    None
+    0
 }
 
 // Which of two cells has the lower rank.
@@ -105,23 +103,23 @@ pub fn rank_of(steps: usize) -> u8 {
 }
 
 // Puts what is known of the table in a slot into a cell.
-pub fn put_cell(work: &mut [u8], p: Context, slot: usize, at: usize, known: Known, k: Key, rank: u8)
+pub fn put_cell(work: &mut [u8], p: Context, slot: usize, at: usize, mark: u8, k: Key, rank: u8)
     requires { Before p work.old (slot_table p work.old slot) × (at + cell_size p ≤ scratch_at)
         × (get_or work.old slot 0 ≤ 6) × (p.memory ≤ at) × (k.who < 256) × (k.nesting < 256) × (k.number < 256)
         × (k.base < 65536) }
-    ensures { CellPut p slot at (mark_of known) k work.old work.new }
+    ensures { CellPut p slot at mark k work.old work.new }
 {
-    put_key(work, at, known, k);
+    put_key(work, at, mark, k);
     work[at + 6] = rank;
     let n = extent(work, p, slot);
     copy_part(work, slot, at + 7, n);
 }
 
 // Puts it down, unless all that its bucket holds took longer to find out: then the rank of the lowest falls.
-pub fn remember_cell(work: &mut [u8], p: Context, slot: usize, known: Known, k: Key, steps: usize)
+pub fn remember_cell(work: &mut [u8], p: Context, slot: usize, mark: u8, k: Key, steps: usize)
     requires { Before p work.old (slot_table p work.old slot) × Spent p work.old }
-    ensures { Remembered p (slot_table p work.old slot) (mark_of known) k work.old work.new
-        × CellKept p slot (mark_of known) k work.old work.new }
+    ensures { Remembered p (slot_table p work.old slot) mark k work.old work.new
+        × CellKept p slot mark k work.old work.new }
 {
     if ROWS < usize::from(work[slot]) || !storable(k) {
         return;
@@ -134,5 +132,5 @@ pub fn remember_cell(work: &mut [u8], p: Context, slot: usize, known: Known, k: 
         work[at + 6] = old - 1;
         return;
     }
-    put_cell(work, p, slot, at, known, k, rank)
+    put_cell(work, p, slot, at, mark, k, rank)
 }

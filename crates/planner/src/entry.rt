@@ -2,14 +2,12 @@
 // of its table and a key; one entry for each hash, each true.
 ghost use Rattle.std.specs.Prelude.{◌≡◌, true, false, ℕ, ◌+◌, ◌*◌, ◌<◌, ◌≤◌, length};
 ghost use Rattle.planner.specs.Inner.Lists.{slot_table};
-ghost use Rattle.planner.specs.Inner.Known.{mark_of, Marks};
 ghost use Rattle.planner.specs.Inner.Memory.{Laid, Before, Place, Storable, KeyPut};
 ghost use Rattle.planner.specs.Inner.Memory.{Recalled, Recalls, Remembered, Notes, Roomy, Spent, FoundIn};
 ghost use Rattle.planner.specs.Inner.Memory.{facts_at, entry_at, goal_key, deed_key, key_at};
 
 use crate::cell::{recall_cell, remember_cell};
 use crate::intern::{id_of, in_cells};
-use crate::known::{Known, known_of, mark_of};
 use crate::limits::{Context, Nesting, remainder};
 use crate::regions::{STEPS, WORTH};
 use crate::steps::steps_made;
@@ -91,32 +89,34 @@ pub fn storable(k: Key) -> bool
     k.who < 256 && k.nesting < 256 && k.number < 256 && k.base < 65536
 }
 
-// What is known of the table in a slot by this key, if anything.
-pub fn recall(work: &mut [u8], p: Context, slot: usize, k: Key) -> Option<Known>
+// The mark of what is known of the table in a slot by this key; 0 where nothing is. What the memory is handed and hands
+// back is a mark and no `Known`: its promises hold of any byte.
+pub fn recall(work: &mut [u8], p: Context, slot: usize, k: Key) -> u8
     requires { Before p work.old (slot_table p work.old slot) }
-    ensures { (mark : ℕ) × Marks mark result
-        × Recalled p (slot_table p work.old slot) k work.old work.new mark
-        × (Roomy p work.old → Recalls p (slot_table p work.old slot) k work.old work.new mark)
-        × (Spent p work.old → FoundIn p work.old slot k mark) }
+    ensures { Recalled p (slot_table p work.old slot) k work.old work.new result
+        × (Roomy p work.old → Recalls p (slot_table p work.old slot) k work.old work.new result)
+        × (Spent p work.old → FoundIn p work.old slot k result) }
 {
     if in_cells(work, p) {
         return recall_cell(work, p, slot, k);
     }
-    let id = id_of(work, p, slot)?;
+    let Some(id) = id_of(work, p, slot) else {
+        return 0;
+    };
     let at = entry_at(p, id, k);
     if usize::from(work[at + 6]) != id || !keyed(work, at, k) {
-        return None;
+        return 0;
     }
-    known_of(work[at])
+    work[at]
 }
 
 // Writes an entry's mark and key.
-pub fn put_key(work: &mut [u8], at: usize, known: Known, k: Key)
+pub fn put_key(work: &mut [u8], at: usize, mark: u8, k: Key)
     requires { (at + 6 ≤ length work.old) × (k.who < 256) × (k.nesting < 256) × (k.number < 256)
         × (k.base < 65536) }
-    ensures { KeyPut work.old work.new at (mark_of known) k }
+    ensures { KeyPut work.old work.new at mark k }
 {
-    work[at] = mark_of(known);
+    work[at] = mark;
     work[at + 1] = k.who as u8;
     work[at + 2] = k.nesting as u8;
     work[at + 3] = k.number as u8;
@@ -125,34 +125,34 @@ pub fn put_key(work: &mut [u8], at: usize, known: Known, k: Key)
 }
 
 // Puts down what is known of the table in a slot by this key, in the place of what stood there.
-pub fn remember(work: &mut [u8], p: Context, slot: usize, known: Known, k: Key)
+pub fn remember(work: &mut [u8], p: Context, slot: usize, mark: u8, k: Key)
     requires { Before p work.old (slot_table p work.old slot) }
-    ensures { Remembered p (slot_table p work.old slot) (mark_of known) k work.old work.new
-        × Notes p (slot_table p work.old slot) (mark_of known) k work.old work.new }
+    ensures { Remembered p (slot_table p work.old slot) mark k work.old work.new
+        × Notes p (slot_table p work.old slot) mark k work.old work.new }
 {
     let Some(id) = id_of(work, p, slot) else {
         return;
     };
     if storable(k) {
         let at = entry_at(p, id, k);
-        put_key(work, at, known, k);
+        put_key(work, at, mark, k);
         work[at + 6] = id as u8;
     }
 }
 
 // As `remember`, of what was found out since so many steps had been made: once there was no room it is put into a cell,
 // and what took few steps is found out anew.
-pub fn remember_worth(work: &mut [u8], p: Context, slot: usize, known: Known, k: Key, since: usize)
+pub fn remember_worth(work: &mut [u8], p: Context, slot: usize, mark: u8, k: Key, since: usize)
     requires { Before p work.old (slot_table p work.old slot) × (since < 16777216) }
-    ensures { Remembered p (slot_table p work.old slot) (mark_of known) k work.old work.new
-        × (Roomy p work.old → Notes p (slot_table p work.old slot) (mark_of known) k work.old work.new) }
+    ensures { Remembered p (slot_table p work.old slot) mark k work.old work.new
+        × (Roomy p work.old → Notes p (slot_table p work.old slot) mark k work.old work.new) }
 {
     if in_cells(work, p) {
         let made = steps_made(work, p);
         if made < since + WORTH {
             return;
         }
-        return remember_cell(work, p, slot, known, k, made - since);
+        return remember_cell(work, p, slot, mark, k, made - since);
     }
-    remember(work, p, slot, known, k)
+    remember(work, p, slot, mark, k)
 }

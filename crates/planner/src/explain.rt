@@ -14,7 +14,7 @@ use crate::belief::place_belief;
 use crate::bound::pointless;
 use crate::entry::{Deed, Goal, deed_key, goal_key, recall, remember_worth};
 use crate::intern::table_in;
-use crate::known::Known;
+use crate::known::{Known, known_of, mark_of};
 use crate::limits::{Context, Nesting};
 use crate::prune::{Hope, promising};
 use crate::reach::within_reach;
@@ -74,12 +74,19 @@ pub fn judged(
         work.new result (λ th b. ExplainedBy th p.foresight.0 d.nesting.0 d.who d.action b) }
 {
     let key = deed_key(d, q);
-    if let Some(Known::Explained(verdict)) = recall(work, p, slot, key) {
+    if let Some(Known::Explained(verdict)) = known_of(recall(work, p, slot, key)) {
         return verdict;
     }
     let since = steps_made(work, p);
     let verdict = explains(pack, places, p, work, slot, d, q);
-    remember_worth(work, p, slot, Known::Explained(verdict), key, since);
+    remember_worth(
+        work,
+        p,
+        slot,
+        mark_of(Known::Explained(verdict)),
+        key,
+        since,
+    );
     verdict
 }
 
@@ -165,7 +172,7 @@ pub fn extends(
         return false;
     }
     let key = goal_key(whose, goal, quest.left);
-    if let Some(Known::Reached(found)) = recall(work, p, slot, key) {
+    if let Some(Known::Reached(found)) = known_of(recall(work, p, slot, key)) {
         return found;
     }
     let since = steps_made(work, p);
@@ -174,7 +181,7 @@ pub fn extends(
         ..quest
     };
     let found = extends_by(pack, places, p, work, slot, fewer);
-    remember_worth(work, p, slot, Known::Reached(found), key, since);
+    remember_worth(work, p, slot, mark_of(Known::Reached(found)), key, since);
     found
 }
 

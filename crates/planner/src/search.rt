@@ -19,7 +19,7 @@ use crate::bound::can_exceed;
 use crate::entry::{Deed, Goal, goal_key, recall, remember_worth};
 use crate::explain::allowed;
 use crate::intern::{extent, table_in};
-use crate::known::Known;
+use crate::known::{Known, known_of, mark_of};
 use crate::limits::{Context, Foresight, Limits, Nesting, SEASON, Story, laid_out, searchable};
 use crate::prune::{Hope, promising};
 use crate::reach::{nearest, within_reach};
@@ -93,7 +93,7 @@ pub fn completes(
         return None;
     }
     let key = goal_key(Who::Author, goal, ahead.left);
-    if let Some(Known::NoEnding) = recall(work, p, slot, key) {
+    if let Some(Known::NoEnding) = known_of(recall(work, p, slot, key)) {
         return None;
     }
     let since = steps_made(work, p);
@@ -103,7 +103,7 @@ pub fn completes(
     };
     let after = completes_after(pack, places, p, work, list, fewer);
     if after.is_none() {
-        remember_worth(work, p, slot, Known::NoEnding, key, since);
+        remember_worth(work, p, slot, mark_of(Known::NoEnding), key, since);
     }
     after
 }

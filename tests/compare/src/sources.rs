@@ -22,19 +22,22 @@ pub struct Off {
 const STEPS: Edit = ("planner/steps.rs", "if step_is(work, at, id, root, action) {", "if false {");
 const EXPLAINED: Edit = (
     "planner/explain.rs",
-    "if let Some(Known::Explained(verdict)) = recall(work, p, slot, key) {",
-    "if let Some(Known::Explained(verdict)) = recall(work, p, slot, key).filter(|_| false) {",
+    "if let Some(Known::Explained(verdict)) = known_of(recall(work, p, slot, key)) {",
+    "if let Some(Known::Explained(verdict)) = known_of(recall(work, p, slot, key)).filter(|_| false) {",
 );
 const REACHED: Edit = (
     "planner/explain.rs",
-    "if let Some(Known::Reached(found)) = recall(work, p, slot, key) {",
-    "if let Some(Known::Reached(found)) = recall(work, p, slot, key).filter(|_| false) {",
+    "if let Some(Known::Reached(found)) = known_of(recall(work, p, slot, key)) {",
+    "if let Some(Known::Reached(found)) = known_of(recall(work, p, slot, key)).filter(|_| false) {",
 );
 const AUTHORS: Edit =
-    ("planner/search.rs", "if let Some(Known::NoEnding) = recall(work, p, slot, key) {", "if false {");
+    ("planner/search.rs", "if let Some(Known::NoEnding) = known_of(recall(work, p, slot, key)) {", "if false {");
 const REPEATS: Edit = ("planner/search.rs", "if repeats(work, p, slot, ahead.done) {", "if false {");
-const NO_REASON: Edit =
-    ("planner/explain.rs", "if d.nesting.0 == 0 || pointless(pack, places, p, work, slot, d) {", "if d.nesting.0 == 0 {");
+const NO_REASON: Edit = (
+    "planner/explain.rs",
+    "if d.nesting.0 == 0 || pointless(pack, places, p, work, slot, d) {",
+    "if d.nesting.0 == 0 {",
+);
 const NO_ENDING: Edit =
     ("planner/search.rs", "if !can_exceed(pack, places[UTILITIES] as usize, g.base) {", "if false {");
 const CONDITIONS: Edit =
@@ -54,9 +57,7 @@ pub const OFF: [Off; 9] = [
     Off { name: "look before a last action", edits: &[LOOK] },
     Off {
         name: "all of them",
-        edits: &[
-            STEPS, EXPLAINED, REACHED, AUTHORS, REPEATS, NO_REASON, NO_ENDING, CONDITIONS, LOOK,
-        ],
+        edits: &[STEPS, EXPLAINED, REACHED, AUTHORS, REPEATS, NO_REASON, NO_ENDING, CONDITIONS, LOOK],
     },
 ];
 

@@ -130,24 +130,24 @@ extends-returns-then-not-within_reach t c =
 pub extends-returns-in-Some-Reached : goal.extends-returns-in-Some-Reached
 extends-returns-in-Some-Reached t c =
     λ th T y mem.
-    let (m, fact) = c.recall.ensures.2.told th c.args.p.foresight.0 (c.args.slot + c.args.p.stride) (omega (arith, c.requires.2)) y.slotted mem in
-    told_reached (known y c.goal_key-key.ensures fact) (λ q l. c.recall.ensures.2.only.low q (omega (arith, l, c.requires.2))) c.recall.ensures.2.only.high m (marked_as c.in-Some-Reached.is c.in-Some-Reached.field-0-is c.recall.ensures.1)
+    let (m, fact) = c.recall.ensures.0.told th c.args.p.foresight.0 (c.args.slot + c.args.p.stride) (omega (arith, c.requires.2)) y.slotted mem in
+    told_reached (known y c.goal_key-key.ensures fact) (λ q l. c.recall.ensures.0.only.low q (omega (arith, l, c.requires.2))) c.recall.ensures.0.only.high m (marked_as c.in-Some-Reached.is c.in-Some-Reached.field-0-is c.known_of.ensures)
 
 pub extends-returns : goal.extends-returns
 extends-returns t c =
     let some : 0 < c.args.quest.left = omega (arith, c.if-quest-eq0.false) in
     λ th T y mem.
     let s = meaning c.args.p.characters T in
-    let told = c.extends_by-found.ensures th T (slot_same c.args.slot y (λ q l. c.recall.ensures.2.only.low q (omega (arith, l, c.requires.2))) c.recall.auto.work) (c.recall.ensures.2.told th c.args.p.foresight.0 (c.args.slot + c.args.p.stride) (omega (arith, c.requires.2)) y.slotted mem).0 in
+    let told = c.extends_by-found.ensures th T (slot_same c.args.slot y (λ q l. c.recall.ensures.0.only.low q (omega (arith, l, c.requires.2))) c.recall.auto.work) (c.recall.ensures.0.told th c.args.p.foresight.0 (c.args.slot + c.args.p.stride) (omega (arith, c.requires.2)) y.slotted mem).0 in
     let here : c.args.quest.goal.base < utility_to th c.args.quest.who (s 0) → ⊥ = (λ b. omega (arith, stage_utility y c.args.quest.who 0 c.requires.1 (utility_in c.args.pack.now (get_or c.args.places.now (321 + c.args.quest.who) 0) c.args.work.now 0 c.utility-worth.result c.table_in-t.ensures c.utility-worth.ensures), c.if-goal-worth.false, b)) in
     let whole = extended th c.args.p.foresight.0 c.args.quest.goal.nesting.0 c.args.quest.who c.args.quest.goal.base c.args.quest.left s some here told in
-    let z' = slot_same c.args.slot (slot_same {now = c.recall.new.work} c.args.slot y (λ q l. c.recall.ensures.2.only.low q (omega (arith, l, c.requires.2))) c.recall.auto.work) told.low c.extends_by-found.auto.work in
+    let z' = slot_same c.args.slot (slot_same {now = c.recall.new.work} c.args.slot y (λ q l. c.recall.ensures.0.only.low q (omega (arith, l, c.requires.2))) c.recall.auto.work) told.low c.extends_by-found.auto.work in
     record {
       sound = whole.sound;
       complete = whole.complete;
-      low = λ q l. c.remember_worth.ensures.0.only.low q (omega (arith, l, c.requires.2)) ∙ told.low q l ∙ c.recall.ensures.2.only.low q (omega (arith, l, c.requires.2));
-      high = λ q l. c.remember_worth.ensures.0.only.high q l ∙ told.high q l ∙ c.recall.ensures.2.only.high q l;
-      memory = c.remember_worth.ensures.0.memory th c.args.p.foresight.0 (c.args.slot + c.args.p.stride) (omega (arith, c.requires.2)) z'.slotted told.memory (note z' c.goal_key-key.ensures (noted th c.args.p.foresight.0 c.args.quest.goal.nesting.0 c.args.quest.who c.args.quest.goal.base c.args.quest.left s some here told));
+      low = λ q l. c.remember_worth.ensures.0.only.low q (omega (arith, l, c.requires.2)) ∙ told.low q l ∙ c.recall.ensures.0.only.low q (omega (arith, l, c.requires.2));
+      high = λ q l. c.remember_worth.ensures.0.only.high q l ∙ told.high q l ∙ c.recall.ensures.0.only.high q l;
+      memory = c.remember_worth.ensures.0.memory th c.args.p.foresight.0 (c.args.slot + c.args.p.stride) (omega (arith, c.requires.2)) z'.slotted told.memory (note z' c.goal_key-key.ensures (rw c.mark_of.ensures (noted th c.args.p.foresight.0 c.args.quest.goal.nesting.0 c.args.quest.who c.args.quest.goal.base c.args.quest.left s some here told)));
     }
 
 pub extends_by-returns-then-via : goal.extends_by-returns-then-via
@@ -202,22 +202,22 @@ fine-returns-else-c-d t c =
 pub judged-returns-in-Some-Explained : goal.judged-returns-in-Some-Explained
 judged-returns-in-Some-Explained t c =
     λ th T y mem.
-    let (m, fact) = c.recall.ensures.2.told th c.args.p.foresight.0 (c.args.slot + c.args.p.stride) (within c.args.p c.args.slot c.requires.6.some c.requires.4 c.requires.3) y.slotted mem in
+    let (m, fact) = c.recall.ensures.0.told th c.args.p.foresight.0 (c.args.slot + c.args.p.stride) (within c.args.p c.args.slot c.requires.6.some c.requires.4 c.requires.3) y.slotted mem in
     let most = within c.args.p c.args.slot c.requires.6.some c.requires.4 c.requires.3 in
-    told_verdict (known y c.deed_key-key.ensures fact) (λ q l. c.recall.ensures.2.only.low q (omega (arith, l, most))) c.recall.ensures.2.only.high m (marked_as c.in-Some-Explained.is c.in-Some-Explained.field-0-is c.recall.ensures.1)
+    told_verdict (known y c.deed_key-key.ensures fact) (λ q l. c.recall.ensures.0.only.low q (omega (arith, l, most))) c.recall.ensures.0.only.high m (marked_as c.in-Some-Explained.is c.in-Some-Explained.field-0-is c.known_of.ensures)
 
 pub judged-returns : goal.judged-returns
 judged-returns t c =
     λ th T y mem.
-    let told = c.explains-verdict.ensures th T (slot_same {now = c.recall.new.work} c.args.slot y (λ q l. c.recall.ensures.2.only.low q (omega (arith, l, within c.args.p c.args.slot c.requires.6.some c.requires.4 c.requires.3))) c.recall.auto.work) (c.recall.ensures.2.told th c.args.p.foresight.0 (c.args.slot + c.args.p.stride) (within c.args.p c.args.slot c.requires.6.some c.requires.4 c.requires.3) y.slotted mem).0 in
-    let z = slot_same c.args.slot (slot_same {now = c.recall.new.work} c.args.slot y (λ q l. c.recall.ensures.2.only.low q (omega (arith, l, within c.args.p c.args.slot c.requires.6.some c.requires.4 c.requires.3))) c.recall.auto.work) told.low c.explains-verdict.auto.work in
+    let told = c.explains-verdict.ensures th T (slot_same {now = c.recall.new.work} c.args.slot y (λ q l. c.recall.ensures.0.only.low q (omega (arith, l, within c.args.p c.args.slot c.requires.6.some c.requires.4 c.requires.3))) c.recall.auto.work) (c.recall.ensures.0.told th c.args.p.foresight.0 (c.args.slot + c.args.p.stride) (within c.args.p c.args.slot c.requires.6.some c.requires.4 c.requires.3) y.slotted mem).0 in
+    let z = slot_same c.args.slot (slot_same {now = c.recall.new.work} c.args.slot y (λ q l. c.recall.ensures.0.only.low q (omega (arith, l, within c.args.p c.args.slot c.requires.6.some c.requires.4 c.requires.3))) c.recall.auto.work) told.low c.explains-verdict.auto.work in
     let most = within c.args.p c.args.slot c.requires.6.some c.requires.4 c.requires.3 in
     record {
       sound = told.sound;
       complete = told.complete;
-      low = λ q l. c.remember_worth.ensures.0.only.low q (omega (arith, l, most)) ∙ told.low q l ∙ c.recall.ensures.2.only.low q (omega (arith, l, most));
-      high = λ q l. c.remember_worth.ensures.0.only.high q l ∙ told.high q l ∙ c.recall.ensures.2.only.high q l;
-      memory = c.remember_worth.ensures.0.memory th c.args.p.foresight.0 (c.args.slot + c.args.p.stride) most z.slotted told.memory (note z c.deed_key-key.ensures (verdict th c.args.p.foresight.0 (deed_key c.args.d c.args.q) (meaning c.args.p.characters T) told.sound told.complete));
+      low = λ q l. c.remember_worth.ensures.0.only.low q (omega (arith, l, most)) ∙ told.low q l ∙ c.recall.ensures.0.only.low q (omega (arith, l, most));
+      high = λ q l. c.remember_worth.ensures.0.only.high q l ∙ told.high q l ∙ c.recall.ensures.0.only.high q l;
+      memory = c.remember_worth.ensures.0.memory th c.args.p.foresight.0 (c.args.slot + c.args.p.stride) most z.slotted told.memory (note z c.deed_key-key.ensures (rw c.mark_of.ensures (verdict th c.args.p.foresight.0 (deed_key c.args.d c.args.q) (meaning c.args.p.characters T) told.sound told.complete)));
     }
 
 pub via-returns-then-not-allowed : goal.via-returns-then-not-allowed
@@ -293,13 +293,13 @@ extends-within_reach-requires t c =
 pub extends-extends_by-found-requires : goal.extends-extends_by-found-requires
 extends-extends_by-found-requires t c =
     let (th, (T, (y, mem))) = c.requires.0 in
-    (omega (arith, c.decreases, c.if-quest-eq0.false), ((th, (T, (slot_same c.args.slot y (λ q l. c.recall.ensures.2.only.low q (omega (arith, l, c.requires.2))) c.recall.auto.work, (c.recall.ensures.2.told th c.args.p.foresight.0 (c.args.slot + c.args.p.stride) (omega (arith, c.requires.2)) y.slotted mem).0))), c.requires.1, free_fewer c.args.p c.args.slot (1 + c.args.quest.left + (1 + c.args.p.foresight.0) * c.args.quest.goal.nesting.0) (2 + (c.args.quest.left - 1) + (1 + c.args.p.foresight.0) * c.args.quest.goal.nesting.0) (omega (arith, c.if-quest-eq0.false)) c.requires.2, c.requires.3))
+    (omega (arith, c.decreases, c.if-quest-eq0.false), ((th, (T, (slot_same c.args.slot y (λ q l. c.recall.ensures.0.only.low q (omega (arith, l, c.requires.2))) c.recall.auto.work, (c.recall.ensures.0.told th c.args.p.foresight.0 (c.args.slot + c.args.p.stride) (omega (arith, c.requires.2)) y.slotted mem).0))), c.requires.1, free_fewer c.args.p c.args.slot (1 + c.args.quest.left + (1 + c.args.p.foresight.0) * c.args.quest.goal.nesting.0) (2 + (c.args.quest.left - 1) + (1 + c.args.p.foresight.0) * c.args.quest.goal.nesting.0) (omega (arith, c.if-quest-eq0.false)) c.requires.2, c.requires.3))
 
 pub extends-remember_worth-requires : goal.extends-remember_worth-requires
 extends-remember_worth-requires t c =
     let (th, (T, (y, mem))) = c.requires.0 in
-    let told = c.extends_by-found.ensures th T (slot_same c.args.slot y (λ q l. c.recall.ensures.2.only.low q (omega (arith, l, c.requires.2))) c.recall.auto.work) (c.recall.ensures.2.told th c.args.p.foresight.0 (c.args.slot + c.args.p.stride) (omega (arith, c.requires.2)) y.slotted mem).0 in
-    (stage_before (slot_same c.args.slot (slot_same {now = c.recall.new.work} c.args.slot y (λ q l. c.recall.ensures.2.only.low q (omega (arith, l, c.requires.2))) c.recall.auto.work) told.low c.extends_by-found.auto.work) (omega (arith, c.requires.2)), c.steps_made-since.ensures)
+    let told = c.extends_by-found.ensures th T (slot_same c.args.slot y (λ q l. c.recall.ensures.0.only.low q (omega (arith, l, c.requires.2))) c.recall.auto.work) (c.recall.ensures.0.told th c.args.p.foresight.0 (c.args.slot + c.args.p.stride) (omega (arith, c.requires.2)) y.slotted mem).0 in
+    (stage_before (slot_same c.args.slot (slot_same {now = c.recall.new.work} c.args.slot y (λ q l. c.recall.ensures.0.only.low q (omega (arith, l, c.requires.2))) c.recall.auto.work) told.low c.extends_by-found.auto.work) (omega (arith, c.requires.2)), c.steps_made-since.ensures)
 
 pub extends_by-promising-requires : goal.extends_by-promising-requires
 extends_by-promising-requires t c =
@@ -316,13 +316,13 @@ extends_by-via-requires t c =
 pub judged-explains-verdict-requires : goal.judged-explains-verdict-requires
 judged-explains-verdict-requires t c =
     let (th, (T, (y, mem))) = c.requires.0 in
-    (omega (arith, c.decreases), ((th, (T, (slot_same {now = c.recall.new.work} c.args.slot y (λ q l. c.recall.ensures.2.only.low q (omega (arith, l, within c.args.p c.args.slot c.requires.6.some c.requires.4 c.requires.3))) c.recall.auto.work, (c.recall.ensures.2.told th c.args.p.foresight.0 (c.args.slot + c.args.p.stride) (within c.args.p c.args.slot c.requires.6.some c.requires.4 c.requires.3) y.slotted mem).0))), c.requires.1, c.requires.2, c.requires.3, c.requires.4, omega (arith, c.requires.5, c.recall.ensures.2.only.low c.args.slot (omega (arith, within c.args.p c.args.slot c.requires.6.some c.requires.4 c.requires.3, y.laid.some))), c.requires.6))
+    (omega (arith, c.decreases), ((th, (T, (slot_same {now = c.recall.new.work} c.args.slot y (λ q l. c.recall.ensures.0.only.low q (omega (arith, l, within c.args.p c.args.slot c.requires.6.some c.requires.4 c.requires.3))) c.recall.auto.work, (c.recall.ensures.0.told th c.args.p.foresight.0 (c.args.slot + c.args.p.stride) (within c.args.p c.args.slot c.requires.6.some c.requires.4 c.requires.3) y.slotted mem).0))), c.requires.1, c.requires.2, c.requires.3, c.requires.4, omega (arith, c.requires.5, c.recall.ensures.0.only.low c.args.slot (omega (arith, within c.args.p c.args.slot c.requires.6.some c.requires.4 c.requires.3, y.laid.some))), c.requires.6))
 
 pub judged-remember_worth-requires : goal.judged-remember_worth-requires
 judged-remember_worth-requires t c =
     let (th, (T, (y, mem))) = c.requires.0 in
-    let told = c.explains-verdict.ensures th T (slot_same {now = c.recall.new.work} c.args.slot y (λ q l. c.recall.ensures.2.only.low q (omega (arith, l, within c.args.p c.args.slot c.requires.6.some c.requires.4 c.requires.3))) c.recall.auto.work) (c.recall.ensures.2.told th c.args.p.foresight.0 (c.args.slot + c.args.p.stride) (within c.args.p c.args.slot c.requires.6.some c.requires.4 c.requires.3) y.slotted mem).0 in
-    let z = slot_same c.args.slot (slot_same {now = c.recall.new.work} c.args.slot y (λ q l. c.recall.ensures.2.only.low q (omega (arith, l, within c.args.p c.args.slot c.requires.6.some c.requires.4 c.requires.3))) c.recall.auto.work) told.low c.explains-verdict.auto.work in
+    let told = c.explains-verdict.ensures th T (slot_same {now = c.recall.new.work} c.args.slot y (λ q l. c.recall.ensures.0.only.low q (omega (arith, l, within c.args.p c.args.slot c.requires.6.some c.requires.4 c.requires.3))) c.recall.auto.work) (c.recall.ensures.0.told th c.args.p.foresight.0 (c.args.slot + c.args.p.stride) (within c.args.p c.args.slot c.requires.6.some c.requires.4 c.requires.3) y.slotted mem).0 in
+    let z = slot_same c.args.slot (slot_same {now = c.recall.new.work} c.args.slot y (λ q l. c.recall.ensures.0.only.low q (omega (arith, l, within c.args.p c.args.slot c.requires.6.some c.requires.4 c.requires.3))) c.recall.auto.work) told.low c.explains-verdict.auto.work in
     (stage_before z (within c.args.p c.args.slot c.requires.6.some c.requires.4 c.requires.3), c.steps_made-since.ensures)
 
 pub via-known_step-requires : goal.via-known_step-requires

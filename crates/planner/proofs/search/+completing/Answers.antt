@@ -39,23 +39,23 @@ completes-returns-then-not-within_reach t c =
 pub completes-returns-in-Some-NoEnding : goal.completes-returns-in-Some-NoEnding
 completes-returns-in-Some-NoEnding t c =
     λ th T y mem trail.
-    let (m, fact) = c.recall.ensures.2.told th c.args.p.foresight.0 (c.args.ahead.done * c.args.p.stride + c.args.p.stride) (omega (arith, c.requires.1)) y.slotted mem in
-    best_none _ (λ q l. c.recall.ensures.2.only.low q (omega (arith, l, c.requires.1))) c.recall.ensures.2.only.high m ((known y c.goal_key-key.ensures fact).none (sym (marked_as c.in-Some-NoEnding.is c.in-Some-NoEnding.field-0-is c.recall.ensures.1)))
+    let (m, fact) = c.recall.ensures.0.told th c.args.p.foresight.0 (c.args.ahead.done * c.args.p.stride + c.args.p.stride) (omega (arith, c.requires.1)) y.slotted mem in
+    best_none _ (λ q l. c.recall.ensures.0.only.low q (omega (arith, l, c.requires.1))) c.recall.ensures.0.only.high m ((known y c.goal_key-key.ensures fact).none (sym (marked_as c.in-Some-NoEnding.is c.in-Some-NoEnding.field-0-is c.known_of.ensures)))
 
 pub completes-returns-then-is_none : goal.completes-returns-then-is_none
 completes-returns-then-is_none t c =
     let zero : c.completes_after-after.result ≡ None = is_none (c.is_none.ensures ∙ ap not c.if-is_none.true) in
     let up : c.args.ahead.left ≡ suc (c.args.ahead.left - 1) = omega (arith, c.if-ahead-eq0.false) in
     λ th T y mem trail.
-    let b = best_from (λ q l. c.recall.ensures.2.only.low q (omega (arith, l, c.requires.1))) c.recall.ensures.2.only.high (best_same (sym up) (c.completes_after-after.ensures th T (slot_same (c.args.ahead.done * c.args.p.stride) y (λ q l. c.recall.ensures.2.only.low q (omega (arith, l, c.requires.1))) c.recall.auto.work) (c.recall.ensures.2.told th c.args.p.foresight.0 (c.args.ahead.done * c.args.p.stride + c.args.p.stride) (omega (arith, c.requires.1)) y.slotted mem).0 (trail_same th c.args.p.foresight.0 c.args.ahead.goal.nesting.0 c.args.ahead.goal.base (meaning c.args.p.characters T 0) (λ q l. c.recall.ensures.2.only.low q (omega (arith, l, c.requires.1))) (subst (λ (n : ℕ). Trail th c.args.p.foresight.0 c.args.ahead.goal.nesting.0 c.args.ahead.goal.base c.args.p c.args.work.now c.args.ahead.done n (meaning c.args.p.characters T 0)) up trail)))) in
-    let z' = slot_same (c.args.ahead.done * c.args.p.stride) (slot_same {now = c.recall.new.work} (c.args.ahead.done * c.args.p.stride) y (λ q l. c.recall.ensures.2.only.low q (omega (arith, l, c.requires.1))) c.recall.auto.work) (c.completes_after-after.ensures th T (slot_same (c.args.ahead.done * c.args.p.stride) y (λ q l. c.recall.ensures.2.only.low q (omega (arith, l, c.requires.1))) c.recall.auto.work) (c.recall.ensures.2.told th c.args.p.foresight.0 (c.args.ahead.done * c.args.p.stride + c.args.p.stride) (omega (arith, c.requires.1)) y.slotted mem).0 (trail_same th c.args.p.foresight.0 c.args.ahead.goal.nesting.0 c.args.ahead.goal.base (meaning c.args.p.characters T 0) (λ q l. c.recall.ensures.2.only.low q (omega (arith, l, c.requires.1))) (subst (λ (n : ℕ). Trail th c.args.p.foresight.0 c.args.ahead.goal.nesting.0 c.args.ahead.goal.base c.args.p c.args.work.now c.args.ahead.done n (meaning c.args.p.characters T 0)) up trail))).low c.completes_after-after.auto.work in
-    best_noted b (omega (arith, c.requires.1)) c.remember_worth.ensures.0.only.low c.remember_worth.ensures.0.only.high (c.remember_worth.ensures.0.memory th c.args.p.foresight.0 (c.args.ahead.done * c.args.p.stride + c.args.p.stride) (omega (arith, c.requires.1)) z'.slotted b.memory (note z' c.goal_key-key.ensures (fact_of_none th c.args.p.foresight.0 c.args.ahead.goal.nesting.0 c.args.ahead.goal.base (meaning c.args.p.characters T) (b.none zero).1)))
+    let b = best_from (λ q l. c.recall.ensures.0.only.low q (omega (arith, l, c.requires.1))) c.recall.ensures.0.only.high (best_same (sym up) (c.completes_after-after.ensures th T (slot_same (c.args.ahead.done * c.args.p.stride) y (λ q l. c.recall.ensures.0.only.low q (omega (arith, l, c.requires.1))) c.recall.auto.work) (c.recall.ensures.0.told th c.args.p.foresight.0 (c.args.ahead.done * c.args.p.stride + c.args.p.stride) (omega (arith, c.requires.1)) y.slotted mem).0 (trail_same th c.args.p.foresight.0 c.args.ahead.goal.nesting.0 c.args.ahead.goal.base (meaning c.args.p.characters T 0) (λ q l. c.recall.ensures.0.only.low q (omega (arith, l, c.requires.1))) (subst (λ (n : ℕ). Trail th c.args.p.foresight.0 c.args.ahead.goal.nesting.0 c.args.ahead.goal.base c.args.p c.args.work.now c.args.ahead.done n (meaning c.args.p.characters T 0)) up trail)))) in
+    let z' = slot_same (c.args.ahead.done * c.args.p.stride) (slot_same {now = c.recall.new.work} (c.args.ahead.done * c.args.p.stride) y (λ q l. c.recall.ensures.0.only.low q (omega (arith, l, c.requires.1))) c.recall.auto.work) (c.completes_after-after.ensures th T (slot_same (c.args.ahead.done * c.args.p.stride) y (λ q l. c.recall.ensures.0.only.low q (omega (arith, l, c.requires.1))) c.recall.auto.work) (c.recall.ensures.0.told th c.args.p.foresight.0 (c.args.ahead.done * c.args.p.stride + c.args.p.stride) (omega (arith, c.requires.1)) y.slotted mem).0 (trail_same th c.args.p.foresight.0 c.args.ahead.goal.nesting.0 c.args.ahead.goal.base (meaning c.args.p.characters T 0) (λ q l. c.recall.ensures.0.only.low q (omega (arith, l, c.requires.1))) (subst (λ (n : ℕ). Trail th c.args.p.foresight.0 c.args.ahead.goal.nesting.0 c.args.ahead.goal.base c.args.p c.args.work.now c.args.ahead.done n (meaning c.args.p.characters T 0)) up trail))).low c.completes_after-after.auto.work in
+    best_noted b (omega (arith, c.requires.1)) c.remember_worth.ensures.0.only.low c.remember_worth.ensures.0.only.high (c.remember_worth.ensures.0.memory th c.args.p.foresight.0 (c.args.ahead.done * c.args.p.stride + c.args.p.stride) (omega (arith, c.requires.1)) z'.slotted b.memory (note z' c.goal_key-key.ensures (rw c.mark_of.ensures (fact_of_none th c.args.p.foresight.0 c.args.ahead.goal.nesting.0 c.args.ahead.goal.base (meaning c.args.p.characters T) (b.none zero).1))))
 
 pub completes-returns-else-is_none : goal.completes-returns-else-is_none
 completes-returns-else-is_none t c =
     let up : c.args.ahead.left ≡ suc (c.args.ahead.left - 1) = omega (arith, c.if-ahead-eq0.false) in
     λ th T y mem trail.
-    best_from (λ q l. c.recall.ensures.2.only.low q (omega (arith, l, c.requires.1))) c.recall.ensures.2.only.high (best_same (sym up) (c.completes_after-after.ensures th T (slot_same (c.args.ahead.done * c.args.p.stride) y (λ q l. c.recall.ensures.2.only.low q (omega (arith, l, c.requires.1))) c.recall.auto.work) (c.recall.ensures.2.told th c.args.p.foresight.0 (c.args.ahead.done * c.args.p.stride + c.args.p.stride) (omega (arith, c.requires.1)) y.slotted mem).0 (trail_same th c.args.p.foresight.0 c.args.ahead.goal.nesting.0 c.args.ahead.goal.base (meaning c.args.p.characters T 0) (λ q l. c.recall.ensures.2.only.low q (omega (arith, l, c.requires.1))) (subst (λ (n : ℕ). Trail th c.args.p.foresight.0 c.args.ahead.goal.nesting.0 c.args.ahead.goal.base c.args.p c.args.work.now c.args.ahead.done n (meaning c.args.p.characters T 0)) up trail))))
+    best_from (λ q l. c.recall.ensures.0.only.low q (omega (arith, l, c.requires.1))) c.recall.ensures.0.only.high (best_same (sym up) (c.completes_after-after.ensures th T (slot_same (c.args.ahead.done * c.args.p.stride) y (λ q l. c.recall.ensures.0.only.low q (omega (arith, l, c.requires.1))) c.recall.auto.work) (c.recall.ensures.0.told th c.args.p.foresight.0 (c.args.ahead.done * c.args.p.stride + c.args.p.stride) (omega (arith, c.requires.1)) y.slotted mem).0 (trail_same th c.args.p.foresight.0 c.args.ahead.goal.nesting.0 c.args.ahead.goal.base (meaning c.args.p.characters T 0) (λ q l. c.recall.ensures.0.only.low q (omega (arith, l, c.requires.1))) (subst (λ (n : ℕ). Trail th c.args.p.foresight.0 c.args.ahead.goal.nesting.0 c.args.ahead.goal.base c.args.p c.args.work.now c.args.ahead.done n (meaning c.args.p.characters T 0)) up trail))))
 
 pub completes_after-completes_by-after-requires : goal.completes_after-completes_by-after-requires
 completes_after-completes_by-after-requires t c =
@@ -158,14 +158,14 @@ pub completes-completes_after-after-requires : goal.completes-completes_after-af
 completes-completes_after-after-requires t c =
     let (th, (T, (y, mem, trail))) = c.requires.0 in
     let up : c.args.ahead.left ≡ suc (c.args.ahead.left - 1) = omega (arith, c.if-ahead-eq0.false) in
-    (omega (arith, c.decreases, c.if-ahead-eq0.false), ((th, (T, ((slot_same (c.args.ahead.done * c.args.p.stride) y (λ q l. c.recall.ensures.2.only.low q (omega (arith, l, c.requires.1))) c.recall.auto.work), (c.recall.ensures.2.told th c.args.p.foresight.0 (c.args.ahead.done * c.args.p.stride + c.args.p.stride) (omega (arith, c.requires.1)) y.slotted mem).0, (trail_same th c.args.p.foresight.0 c.args.ahead.goal.nesting.0 c.args.ahead.goal.base (meaning c.args.p.characters T 0) (λ q l. c.recall.ensures.2.only.low q (omega (arith, l, c.requires.1))) (subst (λ (n : ℕ). Trail th c.args.p.foresight.0 c.args.ahead.goal.nesting.0 c.args.ahead.goal.base c.args.p c.args.work.now c.args.ahead.done n (meaning c.args.p.characters T 0)) up trail))))), free_fewer c.args.p (c.args.ahead.done * c.args.p.stride) (1 + c.args.ahead.left + (1 + c.args.p.foresight.0) * c.args.ahead.goal.nesting.0) (2 + (c.args.ahead.left - 1) + (1 + c.args.p.foresight.0) * c.args.ahead.goal.nesting.0) (omega (arith, c.if-ahead-eq0.false)) c.requires.1, omega (arith, c.requires.2, c.if-ahead-eq0.false), c.requires.3))
+    (omega (arith, c.decreases, c.if-ahead-eq0.false), ((th, (T, ((slot_same (c.args.ahead.done * c.args.p.stride) y (λ q l. c.recall.ensures.0.only.low q (omega (arith, l, c.requires.1))) c.recall.auto.work), (c.recall.ensures.0.told th c.args.p.foresight.0 (c.args.ahead.done * c.args.p.stride + c.args.p.stride) (omega (arith, c.requires.1)) y.slotted mem).0, (trail_same th c.args.p.foresight.0 c.args.ahead.goal.nesting.0 c.args.ahead.goal.base (meaning c.args.p.characters T 0) (λ q l. c.recall.ensures.0.only.low q (omega (arith, l, c.requires.1))) (subst (λ (n : ℕ). Trail th c.args.p.foresight.0 c.args.ahead.goal.nesting.0 c.args.ahead.goal.base c.args.p c.args.work.now c.args.ahead.done n (meaning c.args.p.characters T 0)) up trail))))), free_fewer c.args.p (c.args.ahead.done * c.args.p.stride) (1 + c.args.ahead.left + (1 + c.args.p.foresight.0) * c.args.ahead.goal.nesting.0) (2 + (c.args.ahead.left - 1) + (1 + c.args.p.foresight.0) * c.args.ahead.goal.nesting.0) (omega (arith, c.if-ahead-eq0.false)) c.requires.1, omega (arith, c.requires.2, c.if-ahead-eq0.false), c.requires.3))
 
 pub completes-remember_worth-requires : goal.completes-remember_worth-requires
 completes-remember_worth-requires t c =
     let (th, (T, (y, mem, trail))) = c.requires.0 in
     let up : c.args.ahead.left ≡ suc (c.args.ahead.left - 1) = omega (arith, c.if-ahead-eq0.false) in
-    let b = c.completes_after-after.ensures th T (slot_same (c.args.ahead.done * c.args.p.stride) y (λ q l. c.recall.ensures.2.only.low q (omega (arith, l, c.requires.1))) c.recall.auto.work) (c.recall.ensures.2.told th c.args.p.foresight.0 (c.args.ahead.done * c.args.p.stride + c.args.p.stride) (omega (arith, c.requires.1)) y.slotted mem).0 (trail_same th c.args.p.foresight.0 c.args.ahead.goal.nesting.0 c.args.ahead.goal.base (meaning c.args.p.characters T 0) (λ q l. c.recall.ensures.2.only.low q (omega (arith, l, c.requires.1))) (subst (λ (n : ℕ). Trail th c.args.p.foresight.0 c.args.ahead.goal.nesting.0 c.args.ahead.goal.base c.args.p c.args.work.now c.args.ahead.done n (meaning c.args.p.characters T 0)) up trail)) in
-    (stage_before (slot_same (c.args.ahead.done * c.args.p.stride) (slot_same {now = c.recall.new.work} (c.args.ahead.done * c.args.p.stride) y (λ q l. c.recall.ensures.2.only.low q (omega (arith, l, c.requires.1))) c.recall.auto.work) b.low c.completes_after-after.auto.work) (omega (arith, c.requires.1)), c.steps_made-since.ensures)
+    let b = c.completes_after-after.ensures th T (slot_same (c.args.ahead.done * c.args.p.stride) y (λ q l. c.recall.ensures.0.only.low q (omega (arith, l, c.requires.1))) c.recall.auto.work) (c.recall.ensures.0.told th c.args.p.foresight.0 (c.args.ahead.done * c.args.p.stride + c.args.p.stride) (omega (arith, c.requires.1)) y.slotted mem).0 (trail_same th c.args.p.foresight.0 c.args.ahead.goal.nesting.0 c.args.ahead.goal.base (meaning c.args.p.characters T 0) (λ q l. c.recall.ensures.0.only.low q (omega (arith, l, c.requires.1))) (subst (λ (n : ℕ). Trail th c.args.p.foresight.0 c.args.ahead.goal.nesting.0 c.args.ahead.goal.base c.args.p c.args.work.now c.args.ahead.done n (meaning c.args.p.characters T 0)) up trail)) in
+    (stage_before (slot_same (c.args.ahead.done * c.args.p.stride) (slot_same {now = c.recall.new.work} (c.args.ahead.done * c.args.p.stride) y (λ q l. c.recall.ensures.0.only.low q (omega (arith, l, c.requires.1))) c.recall.auto.work) b.low c.completes_after-after.auto.work) (omega (arith, c.requires.1)), c.steps_made-since.ensures)
 
 pub completes_after-promising-requires : goal.completes_after-promising-requires
 completes_after-promising-requires t c =
