@@ -1,6 +1,6 @@
 -- A refusal's number and place tell its reason: no two reasons have both the same. Assumes nothing.
 use Rattle.std.specs.Prelude.{ℕ, ◌-◌, ◌≡◌, refl, eqb, ltb}
-use Rattle.std.proofs.Common.{sym, ap₂, ◌∙◌}
+use Rattle.std.proofs.Common.{sym, ap, ap₂, ◌∙◌}
 use Rattle.pack.specs.Reading.{pick}
 use Rattle.pack.specs.Refusals.{number_of, refusal_number, place_of}
 use Rattle.pack.specs.declared.refusal.Fault.{Fault}
@@ -58,3 +58,8 @@ reason_back whys.NoEnding = refl
 -- so they tell it
 pub one_reason : (a b : Refusal) → refusal_number a ≡ refusal_number b → place_of a ≡ place_of b → a ≡ b
 one_reason a b n p = sym (reason_back a) ∙ ap₂ reason_of n p ∙ reason_back b
+
+-- and 13 alone tells "no ending", whatever the place
+pub only_thirteen : (why : Refusal) → refusal_number why ≡ 13 → why ≡ whys.NoEnding
+unfolding reason_of
+only_thirteen why e = sym (reason_back why) ∙ ap (λ (n : ℕ). reason_of n (place_of why)) e

@@ -6,7 +6,7 @@ use mathlib.Core.List.{List, [], ◌∷◌, ◌++◌}
 use Rattle.std.proofs.Math.ListN.{length, drop}
 use Rattle.pack.specs.Reading.{Reply, gives, refuses, told, pick}
 use Rattle.pack.specs.Laws.Reading.{never_gives, same_gift, same_number}
-use Rattle.pack.specs.Laws.Reasons.{one_reason}
+use Rattle.pack.specs.Laws.Reasons.{only_thirteen}
 use Rattle.pack.specs.Refusals.{refusal_number, place_of}
 use Rattle.pack.specs.Refusals.{replied}
 use Rattle.pack.specs.declared.refusal.Refusal.{Refusal}
@@ -143,7 +143,7 @@ module _ (x : Reply Plan) (list : List ℕ) {list' : List ℕ} {r : Result plann
   pub no_ending_exactly : (r ≡ Err NoEnding) ↔ (x ≡ refuses 13 0)
   no_ending_exactly = (
     λ e. (none_exactly 13 0).0 (NoEnding, e, refl, refl),
-    λ e. let (why, is, number, place) = (none_exactly 13 0).1 e in is ∙ ap Err (one_reason why NoEnding number place),
+    λ e. let (why, is, number, _) = (none_exactly 13 0).1 e in is ∙ ap Err (only_thirteen why number),
   )
 
   pub ending_exactly : (n before after : ℕ)
